@@ -1,0 +1,176 @@
+-- 01's numbers, and each public call's answer and target contents as a function of the words handed in.
+use Prim.Native.Nat.{ℕ, suc, _+_, _*_}
+use mathlib.Core.Bool.{Bool, true, false, not}
+use mathlib.Core.List.{List, [], _∷_, map}
+use lib.Dec.{leb}
+use lib.ListN.{length}
+use Rattle.lists.specs.Lists.{over}
+use Rattle.semantics.specs.Table.{Table, sizesOf, tableSizesOk, tableContentsOk, tableOf}
+use Rattle.semantics.specs.State.{State, stateSizesOk, entriesOk, stateOf, stateWords}
+use Rattle.semantics.specs.Move.{unless, both, Move, moveOk, moveOf, Stepped, to, refused, stepWords}
+use Rattle.semantics.specs.Log.{moveCount, movesOf, logSizesOk, logWords, Ran, ended, stopped, run}
+use Rattle.semantics.specs.Serial.{beginsEmit, anyOpen, serial, serialFits}
+use Rattle.semantics.specs.declared.Refusal.{Refusal}
+use Rattle.semantics.specs.declared.Refusal.the-variants.{TableSizes, TableContents, StateSizes, StateContents, MoveForm, TargetTooShort, WrongPick, WrongOwner, NoTransaction, EndNotAllowed, NoMoreIds, TooManyEntries, LogSizes, BeginEmits, TransactionOpen, SerialTooManyEntries}
+use Rattle.semantics.specs.declared.Verdict.{Verdict}
+use Rattle.semantics.specs.declared.Verdict.the-variants.{Allowed, Denied}
+use Rattle.semantics.specs.declared.Outcome.{Outcome}
+use Rattle.semantics.specs.declared.Outcome.the-variants.{Passed, Written, Refused, MoveRefused}
+use Rattle.semantics.specs.declared.Answer.{Answer}
+use Rattle.semantics.specs.declared.Sizes.{Sizes}
+
+-- ---- 01's numbers
+
+abbrev pub number : Refusal → ℕ
+-- Refused because of what is handed in
+number TableSizes = 1
+number TableContents = 2
+number StateSizes = 3
+number StateContents = 4
+number MoveForm = 5
+number TargetTooShort = 6
+number LogSizes = 13
+number BeginEmits = 14
+-- Refused because of the plant's state
+number WrongPick = 7
+number WrongOwner = 8
+number NoTransaction = 9
+number EndNotAllowed = 10
+number NoMoreIds = 11
+number TooManyEntries = 12
+number TransactionOpen = 15
+number SerialTooManyEntries = 17
+
+-- An accepted check answers 0. Any other accepted call gives the number of words written ..; a refused one .. gives only its number, but for 16.
+abbrev pub answerOf : Outcome → Answer
+answerOf Passed = record { number = 0; words = 0; place = 0; own = 0 }
+answerOf (Written n) = record { number = 0; words = n; place = 0; own = 0 }
+answerOf (Refused r) = record { number = number r; words = 0; place = 0; own = 0 }
+-- 16 a move in the log is refused: its place (from 0) and own number are given
+answerOf (MoveRefused i r) = record { number = 16; words = 0; place = i; own = number r }
+
+-- ---- what a call comes to: words to write, or why not
+
+pub data Result : Type 0 where
+  write : List ℕ → Result
+  refuse : Refusal → Result
+  refuseMove : ℕ → Refusal → Result
+
+abbrev pub outcomeOf : Result → Outcome
+outcomeOf (write ws) = Written (length ws)
+outcomeOf (refuse r) = Refused r
+outcomeOf (refuseMove i r) = MoveRefused i r
+
+-- .. and leaves the target beyond them; a refused one writes nothing
+abbrev pub targetAfter : Result → List ℕ → List ℕ
+targetAfter (write ws) target = over ws target
+targetAfter (refuse r) target = target
+targetAfter (refuseMove i r) target = target
+
+abbrev pub unlessDenied : Verdict → Result → Result
+unlessDenied Allowed x = x
+unlessDenied (Denied r) x = refuse r
+
+abbrev pub outcomeOfCheck : Verdict → Outcome
+outcomeOfCheck Allowed = Passed
+outcomeOfCheck (Denied r) = Refused r
+
+-- ---- the two checks
+
+-- Table check: 1, 2.
+unfoldable pub tableVerdict : List ℕ → Verdict
+tableVerdict t = both (unless (tableSizesOk t) TableSizes) (unless (tableContentsOk t) TableContents)
+
+-- a state by itself, under a well-formed table of these sizes: 3, 4
+unfoldable pub stateOwnVerdict : Sizes → List ℕ → Verdict
+stateOwnVerdict z s = both (unless (stateSizesOk s) StateSizes) (unless (entriesOk z (stateOf s)) StateContents)
+
+-- State check, under its table: 1, 2, 3, 4.
+unfoldable pub stateVerdict : List ℕ → List ℕ → Verdict
+stateVerdict t s = both (tableVerdict t) (stateOwnVerdict (sizesOf t) s)
+
+unfoldable pub checkTable : List ℕ → Answer
+checkTable t = answerOf (outcomeOfCheck (tableVerdict t))
+
+unfoldable pub checkState : List ℕ → List ℕ → Answer
+checkState t s = answerOf (outcomeOfCheck (stateVerdict t s))
+
+-- ---- the single move
+
+-- 1,024 entries for the line; M-140 gives others
+abbrev pub lineCeiling : ℕ
+lineCeiling = 1024
+
+-- 6 target too short: 2,050 words for a state, 1+5k for a serial log
+abbrev pub hasWords : ℕ → List ℕ → Verdict
+hasWords n target = unless (leb n (length target)) TargetTooShort
+
+abbrev pub steppedResult : Stepped → Result
+steppedResult (to s) = write (stateWords s)
+steppedResult (refused r) = refuse r
+
+-- Move: 1, 2, 3, 4, 5, 6, 7, 8, 9, 10, 11, 12.
+unfoldable pub moveResult : ℕ → List ℕ → List ℕ → List ℕ → List ℕ → Result
+moveResult ceiling t s m target =
+    unlessDenied (both (stateVerdict t s) (both (unless (moveOk (tableOf t) m) MoveForm) (hasWords 2050 target)))
+    (steppedResult (stepWords ceiling (tableOf t) 1 (stateOf s) m))
+
+unfoldable pub makeMove : List ℕ → List ℕ → List ℕ → List ℕ → Answer
+makeMove t s m target = answerOf (outcomeOf (moveResult lineCeiling t s m target))
+
+unfoldable pub makeMoveTarget : List ℕ → List ℕ → List ℕ → List ℕ → List ℕ
+makeMoveTarget t s m target = targetAfter (moveResult lineCeiling t s m target) target
+
+-- ---- the run
+
+abbrev pub ranResult : Ran → Result
+ranResult (ended s) = write (stateWords s)
+ranResult (stopped i r) = refuseMove i r
+
+-- what the run and the serial log ask of table, state and log: 1, 2, 3, 4, 13
+unfoldable pub logVerdict : List ℕ → List ℕ → List ℕ → Verdict
+logVerdict t s l = both (stateVerdict t s) (unless (logSizesOk l) LogSizes)
+
+abbrev pub runOf : ℕ → List ℕ → List ℕ → List ℕ → Ran
+runOf ceiling t s l = run ceiling (tableOf t) 0 (stateOf s) (movesOf l)
+
+-- Run: 1, 2, 3, 4, 13, 6, 16.
+unfoldable pub runResult : ℕ → List ℕ → List ℕ → List ℕ → List ℕ → Result
+runResult ceiling t s l target = unlessDenied (both (logVerdict t s l) (hasWords 2050 target)) (ranResult (runOf ceiling t s l))
+
+unfoldable pub runLog : List ℕ → List ℕ → List ℕ → List ℕ → Answer
+runLog t s l target = answerOf (outcomeOf (runResult lineCeiling t s l target))
+
+unfoldable pub runLogTarget : List ℕ → List ℕ → List ℕ → List ℕ → List ℕ
+runLogTarget t s l target = targetAfter (runResult lineCeiling t s l target) target
+
+-- ---- the serial log
+
+-- the serial log's words, of an accepted log
+unfoldable pub serialOf : List ℕ → List ℕ → List ℕ → List Move
+serialOf t s l = serial (tableOf t) (stateOf s) (map (moveOf (tableOf t)) (movesOf l))
+
+unfoldable pub serialFitsOf : ℕ → List ℕ → List ℕ → List ℕ → Bool
+serialFitsOf ceiling t s l = serialFits ceiling (tableOf t) (stateOf s) (map (moveOf (tableOf t)) (movesOf l))
+
+-- 16, 15 (end), 17
+abbrev pub serialAfter : ℕ → List ℕ → List ℕ → List ℕ → Ran → Result
+serialAfter ceiling t s l (stopped i r) = refuseMove i r
+serialAfter ceiling t s l (ended e) =
+    unlessDenied (both (unless (not (anyOpen e)) TransactionOpen) (unless (serialFitsOf ceiling t s l) SerialTooManyEntries))
+    (write (logWords (serialOf t s l)))
+
+-- Serial: 1, 2, 3, 4, 13, 6, 14, 15 (start), 16, 15 (end), 17.
+unfoldable pub serialResult : ℕ → List ℕ → List ℕ → List ℕ → List ℕ → Result
+serialResult ceiling t s l target =
+    unlessDenied
+    (both (logVerdict t s l)
+    (both (hasWords (1 + 5 * moveCount l) target)
+    (both (unless (not (beginsEmit (tableOf t))) BeginEmits) (unless (not (anyOpen (stateOf s))) TransactionOpen))))
+    (serialAfter ceiling t s l (runOf ceiling t s l))
+
+unfoldable pub serialize : List ℕ → List ℕ → List ℕ → List ℕ → Answer
+serialize t s l target = answerOf (outcomeOf (serialResult lineCeiling t s l target))
+
+unfoldable pub serializeTarget : List ℕ → List ℕ → List ℕ → List ℕ → List ℕ
+serializeTarget t s l target = targetAfter (serialResult lineCeiling t s l target) target

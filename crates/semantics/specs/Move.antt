@@ -1,0 +1,203 @@
+-- 01, "Move": the form of a move, when it is allowed, what it leaves, and the limit on entries.
+use Prim.Native.Nat.{ℕ, zero, suc, _+_}
+use mathlib.Core.Bool.{Bool, true, false, _&&_, _||_, not, cond}
+use mathlib.Core.List.{List, [], _∷_, _++_, map}
+use lib.Dec.{leb, ltb, eqb}
+use lib.ListN.{length, getD, take, drop}
+use Rattle.lists.specs.Lists.{all, any, isEmpty, isIn, keep, distinct, least, without}
+use Rattle.semantics.specs.Words.{headKind, headNumber}
+use Rattle.semantics.specs.Table.{Table, Rule, ruleAt, hasRole, consumed, productAtoms, begins}
+use Rattle.semantics.specs.State.{Origin, Entry, State, isMessage, isCompensation, isAbortMark, isMemberMark, owned}
+use Rattle.semantics.specs.declared.Atom.{Atom}
+use Rattle.semantics.specs.declared.AtomValue.{AtomValue}
+use Rattle.semantics.specs.declared.AtomValue.the-variants.{Constant, Received}
+use Rattle.semantics.specs.declared.Refusal.{Refusal}
+use Rattle.semantics.specs.declared.Refusal.the-variants.{MoveForm, WrongPick, WrongOwner, NoTransaction, EndNotAllowed, NoMoreIds, TooManyEntries}
+use Rattle.semantics.specs.declared.Verdict.{Verdict}
+use Rattle.semantics.specs.declared.Verdict.the-variants.{Allowed, Denied}
+
+-- ---- verdicts
+
+abbrev pub unless : Bool → Refusal → Verdict
+unless true r = Allowed
+unless false r = Denied r
+
+-- First fault counts.
+abbrev pub both : Verdict → Verdict → Verdict
+both Allowed v = v
+both (Denied r) v = Denied r
+
+-- ---- form (5)
+
+-- A reaction uses one pick for each take, in order; commit is 01's release, abort its call-off.
+pub data Move : Type 0 where
+  react : ℕ → List ℕ → Move
+  commit : ℕ → Move
+  abort : ℕ → Move
+
+abbrev pub isZero : ℕ → Bool
+isZero w = eqb w 0
+
+-- how many picks a head uses: a reaction one for each take
+abbrev pub picksUsed : Table → ℕ → ℕ
+picksUsed t head = cond (eqb (headKind head) 0) (length (consumed (ruleAt t (headNumber head)))) 0
+
+-- Kinds: 0 react with rule number, 1 release, 2 call off a batch by ticket 1 to 65,535.
+abbrev pub headOk : Table → ℕ → Bool
+headOk t head =
+    cond (eqb (headKind head) 0)
+    (ltb (headNumber head) (length (t .rules)))
+    (leb (headKind head) 2 && leb 1 (headNumber head) && leb (headNumber head) 65535)
+
+-- Five words: a head .. and four picks .. Unused picks are 0.
+unfoldable pub moveOk : Table → List ℕ → Bool
+moveOk t m = eqb (length m) 5 && headOk t (getD m 0 0) && all isZero (drop (picksUsed t (getD m 0 0)) (drop 1 m))
+
+-- the move in five such words
+unfoldable pub moveOf : Table → List ℕ → Move
+moveOf t m =
+    cond (eqb (headKind (getD m 0 0)) 0)
+    (react (headNumber (getD m 0 0)) (take (picksUsed t (getD m 0 0)) (drop 1 m)))
+    (cond (eqb (headKind (getD m 0 0)) 1) (commit (headNumber (getD m 0 0))) (abort (headNumber (getD m 0 0))))
+
+-- ---- a reaction
+
+-- stands for an entry past the last: of no kind
+abbrev pub nothing : Entry
+nothing = record { origin = record { maker = 0; index = 0 }; owner = 0; kind = 4; port = 0; value = 0 }
+
+abbrev pub entryAt : List Entry → ℕ → Entry
+entryAt es p = getD es p nothing
+
+-- the entries at the picks (places of entries, from 0)
+abbrev pub picked : State → List ℕ → List Entry
+picked s ps = map (entryAt (s .entries)) ps
+
+-- notes on the takes' ports
+abbrev pub onPorts : List ℕ → List Entry → Bool
+onPorts [] [] = true
+onPorts [] (e ∷ es) = false
+onPorts (p ∷ ps) [] = false
+onPorts (p ∷ ps) (e ∷ es) = isMessage e && eqb (e .port) p && onPorts ps es
+
+-- picks are different notes on the takes' ports
+abbrev pub picksOk : Rule → State → List ℕ → Bool
+picksOk r s ps = distinct ps && onPorts (consumed r) (picked s ps)
+
+abbrev pub ownersAt : State → List ℕ → List ℕ
+ownersAt s ps = map (λ e. e .owner) (picked s ps)
+
+-- Plant rule: all owned by the plant. Batch rule: all in one batch. Joining rule: in one or more batches.
+abbrev pub ownersFit : ℕ → List ℕ → Bool
+ownersFit class os =
+    cond (eqb class 0) (all isZero os)
+    (cond (eqb class 1) (all (λ o. ltb 0 o && eqb o (least os)) os) (all (λ o. ltb 0 o) os))
+
+-- 11 opening with N = 65,536
+abbrev pub hasId : Rule → State → Bool
+hasId r s = not (begins r) || ltb (s .next) 65536
+
+abbrev pub reactAllowed : Rule → State → List ℕ → Verdict
+reactAllowed r s ps =
+    both (unless (picksOk r s ps) WrongPick)
+    (both (unless (ownersFit (r .class) (ownersAt s ps)) WrongOwner) (unless (hasId r s) NoMoreIds))
+
+-- all of which become one under their smallest ticket
+abbrev pub merged : List ℕ → Entry → Entry
+merged os e = record { origin = e .origin; owner = cond (isIn (e .owner) os) (least os) (e .owner); kind = e .kind; port = e .port; value = e .value }
+
+-- what an atom's value is once the takes have received these values
+abbrev pub valueIn : List ℕ → AtomValue → ℕ
+valueIn got (Constant v) = v
+valueIn got (Received i) = getD got i 0
+
+-- gives and insides are notes, an open is the lot mark, call-offs are call-off notes, stops are stop marks
+abbrev pub kindMade : ℕ → ℕ
+kindMade role = cond (eqb role 2) 3 (cond (eqb role 4) 1 (cond (eqb role 5) 2 0))
+
+-- A plant rule gives to the plant, and its other products belong to the opened batch. Gives and stops of batch and joining rules belong to that batch.
+abbrev pub ownerMade : Rule → State → List ℕ → ℕ → ℕ
+ownerMade r s os role = cond (eqb (r .class) 0 && not (eqb role 1)) (s .next) (least os)
+
+abbrev pub made : Rule → State → List Entry → Origin → Atom → Entry
+made r s es o a = record {
+  origin = o;
+  owner = ownerMade r s (map (λ e. e .owner) es) (a .role);
+  kind = kindMade (a .role);
+  port = a .port;
+  value = cond (eqb (a .role) 2) (s .next) (valueIn (map (λ e. e .value) es) (a .value));
+}
+
+-- the products in atom order, from the product q on, of the maker i
+abbrev pub products : Rule → State → List Entry → ℕ → ℕ → List Atom → List Entry
+products r s es i q [] = []
+products r s es i q (a ∷ rest) = made r s es (record { maker = i; index = q }) a ∷ products r s es i (suc q) rest
+
+-- Picks are removed, the rest keep their order, the products follow in atom order; .. N grows by 1 (at an opening).
+unfoldable pub reacted : Rule → ℕ → State → List ℕ → State
+reacted r i s ps = record {
+  next = cond (begins r) (suc (s .next)) (s .next);
+  entries = map (merged (ownersAt s ps)) (without ps 0 (s .entries)) ++ products r s (picked s ps) i 0 (productAtoms r);
+}
+
+-- ---- release and call-off
+
+-- A batch, an owner above 0, is open in a state if it owns an entry there.
+abbrev pub isOpen : ℕ → State → Bool
+isOpen b s = ltb 0 b && any (owned b) (s .entries)
+
+abbrev pub entriesIn : ℕ → State → List Entry
+entriesIn b s = keep (owned b) (s .entries)
+
+-- Release: allowed if the batch has no stop mark and all its notes are on plant ports.
+abbrev pub mayCommit : Table → ℕ → State → Bool
+mayCommit t b s = all (λ e. not (isAbortMark e) && (not (isMessage e) || ltb (e .port) (t .sizes .globals))) (entriesIn b s)
+
+-- Call off: allowed if it has a stop mark.
+abbrev pub mayAbort : ℕ → State → Bool
+mayAbort b s = any isAbortMark (entriesIn b s)
+
+abbrev pub toGlobal : Entry → Entry
+toGlobal e = record { origin = e .origin; owner = 0; kind = 0; port = e .port; value = e .value }
+
+-- the entry as the end of batch b leaves it: its entries of which p holds become plant notes
+abbrev pub freed : (Entry → Bool) → ℕ → Entry → Entry
+freed p b e = cond (owned b e && p e) (toGlobal e) e
+
+-- Its notes (call-off notes) become the plant's in their places; its other entries go.
+unfoldable pub ended : (Entry → Bool) → ℕ → State → State
+ended p b s = record { next = s .next; entries = map (freed p b) (keep (λ e. not (owned b e) || p e) (s .entries)) }
+
+-- ---- a move
+
+-- why a move is refused, before anything is changed (7 to 11)
+unfoldable pub allowed : Table → State → Move → Verdict
+allowed t s (react r ps) = reactAllowed (ruleAt t r) s ps
+allowed t s (commit b) = both (unless (isOpen b s) NoTransaction) (unless (mayCommit t b s) EndNotAllowed)
+allowed t s (abort b) = both (unless (isOpen b s) NoTransaction) (unless (mayAbort b s) EndNotAllowed)
+
+-- what a move that is allowed leaves; i is the maker of its products
+unfoldable pub applied : Table → ℕ → State → Move → State
+applied t i s (react r ps) = reacted (ruleAt t r) i s ps
+applied t i s (commit b) = ended isMessage b s
+applied t i s (abort b) = ended isCompensation b s
+
+pub data Stepped : Type 0 where
+  to : State → Stepped
+  refused : Refusal → Stepped
+
+abbrev pub steppedBy : Verdict → State → Stepped
+steppedBy Allowed s = to s
+steppedBy (Denied r) s = refused r
+
+unfoldable pub step : Table → ℕ → State → Move → Stepped
+step t i s m = steppedBy (allowed t s m) (applied t i s m)
+
+-- 12 more than 1,024 entries afterwards; the ceiling is a parameter
+abbrev pub within : ℕ → Stepped → Stepped
+within ceiling (to s) = cond (leb (length (s .entries)) ceiling) (to s) (refused TooManyEntries)
+within ceiling (refused r) = refused r
+
+-- a move in words: 5, then 7 to 12
+unfoldable pub stepWords : ℕ → Table → ℕ → State → List ℕ → Stepped
+stepWords ceiling t i s m = cond (moveOk t m) (within ceiling (step t i s (moveOf t m))) (refused MoveForm)

@@ -1,0 +1,69 @@
+// The types in which document 01 is stated, for the definitions in specs/ and for the code. No code.
+
+// Why something is refused; specs/Answers.antt has 01's number of each.
+pub enum Refusal {
+    TableSizes,
+    TableContents,
+    StateSizes,
+    StateContents,
+    MoveForm,
+    TargetTooShort,
+    WrongPick,
+    WrongOwner,
+    NoTransaction,
+    EndNotAllowed,
+    NoMoreIds,
+    TooManyEntries,
+    LogSizes,
+    BeginEmits,
+    TransactionOpen,
+    SerialTooManyEntries,
+}
+
+// What a single test says.
+pub enum Verdict {
+    Allowed,
+    Denied(Refusal),
+}
+
+// What a public call says: a check is passed; words were written; the call is refused; or the log's
+// move at a place is.
+pub enum Outcome {
+    Passed,
+    Written(u32),
+    Refused(Refusal),
+    MoveRefused(u32, Refusal),
+}
+
+// The same in 01's numbers, for C. place and own only with 16, else 0.
+#[repr(C)]
+pub struct Answer {
+    pub number: u32,
+    pub words: u32,
+    pub place: u32,
+    pub own: u32,
+}
+
+// 01's G, L, M, R and A: how many global, local and merge ports (plant, batch, joining ports), rules
+// and atoms.
+pub struct Sizes {
+    pub globals: u32,
+    pub locals: u32,
+    pub merges: u32,
+    pub rules: u32,
+    pub atoms: u32,
+}
+
+// An atom's value: a constant, or the value received by a consume atom (take) of its rule, from 0.
+pub enum AtomValue {
+    Constant(u16),
+    Received(usize),
+}
+
+// Roles: 0 consume (take), 1 emit (give), 2 begin (open), 3 body (inside), 4 compensate (call-off),
+// 5 abort (stop).
+pub struct Atom {
+    pub role: u32,
+    pub port: u32,
+    pub value: AtomValue,
+}
