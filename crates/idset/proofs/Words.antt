@@ -1,0 +1,65 @@
+-- The bits of a word after `|` with a power of two, and the set after a store of such a word.
+use mathlib.Core.Path.{_≡_, refl, sym, ap, ap₂, _∙_}
+use mathlib.Core.Bool.{Bool, true, false, _||_, or-comm}
+use mathlib.Core.List.{List}
+use Prim.Native.Nat.{ℕ, zero, suc, _+_, _*_, _/_, _%_, _^_, _≤_, _<_}
+use native.Mathlib.Nat.{zero-lt-suc, one-mul, div-eq-of-lt, div-one, mul-mod-left, mul-div-mul-right, mod-lt, pow-suc}
+use native.Mathlib.Omega.{arith}
+use lib.ListN.{length, getD, set, length-set}
+use lib.Seq.{getD-set-same, getD-set-other}
+use lib.Dec.{eqb, eqb·zero-suc, eqb·suc-zero, eqb·suc-suc}
+use lib.Pow.{pow-lt, shl-exact}
+use lib.Bits.{bitOr, or-shr, or-mod}
+use borrow.Author.Tests.{eqb-true, eqb-false, eq-eqb, ne-eqb}
+use Rattle.idset.specs.IdSet.{bit, has, Inserted}
+
+-- Of 2 ^ k just bit k is set.
+bit-pow : (k j : ℕ) → bit (2 ^ k) j ≡ eqb j k
+bit-pow zero zero = refl
+bit-pow zero (suc j) = ap (λ (d : ℕ). eqb (d % 2) 1) (div-eq-of-lt (pow-lt {i = zero} {j = suc j} (zero-lt-suc j))) ∙ sym (eqb·suc-zero j)
+bit-pow (suc k) zero = ap (λ (d : ℕ). eqb (d % 2) 1) (div-one (2 ^ suc k) ∙ pow-suc 2 k) ∙ ap (λ (d : ℕ). eqb d 1) (mul-mod-left (2 ^ k) 2) ∙ sym (eqb·zero-suc k)
+bit-pow (suc k) (suc j) =
+    ap (λ (d : ℕ). eqb (d % 2) 1) (ap₂ _/_ (pow-suc 2 k) (pow-suc 2 j) ∙ mul-div-mul-right (2 ^ k) (2 ^ j) (zero-lt-suc 1))
+    ∙ bit-pow k j ∙ sym (eqb·suc-suc j k)
+
+-- `|` on single digits.
+or-digit : (x y : ℕ) → x < 2 → y < 2 → eqb (bitOr x y) 1 ≡ (eqb x 1 || eqb y 1)
+or-digit 0 y p q = refl
+or-digit 1 0 p q = refl
+or-digit 1 1 p q = refl
+or-digit 1 (suc (suc y)) p q = absurd (omega arith)
+or-digit (suc (suc x)) y p q = absurd (omega arith)
+
+-- `|` works on each bit apart.
+bit-or : (a b k : ℕ) → bit (bitOr a b) k ≡ (bit a k || bit b k)
+bit-or a b k =
+    ap (λ (d : ℕ). eqb (d % 2) 1) (or-shr a b k) ∙ ap (λ (d : ℕ). eqb d 1) (or-mod (a / 2 ^ k) (b / 2 ^ k) 1)
+    ∙ or-digit (a / 2 ^ k % 2) (b / 2 ^ k % 2) (mod-lt (a / 2 ^ k) (zero-lt-suc 1)) (mod-lt (b / 2 ^ k) (zero-lt-suc 1))
+
+-- In one word the numbers differ where their places do.
+same-place : (u v : ℕ) → u / 64 ≡ v / 64 → eqb (u % 64) (v % 64) ≡ eqb u v
+same-place u v e = go (eqb u v) refl
+  where
+    go : (t : Bool) → eqb u v ≡ t → eqb (u % 64) (v % 64) ≡ t
+    go true q = eq-eqb (u % 64) (v % 64) (ap (λ (x : ℕ). x % 64) (eqb-true u v q))
+    go false q = ne-eqb (u % 64) (v % 64) (λ d. eqb-false u v q (omega arith))
+
+module _ (ws : List ℕ) (v : ℕ) (small : v < 65536) (sized : length ws ≡ 1024) where
+  -- what the code stores: the word of v with v's bit set
+  abbrev word : ℕ
+  word = bitOr (getD ws (v / 64) 0) (1 * 2 ^ (v % 64) % 2 ^ 64)
+
+  word-bit : (k : ℕ) → bit word k ≡ (eqb k (v % 64) || bit (getD ws (v / 64) 0) k)
+  word-bit k =
+      bit-or (getD ws (v / 64) 0) (1 * 2 ^ (v % 64) % 2 ^ 64) k ∙ or-comm (bit (getD ws (v / 64) 0) k) (bit (1 * 2 ^ (v % 64) % 2 ^ 64) k)
+      ∙ ap (λ (t : Bool). t || bit (getD ws (v / 64) 0) k) (ap (λ (w : ℕ). bit w k) (shl-exact 1 (v % 64) 64 (omega arith) (omega arith) ∙ one-mul (2 ^ (v % 64))) ∙ bit-pow (v % 64) k)
+
+  -- The store inserts v.
+  pub stored : Inserted v ws (set ws (v / 64) word)
+  unfolding has
+  stored = record { size = length-set ws (v / 64) word ∙ sized; holds = λ u. at u (eqb (u / 64) (v / 64)) refl }
+    where
+      at : (u : ℕ) (t : Bool) → eqb (u / 64) (v / 64) ≡ t → has (set ws (v / 64) word) u ≡ (eqb u v || has ws u)
+      unfolding has
+      at u true q = ?
+      at u false q = ?
