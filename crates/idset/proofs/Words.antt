@@ -24,10 +24,10 @@ bit-pow (suc k) (suc j) =
 
 -- `|` on single digits.
 or-digit : (x y : ℕ) → x < 2 → y < 2 → eqb (bitOr x y) 1 ≡ (eqb x 1 || eqb y 1)
-or-digit 0 y p q = refl
-or-digit 1 0 p q = refl
-or-digit 1 1 p q = refl
-or-digit 1 (suc (suc y)) p q = absurd (omega arith)
+or-digit zero y p q = refl
+or-digit (suc zero) zero p q = refl
+or-digit (suc zero) (suc zero) p q = refl
+or-digit (suc zero) (suc (suc y)) p q = absurd (omega arith)
 or-digit (suc (suc x)) y p q = absurd (omega arith)
 
 -- `|` works on each bit apart.
@@ -50,16 +50,19 @@ module _ (ws : List ℕ) (v : ℕ) (small : v < 65536) (sized : length ws ≡ 10
   word = bitOr (getD ws (v / 64) 0) (1 * 2 ^ (v % 64) % 2 ^ 64)
 
   word-bit : (k : ℕ) → bit word k ≡ (eqb k (v % 64) || bit (getD ws (v / 64) 0) k)
-  word-bit k =
-      bit-or (getD ws (v / 64) 0) (1 * 2 ^ (v % 64) % 2 ^ 64) k ∙ or-comm (bit (getD ws (v / 64) 0) k) (bit (1 * 2 ^ (v % 64) % 2 ^ 64) k)
-      ∙ ap (λ (t : Bool). t || bit (getD ws (v / 64) 0) k) (ap (λ (w : ℕ). bit w k) (shl-exact 1 (v % 64) 64 (omega arith) (omega arith) ∙ one-mul (2 ^ (v % 64))) ∙ bit-pow (v % 64) k)
+  word-bit k = rw (bit-or, shl-exact {a = 1} 1 (v % 64) 64 (omega arith) (omega arith), one-mul, bit-pow) (or-comm (bit (getD ws (v / 64) 0) k) (eqb k (v % 64)))
+
+  -- One number after the store: in v's word its bit decides, any other word is as it was.
+  has-stored : (u : ℕ) (t : Bool) → eqb (u / 64) (v / 64) ≡ t → has (set ws (v / 64) word) u ≡ (eqb u v || has ws u)
+  unfolding has
+  has-stored u true q =
+      let e = eqb-true (u / 64) (v / 64) q in
+      let inside : v / 64 < length ws = omega arith in
+      rw (e, getD-set-same ws (v / 64) word 0 inside, word-bit, same-place u v e)
+  has-stored u false q =
+      let apart = eqb-false (u / 64) (v / 64) q in
+      rw (getD-set-other ws (v / 64) (u / 64) word 0 apart, ne-eqb u v (λ d. apart (ap (λ (x : ℕ). x / 64) d)))
 
   -- The store inserts v.
   pub stored : Inserted v ws (set ws (v / 64) word)
-  unfolding has
-  stored = record { size = length-set ws (v / 64) word ∙ sized; holds = λ u. at u (eqb (u / 64) (v / 64)) refl }
-    where
-      at : (u : ℕ) (t : Bool) → eqb (u / 64) (v / 64) ≡ t → has (set ws (v / 64) word) u ≡ (eqb u v || has ws u)
-      unfolding has
-      at u true q = ?
-      at u false q = ?
+  stored = record { size = length-set ws (v / 64) word ∙ sized; holds = λ u. has-stored u (eqb (u / 64) (v / 64)) refl }

@@ -9,8 +9,8 @@ pub fn has(words: &[u64; 1024], v: u32) -> bool
     requires { ⌜ v < 65536 ⌝ }
     ensures { λ r. ⌜ r ≡ has (now (words .entry)) v ⌝ }
 {
-    let i = (v / 64) as usize;
-    (words[i] >> (v % 64)) % 2 == 1
+    let word = words[(v / 64) as usize];
+    (word >> (v % 64)) % 2 == 1
 }
 
 // Puts v into the set; a v that is there already stays.
