@@ -1,5 +1,5 @@
 -- A set of numbers below 65,536 as a list of 1024 words of 64 bits: what it holds, and what an insertion does.
-use mathlib.Core.Path.{_≡_, refl, ap, _∙_}
+use mathlib.Core.Path.{_≡_, refl}
 use mathlib.Core.Bool.{Bool, false, _||_}
 use mathlib.Core.List.{List}
 use Prim.Native.Nat.{ℕ, zero, suc, _/_, _%_, _^_}
@@ -29,4 +29,4 @@ zeros (suc n) (suc i) = zeros n i
 -- `[0; 1024]` is the empty set: where a caller starts.
 pub empty : (u : ℕ) → has (replicate 1024 0) u ≡ false
 unfolding has
-empty u = ap (λ (w : ℕ). bit w (u % 64)) (zeros 1024 (u / 64)) ∙ ap (λ (d : ℕ). eqb (d % 2) 1) (zero-div (2 ^ (u % 64)))
+empty u = rw (zeros 1024 (u / 64), zero-div)
