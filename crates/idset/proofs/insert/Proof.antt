@@ -1,0 +1,12 @@
+-- `idset::insert` meets its contract: its one store is that of `stored`.
+use borrow.Author.Needs.{needs}
+use Rattle.idset.proofs.Words.{stored}
+use Rattle.idset.proofs.insert.Statement.{statement}
+use Rattle.idset.proofs.insert.Tie as tie
+
+returns : tie.Need-returns
+returns c = stored _ _ (c .before .pre .0) (c .before .pre .1)
+
+pub insert-spec : {M : Type 1} → statement M
+insert-spec =
+    tie.close (tie.spec (λ c. search needs) (λ c. search needs) (λ c. search needs) (λ c. search needs) (λ c. search needs) (λ c. search needs) returns)

@@ -1,0 +1,32 @@
+-- A set of numbers below 65,536 as a list of 1024 words of 64 bits: what it holds, and what an insertion does.
+use mathlib.Core.Path.{_≡_, refl}
+use mathlib.Core.Bool.{Bool, false, _||_}
+use mathlib.Core.List.{List}
+use Prim.Native.Nat.{ℕ, zero, suc, _/_, _%_, _^_}
+use native.Mathlib.Nat.{zero-div}
+use lib.ListN.{length, getD, replicate}
+use lib.Dec.{eqb}
+
+-- Bit k of the number w is set: the one place where a word is read as bits.
+abbrev pub bit : ℕ → ℕ → Bool
+bit w k = eqb (w / 2 ^ k % 2) 1
+
+-- v is in the set. Shut by default, so that a caller's goals name it and not its bits.
+unfoldable pub has : List ℕ → ℕ → Bool
+has ws v = bit (getD ws (v / 64) 0) (v % 64)
+
+-- `after` holds v and what `before` holds, at every number u, and can be lent again.
+pub record Inserted (v : ℕ) (before after : List ℕ) : Type 0 where
+  pub size : length after ≡ 1024
+  pub holds : (u : ℕ) → has after u ≡ (eqb u v || has before u)
+
+-- Zeros read as zero past their end too, so that `empty` needs no bound.
+zeros : (n i : ℕ) → getD (replicate n zero) i zero ≡ zero
+zeros zero i = refl
+zeros (suc n) zero = refl
+zeros (suc n) (suc i) = zeros n i
+
+-- `[0; 1024]` is the empty set: where a caller starts.
+pub empty : (u : ℕ) → has (replicate 1024 0) u ≡ false
+unfolding has
+empty u = rw (zeros 1024 (u / 64), zero-div)
