@@ -6,3 +6,4 @@ pub mod Log
 pub mod Serial
 pub mod Answers
 pub mod Cases
+pub mod OddCases
