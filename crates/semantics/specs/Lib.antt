@@ -7,3 +7,5 @@ pub mod Serial
 pub mod Answers
 pub mod Cases
 pub mod OddCases
+pub mod Program
+pub mod ProgramCases
