@@ -1,0 +1,4 @@
+//! Random input: right tables, states, moves and logs, and the same with one planted fault.
+pub mod faults;
+pub mod states;
+pub mod tables;
