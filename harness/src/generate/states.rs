@@ -68,3 +68,9 @@ fn transaction(random: &mut Random, table: &Table, free: &mut Vec<u32>, wanted: 
         entries.push(entry);
     }
 }
+
+/// Exactly `n` global messages and nothing open; the table has a global port.
+pub fn messages(random: &mut Random, table: &Table, n: usize) -> State {
+    let message = |random: &mut Random| Entry::new(0, kind::MESSAGE, random.below(table.global), value(random));
+    State { next: random.pick(&[1, 1, 7, 65_000]), entries: (0..n).map(|_| message(random)).collect() }
+}
