@@ -4,11 +4,11 @@ mod common;
 
 use common::{check_state, gives, make_move, on_target, refused, two_lot_start, two_lot_table, MAKE_MOVE};
 use harness::answer::Answer;
-use harness::generate::moves::{allowed, changed};
+use harness::generate::moves::{allowed, changed, consumes};
 use harness::generate::states::state;
 use harness::generate::tables::{table, Shape};
 use harness::random::Random;
-use harness::words::{kind, mode, role, Atom, Entry, Move, State, Table};
+use harness::words::{act, kind, mode, role, Atom, Entry, Move, State, Table};
 
 fn react(rule: u32, picks: &[u32]) -> Vec<u32> {
     Move::react(rule, picks).words()
@@ -213,6 +213,38 @@ fn random_allowed_moves() {
         }
     }
     assert!(made.iter().all(|&count| count > 400), "{made:?}");
+}
+
+// Catches a result that depends on where entries stand: the same move on a shuffled state leaves
+// the same entries, as often.
+#[test]
+fn the_order_of_entries_is_free() {
+    let mut random = Random::new(305);
+    let mut made = 0;
+    for _ in 0..6_000 {
+        let table = table(&mut random, Shape::Small);
+        let state = state(&mut random, &table, 30, true);
+        let Some(mut mv) = allowed(&mut random, &table, &state, 30) else { continue };
+        let entries_after = |state: &State, mv: Move| {
+            let (_, words) = make_move(&table.words(), &state.words(), &mv.words());
+            let mut entries = State::from_words(&words)?.entries;
+            entries.sort_unstable();
+            Some(entries)
+        };
+        let Some(expected) = entries_after(&state, mv) else { continue };
+        let mut order: Vec<usize> = (0..state.entries.len()).collect();
+        random.shuffle(&mut order);
+        let shuffled = State { next: state.next, entries: order.iter().map(|&place| state.entries[place]).collect() };
+        if mv.kind == act::REACT {
+            let used = consumes(&table.rules[mv.number as usize]).len();
+            for pick in &mut mv.picks[..used] {
+                *pick = order.iter().position(|&place| place == *pick as usize).unwrap() as u32;
+            }
+        }
+        assert_eq!(entries_after(&shuffled, mv), Some(expected));
+        made += 1;
+    }
+    assert!(made > 2_000, "{made}");
 }
 
 // Catches any difference on moves near allowed ones; every refusal of the plant's state and 5

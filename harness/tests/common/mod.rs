@@ -1,5 +1,7 @@
 //! The implementations under test. Every test asks all of them the same and wants one answer.
 #![allow(dead_code)]
+pub mod demand3;
+
 use harness::answer::Answer;
 use harness::{model, plain};
 
