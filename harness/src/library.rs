@@ -11,12 +11,7 @@ struct CAnswer {
 
 extern "C" {
     fn coordinator_check_table(table: *const u32, table_len: usize) -> CAnswer;
-    fn coordinator_check_state(
-        table: *const u32,
-        table_len: usize,
-        state: *const u32,
-        state_len: usize,
-    ) -> CAnswer;
+    fn coordinator_check_state(table: *const u32, table_len: usize, state: *const u32, state_len: usize) -> CAnswer;
 }
 
 #[cfg(feature = "move")]

@@ -50,9 +50,7 @@ impl Random {
 
     /// A word that is often at an edge.
     pub fn edge_word(&mut self) -> u32 {
-        const EDGES: [u32; 14] = [
-            0, 1, 2, 3, 4, 5, 64, 256, 512, 1024, 65_535, 65_536, 1 << 31, u32::MAX,
-        ];
+        const EDGES: [u32; 14] = [0, 1, 2, 3, 4, 5, 64, 256, 512, 1024, 65_535, 65_536, 1 << 31, u32::MAX];
         match self.below(4) {
             0 => self.word(),
             1 => self.below(8),

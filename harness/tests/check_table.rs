@@ -3,7 +3,7 @@ mod common;
 
 use common::{check_table, two_lot_table};
 use harness::answer::Answer;
-use harness::generate::faults::TableFault;
+use harness::generate::table_faults::TableFault;
 use harness::generate::tables::{table, Shape};
 use harness::random::Random;
 use harness::words::{Atom, Table};
@@ -38,7 +38,7 @@ fn random_right_tables_are_accepted() {
 #[test]
 fn each_planted_fault_has_its_number() {
     let mut random = Random::new(102);
-    for fault in TableFault::ALL {
+    for &fault in TableFault::ALL {
         let mut planted = 0;
         for round in 0..20_000 {
             if planted == 60 {
@@ -46,7 +46,12 @@ fn each_planted_fault_has_its_number() {
             }
             let table = table(&mut random, SHAPES[round % 2]);
             if let Some(words) = fault.plant(&mut random, &table) {
-                assert_eq!(check_table(&words), Answer::Refused(fault.number()), "{fault:?} {}", common::shown(&[("table", &words)]));
+                assert_eq!(
+                    check_table(&words),
+                    Answer::Refused(fault.number()),
+                    "{fault:?} {}",
+                    common::shown(&[("table", &words)])
+                );
                 planted += 1;
             }
         }

@@ -33,22 +33,21 @@ fn example_8() -> Definitions {
         ]
     };
     let join = |product: Atom| vec![Atom::new(role::CONSUME, 0, A, 0), Atom::new(role::CONSUME, 0, B, 0), product];
-    let rules = vec![
-        begin(C1, A),
-        begin(C2, B),
-        join(Atom::new(role::EMIT, 0, OK, 0)),
-        join(Atom::new(role::ABORT, 0, 0, 0)),
-    ];
+    let rules =
+        vec![begin(C1, A), begin(C2, B), join(Atom::new(role::EMIT, 0, OK, 0)), join(Atom::new(role::ABORT, 0, 0, 0))];
     Definitions::read(&Table { global: 4, local: 0, merge: 2, rules }.words()).unwrap()
 }
 
 fn start(values: &[(u32, u32)]) -> Solution {
-    let named = |(place, &(port, value)): (usize, &(u32, u32))| (Origin::Start(place), Message { channel: Channel::Global(port), value });
+    let named = |(place, &(port, value)): (usize, &(u32, u32))| {
+        (Origin::Start(place), Message { channel: Channel::Global(port), value })
+    };
     Solution { messages: values.iter().enumerate().map(named).collect(), transactions: BTreeMap::new(), next: 1 }
 }
 
 fn values(messages: &BTreeMap<Origin, Message>) -> Vec<(u32, u32)> {
-    let mut values: Vec<(u32, u32)> = messages.values().map(|message| (message.channel.port(), message.value)).collect();
+    let mut values: Vec<(u32, u32)> =
+        messages.values().map(|message| (message.channel.port(), message.value)).collect();
     values.sort_unstable();
     values
 }
@@ -98,14 +97,13 @@ fn example_8_has_one_colour() {
     let definitions = example_8();
     let entries = vec![Entry::new(0, 0, C1, 1), Entry::new(0, 0, C2, 2), Entry::new(0, 0, C1, 3)];
     let mut ordered = Ordered::read(&definitions, &State { next: 1, entries }.words()).unwrap();
-    let moves = [
-        Move::react(0, &[0]),
-        Move::react(0, &[1]),
-        Move::react(1, &[0]),
-        Move::react(3, &[4, 7]),
-        Move::abort(2),
-    ];
-    let history: Vec<Made> = moves.iter().enumerate().map(|(place, mv)| ordered.make_words(&definitions, &mv.words(), place, 1_024).unwrap()).collect();
+    let moves =
+        [Move::react(0, &[0]), Move::react(0, &[1]), Move::react(1, &[0]), Move::react(3, &[4, 7]), Move::abort(2)];
+    let history: Vec<Made> = moves
+        .iter()
+        .enumerate()
+        .map(|(place, mv)| ordered.make_words(&definitions, &mv.words(), place, 1_024).unwrap())
+        .collect();
     // The first transaction is still open, so it is ended here by hand for the colouring.
     let mut history_closed = history;
     history_closed.push(Made::Ended { kind: act::ABORT, id: 1 });

@@ -25,14 +25,7 @@ fn after(moves: &[Vec<u32>]) -> Vec<u32> {
 
 /// 01's case (a), move by move.
 fn case_a() -> Vec<Vec<u32>> {
-    vec![
-        react(0, &[0]),
-        react(0, &[0]),
-        react(1, &[1]),
-        react(1, &[3]),
-        react(2, &[4, 5]),
-        Move::commit(1).words(),
-    ]
+    vec![react(0, &[0]), react(0, &[0]), react(1, &[1]), react(1, &[3]), react(2, &[4, 5]), Move::commit(1).words()]
 }
 
 // Catches a coordinator that refuses all, gives the start back or has one fixed end state.
@@ -175,7 +168,8 @@ fn products_of_a_begin() {
         Atom::new(role::ABORT, 0, 0, 0),
     ];
     let table = Table { global: 2, local: 1, merge: 0, rules: vec![rule] };
-    let state = State { next: 40, entries: vec![Entry::new(0, 0, 1, 11), Entry::new(0, 0, 0, 3), Entry::new(0, 0, 0, 22)] };
+    let state =
+        State { next: 40, entries: vec![Entry::new(0, 0, 1, 11), Entry::new(0, 0, 0, 3), Entry::new(0, 0, 0, 22)] };
     let end = State {
         next: 41,
         entries: vec![
@@ -273,7 +267,9 @@ fn random_changed_moves() {
 fn words_of_a_move() {
     let (table, state) = (two_lot_table(), after(&case_a()[..2]));
     let head = |head: u32| make_move(&table, &state, &[head, 0, 0, 0, 0]);
-    for head_word in [0x0000_0004, 0x0001_0000, 0x00FF_FFFF, 0x0100_0000, 0x0200_0000, 0x0101_0000, 0x0201_0000, 0x01FF_FFFF] {
+    for head_word in
+        [0x0000_0004, 0x0001_0000, 0x00FF_FFFF, 0x0100_0000, 0x0200_0000, 0x0101_0000, 0x0201_0000, 0x01FF_FFFF]
+    {
         refused(head(head_word), 5);
     }
     for kind in 3..256 {
@@ -395,7 +391,8 @@ fn the_first_fault_counts() {
     ];
     for (numbers, reaction) in kinds {
         for set in 0..1u32 << numbers.len() {
-            let faults: Vec<u32> = (0..numbers.len()).filter(|bit| set >> bit & 1 == 1).map(|bit| numbers[bit]).collect();
+            let faults: Vec<u32> =
+                (0..numbers.len()).filter(|bit| set >> bit & 1 == 1).map(|bit| numbers[bit]).collect();
             let ([table, state, mv], room) = faulty(&faults, reaction);
             let (answer, _) = on_target(MAKE_MOVE, [&table, &state, &mv], room);
             // A full state and a used-up id are no faults of a commit.

@@ -148,7 +148,9 @@ fn words_of_a_log() {
 // Catches a limit of moves that is off by one: 1,024 and 1,025.
 #[test]
 fn limits_of_a_log() {
-    let table = Table { global: 1, local: 0, merge: 0, rules: vec![vec![Atom::new(0, 0, 0, 0), Atom::new(1, 1, 0, 0)]] }.words();
+    let table =
+        Table { global: 1, local: 0, merge: 0, rules: vec![vec![Atom::new(0, 0, 0, 0), Atom::new(1, 1, 0, 0)]] }
+            .words();
     let start = State { next: 1, entries: vec![Entry::new(0, 0, 0, 3), Entry::new(0, 0, 0, 4)] }.words();
     let log = |k: usize| log_words(&vec![Move::react(0, &[0]); k]);
     gives(run(&table, &start, &log(1_024)), &start);

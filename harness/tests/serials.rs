@@ -4,11 +4,11 @@ mod common;
 use common::demand3::Demand3;
 use common::{gives, on_target, refused, run, serialize, two_lot_start, two_lot_table, SERIALIZE};
 use harness::answer::Answer;
-use harness::generate::logs::{accepted, closed};
+use harness::generate::logs::{accepted, closed, Walk};
 use harness::generate::states::{messages, state};
 use harness::generate::tables::{table, Shape};
 use harness::random::Random;
-use harness::words::{act, log_from_words, log_words, role, Atom, Entry, Move, State, Table};
+use harness::words::{act, kind, log_from_words, log_words, role, Atom, Entry, Move, State, Table};
 
 fn case_d() -> Vec<Move> {
     vec![
@@ -54,6 +54,32 @@ fn a_serial_log_stays() {
     gives(serialize(&two_lot_table(), &two_lot_start(), &log_words(&log)), &log_words(&log));
 }
 
+// Catches a checker of demand 3 that lets wrong logs pass.
+#[test]
+fn wrong_serial_logs_break_a_clause() {
+    let table = Table::from_words(&two_lot_table()).unwrap();
+    let start = State::from_words(&two_lot_start()).unwrap();
+    let log = case_d();
+    let demand = Demand3::new(&table, &start, &log);
+    assert_eq!(demand.check(&log), Err("a block stands before its end"));
+    let begin = |pick| Move::react(0, &[pick]);
+    let stop = |pick| Move::react(3, &[pick]);
+    // Blocks in the order of begins.
+    let by_begin = [begin(0), stop(2), Move::abort(1), begin(0), stop(2), Move::abort(2)];
+    assert_eq!(demand.check(&by_begin), Err("ends and global moves keep their order"));
+    // The block of one transaction inside that of the other.
+    let nested = [begin(0), begin(0), stop(4), Move::abort(2), stop(1), Move::abort(1)];
+    assert_eq!(demand.check(&nested), Err("a block stands before its end"));
+    let without_the_other = [begin(1), stop(2), Move::abort(1)];
+    assert_eq!(demand.check(&without_the_other), Err("each move once"));
+    let other_kind = [begin(1), stop(2), Move::commit(1)];
+    assert_eq!(demand.check(&other_kind), Err("the same origins"));
+    let other_rule = [begin(1), Move::react(1, &[2]), Move::abort(1)];
+    assert_eq!(demand.check(&other_rule), Err("the same origins"));
+    let left_open = [begin(1), stop(2), Move::abort(1), begin(0)];
+    assert_eq!(demand.check(&left_open), Err("nothing open at the end"));
+}
+
 /// Checks one closed log against demand 3 and gives the answer.
 fn demand3(table: &Table, start: &State, log: &[Move]) -> Answer {
     let (table_words, start_words) = (table.words(), start.words());
@@ -65,7 +91,7 @@ fn demand3(table: &Table, start: &State, log: &[Move]) -> Answer {
     }
     assert_eq!(answer, Answer::Accepted(1 + 5 * log.len() as u32), "peak {}", demand.peak());
     let serial = log_from_words(&words).expect("a log");
-    demand.check(&serial);
+    assert_eq!(demand.check(&serial), Ok(()));
     assert_eq!(run(&table_words, &start_words, &words).0.number(), 0, "the serial log does not run");
     // A serial log is its own serial log.
     gives(serialize(&table_words, &start_words, &words), &words);
@@ -88,11 +114,81 @@ fn random_closed_logs() {
         moved += usize::from(serialize(&table.words(), &start.words(), &words).1 != words);
         commits += log.iter().filter(|mv| mv.kind == act::COMMIT).count();
         aborts += log.iter().filter(|mv| mv.kind == act::ABORT).count();
-        let first_merge = table.global + table.local;
-        let merging = |mv: &&Move| mv.kind == act::REACT && table.rules[mv.number as usize][1..].iter().any(|atom| atom.role == role::CONSUME && atom.port >= first_merge);
-        merges += log.iter().filter(merging).count();
+        merges += Demand3::new(&table, &start, &log).merged_ends();
     }
     assert!(moved > 500 && merges > 500 && commits > 1_000 && aborts > 1_000, "{moved} {merges} {commits} {aborts}");
+}
+
+/// The place of the transaction's message on the merge port 1.
+fn offer(walk: &Walk, id: u32) -> u32 {
+    let offers = |entry: &Entry| *entry == Entry::new(id, kind::MESSAGE, 1, entry.value);
+    walk.state.entries.iter().position(offers).expect("an offer") as u32
+}
+
+// Catches an id, a member or a block lost in a chain of merges: four transactions merge in every
+// order, by twos or all at once, and end by a commit or an abort.
+#[test]
+fn merges_in_every_order() {
+    let consume = |port, count: usize| vec![Atom::new(role::CONSUME, 0, port, 0); count];
+    let with = |mut rule: Vec<Atom>, more: &[Atom]| {
+        rule.extend(more);
+        rule
+    };
+    let offer_again = Atom::new(role::EMIT, 1, 1, 0);
+    let begin = [Atom::new(role::BEGIN, 0, 0, 0), Atom::new(role::BODY, 1, 1, 0), Atom::new(role::COMPENSATE, 1, 0, 0)];
+    let rules = vec![
+        with(consume(0, 1), &begin),
+        with(consume(1, 2), &[offer_again]),
+        with(consume(1, 4), &[offer_again]),
+        with(consume(1, 1), &[Atom::new(role::EMIT, 1, 0, 0)]),
+        with(consume(1, 1), &[Atom::new(role::ABORT, 0, 0, 0)]),
+    ];
+    let table = Table { global: 1, local: 0, merge: 1, rules };
+    let start = State { next: 1, entries: (10..15).map(|value| Entry::new(0, 0, 0, value)).collect() };
+    for number in 0..4u32.pow(4) {
+        let order: Vec<u32> = (0..4).map(|digit| 1 + number / 4u32.pow(digit) % 4).collect();
+        if (1..=4).any(|id| !order.contains(&id)) {
+            continue;
+        }
+        for ending in [3, 4] {
+            for shape in 0..3 {
+                let mut walk = Walk::new(&table, &start);
+                // A fifth transaction ends in between and stays apart.
+                (0..5).for_each(|_| assert!(walk.make(Move::react(0, &[0]))));
+                let pair = |walk: &mut Walk, one: u32, other: u32| {
+                    let picks = [offer(walk, one), offer(walk, other)];
+                    assert!(walk.make(Move::react(1, &picks)));
+                    one.min(other)
+                };
+                match shape {
+                    0 => {
+                        order[1..].iter().fold(order[0], |one, &other| pair(&mut walk, one, other));
+                    }
+                    1 => {
+                        let one = pair(&mut walk, order[0], order[1]);
+                        let other = pair(&mut walk, order[2], order[3]);
+                        pair(&mut walk, one, other);
+                    }
+                    _ => {
+                        let picks: Vec<u32> = order.iter().map(|&id| offer(&walk, id)).collect();
+                        assert!(walk.make(Move::react(2, &picks)));
+                    }
+                }
+                let fifth = offer(&walk, 5);
+                assert!(walk.make(Move::react(4, &[fifth])) && walk.make(Move::abort(5)));
+                let whole = offer(&walk, 1);
+                assert!(walk.make(Move::react(ending, &[whole])));
+                assert!(walk.make(if ending == 3 { Move::commit(1) } else { Move::abort(1) }));
+                let log = walk.log;
+                assert_eq!(demand3(&table, &start, &log).number(), 0);
+                assert_eq!(Demand3::new(&table, &start, &log).merged_ends(), 1);
+                // The fifth now comes first: its end is under id 1, that of the four under id 2.
+                let (_, words) = serialize(&table.words(), &start.words(), &log_words(&log));
+                let serial = log_from_words(&words).unwrap();
+                assert_eq!((serial[2], serial.last().unwrap().number), (Move::abort(1), 2));
+            }
+        }
+    }
 }
 
 // Catches what only long logs show: many transactions at once, ids far from their places.
@@ -170,7 +266,8 @@ fn a_block_that_outgrows() {
     let table = Table { global: 1, local: 1, merge: 0, rules: vec![begin, shrink, grow] };
     for (n, number) in [(1_015, 0), (1_016, 0), (1_017, 17), (1_020, 17)] {
         let start = State { next: 1, entries: vec![Entry::new(0, 0, 0, 1); n as usize] };
-        let log = [Move::react(0, &[0]), Move::react(1, &[n, n + 1, n + 2, n + 3]), Move::react(2, &[0]), Move::commit(1)];
+        let log =
+            [Move::react(0, &[0]), Move::react(1, &[n, n + 1, n + 2, n + 3]), Move::react(2, &[0]), Move::commit(1)];
         assert_eq!(run(&table.words(), &start.words(), &log_words(&log)).0.number(), 0, "{n}");
         assert_eq!(demand3(&table, &start, &log).number(), number, "{n}");
     }

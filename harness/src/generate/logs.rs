@@ -42,9 +42,11 @@ impl<'a> Walk<'a> {
 
     /// The moves that it takes to end all transactions under a closable table.
     fn left(&self) -> usize {
-        let unfinished = self.state.entries.iter().filter(|entry| {
-            entry.owner != 0 && entry.kind == kind::MESSAGE && entry.port >= self.table.global
-        });
+        let unfinished = self
+            .state
+            .entries
+            .iter()
+            .filter(|entry| entry.owner != 0 && entry.kind == kind::MESSAGE && entry.port >= self.table.global);
         unfinished.count() + open(&self.state).len()
     }
 
@@ -65,7 +67,9 @@ impl<'a> Walk<'a> {
     fn drain(&self, id: u32) -> Move {
         let entries = &self.state.entries;
         let unfinished = |place: &usize| {
-            entries[*place].owner == id && entries[*place].kind == kind::MESSAGE && entries[*place].port >= self.table.global
+            entries[*place].owner == id
+                && entries[*place].kind == kind::MESSAGE
+                && entries[*place].port >= self.table.global
         };
         let place = (0..entries.len()).find(unfinished).expect("an unfinished message");
         let drains = |rule: &Vec<crate::words::Atom>| {

@@ -57,7 +57,11 @@ pub fn allowed(random: &mut Random, table: &Table, state: &State, end_percent: u
     for _ in 0..12 {
         let found = if random.chance(end_percent) {
             let open = open(state);
-            if open.is_empty() { None } else { end(table, state, random.pick(&open)) }
+            if open.is_empty() {
+                None
+            } else {
+                end(table, state, random.pick(&open))
+            }
         } else if table.rules.is_empty() {
             None
         } else {

@@ -19,7 +19,8 @@ pub fn state(random: &mut Random, table: &Table, most: usize, open: bool) -> Sta
     while entries.len() < wanted && table.global > 0 {
         entries.push(Entry::new(0, kind::MESSAGE, random.below(table.global), value(random)));
     }
-    let highest = entries.iter().filter(|entry| entry.kind == kind::MEMBER_MARK).map(|entry| entry.value).max().unwrap_or(0);
+    let highest =
+        entries.iter().filter(|entry| entry.kind == kind::MEMBER_MARK).map(|entry| entry.value).max().unwrap_or(0);
     let next = match random.below(4) {
         0 => MAX_NEXT,
         1 => random.between(highest + 1, MAX_NEXT),

@@ -71,9 +71,10 @@ pub fn serialize(table: &[u32], state: &[u32], log: &[u32], target: &mut [u32]) 
         if target.len() < 1 + 5 * log.len() {
             return Err(Answer::Refused(6));
         }
-        let emits_at_begin = definitions.rules.iter().any(|rule| {
-            matches!(rule.product, Product::Global(Some(_))) && !rule.emits.is_empty()
-        });
+        let emits_at_begin = definitions
+            .rules
+            .iter()
+            .any(|rule| matches!(rule.product, Product::Global(Some(_))) && !rule.emits.is_empty());
         if emits_at_begin {
             return Err(Answer::Refused(14));
         }

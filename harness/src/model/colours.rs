@@ -51,7 +51,8 @@ pub fn serial(definitions: &Definitions, mut ordered: Ordered, history: &[Made],
     for place in order(history) {
         match &history[place] {
             Made::Fired { rule, names, .. } => {
-                let place_of = |name| ordered.order.iter().position(|other| other == name).expect("the same molecule") as u32;
+                let place_of =
+                    |name| ordered.order.iter().position(|other| other == name).expect("the same molecule") as u32;
                 let picks: Vec<u32> = names.iter().map(place_of).collect();
                 serial.push(Move::react(*rule as u32, &picks));
                 let again = ordered.fire(definitions, *rule, names.clone(), place).expect("fires again");

@@ -178,7 +178,11 @@ fn output(names: Names, atom: Atom, arity: usize) -> Option<Output> {
 
 fn consumed(names: Names, atom: Atom) -> Option<Channel> {
     let plain = Atom::new(role::CONSUME, mode::CONSTANT, atom.port, 0);
-    if atom == plain { names.channel(atom.port) } else { None }
+    if atom == plain {
+        names.channel(atom.port)
+    } else {
+        None
+    }
 }
 
 fn all_global(outputs: &[Output]) -> bool {

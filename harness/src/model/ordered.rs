@@ -67,7 +67,13 @@ impl Ordered {
 
     /// A move in words, made as the log's move `by`, with at most `ceiling` entries afterwards.
     /// After a refusal the solution is no longer of use.
-    pub fn make_words(&mut self, definitions: &Definitions, words: &[u32], by: usize, ceiling: usize) -> Result<Made, u32> {
+    pub fn make_words(
+        &mut self,
+        definitions: &Definitions,
+        words: &[u32],
+        by: usize,
+        ceiling: usize,
+    ) -> Result<Made, u32> {
         let mv = Move::from_words(words).ok_or(5u32)?;
         let used = match mv.kind {
             act::REACT => definitions.rules.get(mv.number as usize).ok_or(5u32)?.pattern.len(),
@@ -116,15 +122,20 @@ impl Ordered {
 
     /// Each molecule as the entry that shows it.
     fn located(&self) -> BTreeMap<Origin, Entry> {
-        let message = |owner, kind| move |(&name, message): (&Origin, &Message)| {
-            (name, Entry::new(owner, kind, message.channel.port(), message.value))
+        let message = |owner, kind| {
+            move |(&name, message): (&Origin, &Message)| {
+                (name, Entry::new(owner, kind, message.channel.port(), message.value))
+            }
         };
-        let mut entries: BTreeMap<Origin, Entry> = self.solution.messages.iter().map(message(0, kind::MESSAGE)).collect();
+        let mut entries: BTreeMap<Origin, Entry> =
+            self.solution.messages.iter().map(message(0, kind::MESSAGE)).collect();
         for (&id, transaction) in &self.solution.transactions {
             entries.extend(transaction.messages.iter().map(message(id, kind::MESSAGE)));
             entries.extend(transaction.compensation.iter().map(message(id, kind::COMPENSATION)));
             entries.extend(transaction.aborts.iter().map(|&name| (name, Entry::new(id, kind::ABORT_MARK, 0, 0))));
-            entries.extend(transaction.members.iter().map(|(&name, &member)| (name, Entry::new(id, kind::MEMBER_MARK, 0, member))));
+            entries.extend(
+                transaction.members.iter().map(|(&name, &member)| (name, Entry::new(id, kind::MEMBER_MARK, 0, member))),
+            );
         }
         entries
     }
@@ -143,5 +154,5 @@ fn members_fit(solution: &Solution) -> bool {
         transaction.members.values().any(|&member| member == id)
             && transaction.members.values().all(|&member| id <= member && member < solution.next && seen.insert(member))
     };
-    solution.transactions.iter().map(owned).fold(true, |all, one| all && one)
+    solution.transactions.iter().all(owned)
 }

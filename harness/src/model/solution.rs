@@ -60,9 +60,9 @@ impl Solution {
         if let Some(&message) = self.messages.get(&name) {
             return Some((Scope::Global, message));
         }
-        self.transactions.iter().find_map(|(&id, transaction)| {
-            transaction.messages.get(&name).map(|&message| (Scope::Inside(id), message))
-        })
+        self.transactions
+            .iter()
+            .find_map(|(&id, transaction)| transaction.messages.get(&name).map(|&message| (Scope::Inside(id), message)))
     }
 
     /// Fires a definition on the named molecules, as move `by`.
@@ -74,10 +74,13 @@ impl Solution {
             return Err(7);
         }
         let scopes: BTreeSet<Scope> = found.iter().map(|&(scope, _)| scope).collect();
-        let inside: BTreeSet<u32> = scopes.iter().filter_map(|scope| match scope {
-            Scope::Inside(id) => Some(*id),
-            Scope::Global => None,
-        }).collect();
+        let inside: BTreeSet<u32> = scopes
+            .iter()
+            .filter_map(|scope| match scope {
+                Scope::Inside(id) => Some(*id),
+                Scope::Global => None,
+            })
+            .collect();
         let fits = match rule.product {
             Product::Global(_) => inside.is_empty(),
             Product::Local { .. } => scopes.len() == 1 && inside.len() == 1,

@@ -39,7 +39,11 @@ impl State {
         let mut state = State { next, owners: Vec::with_capacity(n + 16), items: Vec::with_capacity(n + 16) };
         state.owners.extend_from_slice(owners);
         state.items.extend_from_slice(items);
-        if state.fits(table) { Ok(state) } else { Err(4) }
+        if state.fits(table) {
+            Ok(state)
+        } else {
+            Err(4)
+        }
     }
 
     fn fits(&self, table: &Table) -> bool {

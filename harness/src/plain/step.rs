@@ -24,7 +24,11 @@ impl Call {
             act::ABORT if id => (Call::Abort(number), 0),
             _ => return Err(5),
         };
-        if picks[used..] == [0; 4][used..] { Ok(call) } else { Err(5) }
+        if picks[used..] == [0; 4][used..] {
+            Ok(call)
+        } else {
+            Err(5)
+        }
     }
 }
 

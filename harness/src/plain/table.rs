@@ -46,7 +46,11 @@ impl<'a> Table<'a> {
             table.rules.push(table.rule(first, first + count)?);
             first += count;
         }
-        if first == atoms.len() { Ok(table) } else { Err(2) }
+        if first == atoms.len() {
+            Ok(table)
+        } else {
+            Err(2)
+        }
     }
 
     pub fn class(&self, port: u32) -> Class {

@@ -46,13 +46,17 @@ impl<'a> Tracker<'a> {
 
     /// The begins of the members whose marks the transaction holds.
     fn members(&self, id: u32) -> BTreeSet<usize> {
-        let marks = self.entries.iter().filter(|tracked| tracked.entry.owner == id && tracked.entry.kind == kind::MEMBER_MARK);
+        let marks =
+            self.entries.iter().filter(|tracked| tracked.entry.owner == id && tracked.entry.kind == kind::MEMBER_MARK);
         marks.map(|tracked| tracked.origin.0 - 1).collect()
     }
 
     fn identity(&self, mv: &Move) -> Identity {
         if mv.kind == act::REACT {
-            Identity::Reaction { rule: mv.number, origins: self.picked(mv).iter().map(|tracked| tracked.origin).collect() }
+            Identity::Reaction {
+                rule: mv.number,
+                origins: self.picked(mv).iter().map(|tracked| tracked.origin).collect(),
+            }
         } else {
             Identity::End { kind: mv.kind, members: self.members(mv.number) }
         }
@@ -65,7 +69,8 @@ impl<'a> Tracker<'a> {
         } else if self.begins(mv) {
             BTreeSet::from([place])
         } else {
-            let owners: BTreeSet<u32> = self.picked(mv).iter().map(|tracked| tracked.entry.owner).filter(|&owner| owner != 0).collect();
+            let owners: BTreeSet<u32> =
+                self.picked(mv).iter().map(|tracked| tracked.entry.owner).filter(|&owner| owner != 0).collect();
             owners.into_iter().flat_map(|owner| self.members(owner)).collect()
         }
     }
@@ -111,12 +116,11 @@ impl<'a> Tracker<'a> {
         }
     }
 
-    /// The global messages, each as often as it is there; nothing may be open.
-    fn messages(&self) -> Vec<Entry> {
-        let mut messages: Vec<Entry> = self.entries.iter().map(|tracked| tracked.entry).collect();
-        assert!(messages.iter().all(|entry| entry.owner == 0), "a transaction is open at the end");
-        messages.sort_unstable();
-        messages
+    /// What is there, each as often as it is there.
+    fn sorted(&self) -> Vec<Entry> {
+        let mut entries: Vec<Entry> = self.entries.iter().map(|tracked| tracked.entry).collect();
+        entries.sort_unstable();
+        entries
     }
 }
 
@@ -128,7 +132,7 @@ pub struct Demand3<'a> {
     places: BTreeMap<Identity, usize>,
     concerned: Vec<BTreeSet<usize>>,
     growth: Vec<i64>,
-    messages: Vec<Entry>,
+    end: Vec<Entry>,
 }
 
 impl<'a> Demand3<'a> {
@@ -142,7 +146,7 @@ impl<'a> Demand3<'a> {
             tracker.make(mv, place);
             growth.push(tracker.entries.len() as i64 - before);
         }
-        Demand3 { table, start, log, places, concerned, growth, messages: tracker.messages() }
+        Demand3 { table, start, log, places, concerned, growth, end: tracker.sorted() }
     }
 
     /// The moves that stand directly before an end.
@@ -160,6 +164,11 @@ impl<'a> Demand3<'a> {
         self.is_end(place) || self.concerned[place].is_empty()
     }
 
+    /// The ends of more than one member.
+    pub fn merged_ends(&self) -> usize {
+        (0..self.log.len()).filter(|&place| self.is_end(place) && self.concerned[place].len() > 1).count()
+    }
+
     /// The most entries that any state along the serial log holds. A move changes the number of
     /// entries by the same amount wherever it stands.
     pub fn peak(&self) -> usize {
@@ -175,50 +184,58 @@ impl<'a> Demand3<'a> {
         peak as usize
     }
 
-    /// Fails if the serial log breaks a clause.
-    pub fn check(&self, serial: &[Move]) {
-        let places = self.identify(serial);
-        // Each move once.
+    /// The clause that the serial log breaks, if it breaks one.
+    pub fn check(&self, serial: &[Move]) -> Result<(), &'static str> {
+        let places = self.identify(serial)?;
         let mut sorted = places.clone();
         sorted.sort_unstable();
-        assert_eq!(sorted, (0..self.log.len()).collect::<Vec<_>>(), "not each move once");
-        // Ends and global moves keep their order.
-        let kept: Vec<usize> = places.iter().copied().filter(|&place| self.keeps_order(place)).collect();
-        assert!(kept.is_sorted(), "ends or global moves out of order");
-        // Blocks: directly before each end, in log order, and all moves are in one or keep order.
+        ensure(sorted.into_iter().eq(0..self.log.len()), "each move once")?;
+        let kept = places.iter().filter(|&&place| self.keeps_order(place));
+        ensure(kept.is_sorted(), "ends and global moves keep their order")?;
+        // All moves are in one block or keep their order.
         let mut standing = 0;
         for (now, &place) in places.iter().enumerate() {
             if self.is_end(place) {
                 let block = self.block(place);
-                assert!(now >= block.len() && places[now - block.len()..now] == block, "a block is not before its end");
+                ensure(places[..now].ends_with(&block), "a block stands before its end")?;
                 standing += block.len() + 1;
             } else if self.keeps_order(place) {
                 standing += 1;
             }
         }
-        assert_eq!(standing, self.log.len(), "a move in no block or in two");
+        ensure(standing == self.log.len(), "each move in one block")
     }
 
     /// Which move of the first log each serial move is, by rule and origins or by members ended;
     /// checks ids and the end on the way.
-    fn identify(&self, serial: &[Move]) -> Vec<usize> {
+    fn identify(&self, serial: &[Move]) -> Result<Vec<usize>, &'static str> {
         let mut tracker = Tracker::new(self.table, self.start);
         let mut ids: BTreeMap<usize, u32> = BTreeMap::new();
         let mut places = Vec::new();
         for mv in serial {
             let identity = tracker.identity(mv);
-            let place = *self.places.get(&identity).unwrap_or_else(|| panic!("no such move: {identity:?}"));
+            let place = *self.places.get(&identity).ok_or("the same origins")?;
             if tracker.begins(mv) {
                 ids.insert(place, tracker.next);
             }
             if let Identity::End { members, .. } = &identity {
                 let smallest = members.iter().map(|begin| ids[begin]).min();
-                assert_eq!(Some(mv.number), smallest, "an end under another id");
+                ensure(Some(mv.number) == smallest, "an end under the smallest id")?;
             }
             tracker.make(mv, place);
             places.push(place);
         }
-        assert_eq!(tracker.messages(), self.messages, "other global messages at the end");
-        places
+        let end = tracker.sorted();
+        ensure(end.iter().all(|entry| entry.owner == 0), "nothing open at the end")?;
+        ensure(end == self.end, "the same global messages")?;
+        Ok(places)
+    }
+}
+
+fn ensure(holds: bool, clause: &'static str) -> Result<(), &'static str> {
+    if holds {
+        Ok(())
+    } else {
+        Err(clause)
     }
 }

@@ -108,7 +108,12 @@ pub fn on_target(calls: &[(&'static str, OnTarget)], input: [&[u32]; 3], room: u
     }
     let (_, answer, words) = &all[0];
     for (name, other, others) in &all[1..] {
-        assert!(answer == other && words == others, "{} {answer:?}, {name} {other:?}; {words:x?}, {others:x?}; {}", all[0].0, shown(&parts));
+        assert!(
+            answer == other && words == others,
+            "{} {answer:?}, {name} {other:?}; {words:x?}, {others:x?}; {}",
+            all[0].0,
+            shown(&parts)
+        );
     }
     (*answer, words.clone())
 }
