@@ -254,6 +254,34 @@ fn the_limit_of_a_serial_order() {
     gives(serialize(&table.words(), &start(1_023).words(), &log_words(&log)), &log_words(&serial));
 }
 
+// Catches 17 for a log that itself outgrows the limit: its own refusal counts.
+#[test]
+fn an_outgrown_log_is_refused_first() {
+    let mut entries = vec![Entry::new(0, 0, 1, 5); 1_024];
+    entries[..4].fill(Entry::new(0, 0, 0, 5));
+    let log = [Move::react(1, &[4]), Move::react(0, &[0, 1, 2, 3]), Move::commit(1)];
+    let (answer, _) = serialize(&shrinking().words(), &State { next: 1, entries }.words(), &log_words(&log));
+    assert_eq!(answer, Answer::MoveRefused { place: 0, own: 12 });
+}
+
+// Catches a limit of moves, ids or entries that only the largest log meets: 512 transactions are
+// open at once, in 1,024 entries, and end in the opposite order.
+#[test]
+fn the_longest_log() {
+    let rule = vec![Atom::new(role::CONSUME, 0, 0, 0), Atom::new(role::BEGIN, 0, 0, 0), Atom::new(role::BODY, 1, 0, 0)];
+    let table = Table { global: 1, local: 0, merge: 0, rules: vec![rule] };
+    let start = State { next: 65_024, entries: (0..512).map(|value| Entry::new(0, 0, 0, value)).collect() };
+    let begins = (0..512).map(|_| Move::react(0, &[0]));
+    let ends = (0..512).rev().map(|number| Move::commit(65_024 + number));
+    let log: Vec<Move> = begins.chain(ends).collect();
+    assert_eq!(log.len(), 1_024);
+    assert_eq!(demand3(&table, &start, &log), Answer::Accepted(5_121));
+    // The last message is begun on and committed first; it then stands behind the others.
+    let serial: Vec<Move> =
+        (0..512).flat_map(|number| [Move::react(0, &[511 - number]), Move::commit(65_024 + number)]).collect();
+    gives(serialize(&table.words(), &start.words(), &log_words(&log)), &log_words(&serial));
+}
+
 // Catches 17 that is only tested between blocks: here a block outgrows the limit and ends below
 // it, because the growth outside now comes before the begin and not after the work inside.
 #[test]
