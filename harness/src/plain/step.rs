@@ -1,4 +1,6 @@
 //! A single move: one pass over the entries.
+use std::ops::Range;
+
 use super::state::State;
 use super::table::{Class, Rule, Table};
 use crate::words::{act, kind, role, MAX_ENTRIES, MAX_NEXT};
@@ -34,13 +36,14 @@ impl Call {
 
 /// A list that runs beside the entries and follows their removals; `()` for none.
 pub trait Beside {
-    fn copy(&mut self, from: usize, to: usize);
+    /// The entries of a range now start at `to`, which is not above it.
+    fn shift(&mut self, kept: Range<usize>, to: usize);
     fn cut(&mut self, len: usize);
     fn grow(&mut self, product: usize);
 }
 
 impl Beside for () {
-    fn copy(&mut self, _: usize, _: usize) {}
+    fn shift(&mut self, _: Range<usize>, _: usize) {}
     fn cut(&mut self, _: usize) {}
     fn grow(&mut self, _: usize) {}
 }
@@ -135,28 +138,24 @@ impl State {
 
     /// Takes the picked entries out; the rest keep their order.
     fn remove(&mut self, picks: &[u32], beside: &mut impl Beside) {
-        let mut sorted = [usize::MAX; 5];
+        let mut sorted = [self.items.len(); 5];
         for (slot, &pick) in sorted.iter_mut().zip(picks) {
             *slot = pick as usize;
         }
         sorted.sort_unstable();
-        let n = self.items.len();
-        let (mut to, mut gone) = (sorted[0], 0);
-        for from in sorted[0]..n {
-            if from == sorted[gone] {
-                gone += 1;
-                continue;
-            }
-            self.move_entry(from, to, beside);
-            to += 1;
+        let mut to = sorted[0];
+        for pair in sorted[..=picks.len()].windows(2) {
+            to = self.shift(pair[0] + 1..pair[1], to, beside);
         }
         self.cut(to, beside);
     }
 
-    fn move_entry(&mut self, from: usize, to: usize, beside: &mut impl Beside) {
-        self.owners[to] = self.owners[from];
-        self.items[to] = self.items[from];
-        beside.copy(from, to);
+    /// Moves a run of kept entries down to `to`; gives the place after it.
+    fn shift(&mut self, kept: Range<usize>, to: usize, beside: &mut impl Beside) -> usize {
+        self.owners.copy_within(kept.clone(), to);
+        self.items.copy_within(kept.clone(), to);
+        beside.shift(kept.clone(), to);
+        to + kept.len()
     }
 
     fn cut(&mut self, len: usize, beside: &mut impl Beside) {
@@ -204,18 +203,21 @@ impl State {
 
     /// The transaction's entries of this kind become global messages in their places.
     fn end(&mut self, id: u32, freed: u32, beside: &mut impl Beside) {
-        let mut to = 0;
-        for from in 0..self.items.len() {
-            if self.owners[from] == id {
-                if self.items[from] >> 24 != freed {
-                    continue;
-                }
-                self.owners[from] = 0;
-                self.items[from] &= 0xFF_FFFF;
+        let n = self.items.len();
+        let (mut kept, mut to) = (0, 0);
+        for at in 0..n {
+            if self.owners[at] != id {
+                continue;
             }
-            self.move_entry(from, to, beside);
-            to += 1;
+            if self.items[at] >> 24 == freed {
+                self.owners[at] = 0;
+                self.items[at] &= 0xFF_FFFF;
+            } else {
+                to = self.shift(kept..at, to, beside);
+                kept = at + 1;
+            }
         }
+        to = self.shift(kept..n, to, beside);
         self.cut(to, beside);
     }
 }
