@@ -1,2 +1,4 @@
 pub mod Verdicts
 pub mod Rules
+pub mod Entries
+pub mod Picks

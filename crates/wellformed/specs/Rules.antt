@@ -7,7 +7,7 @@ use mathlib.Core.Path.{_≡_, refl, sym, ap, subst, _∙_}
 use native.Mathlib.Omega.{arith}
 use lib.Dec.{leb, ltb, eqb}
 use lib.ListN.{length, getD, length-map}
-use borrow.Author.Tests.{leb-true, ltb-true, eqb-true, eq-eqb, ne-eqb, le-leb, not-true}
+use borrow.Author.Tests.{leb-true, ltb-true, eqb-true, eqb-false, eq-eqb, ne-eqb, le-leb, not-true}
 use Rattle.lists.specs.Lists.{given, all, any, oneIf, count, keep, risesFrom}
 use Rattle.lists.specs.Choices.{by-bool, clash, is-true, is-false, and-intro, and-left, and-right, or-cases, or-right, and-six, and-nine, given-holds}
 use Rattle.lists.specs.Members.{Among, all-each, any-some, any-intro, among-map, map-among, among-keep}
@@ -151,3 +151,38 @@ module _ (z : Sizes) (ws : List ℕ) where
 
 pub rules-right : (T : List ℕ) → tableVerdict T ≡ Allowed → (r : ℕ) → r < sizesOf T .rules → RuleRight (sizesOf T) (ruleAt (tableOf T) r)
 rules-right T h r l = rw (ruleAt-tableOf T r l) (rule-right (sizesOf T) (wordsAt T r) (rule-given T (table-given T h .1) r l))
+
+-- ---- what follows for a rule
+
+module _ {z : Sizes} {R : Rule} (right : RuleRight z R) where
+  pub consumed-class : (p : ℕ) → Among p (consumed R) → (classOf z p ≡ R .class) × (p < portCount z)
+  consumed-class p m =
+      let (a, n, e) = among-map (λ a. a .port) (keep (hasRole 0) (R .atoms)) p m in
+      let (k, h) = among-keep (hasRole 0) (R .atoms) a n in
+      let r = right .each a k in
+      (ap (classOf z) e ∙ r .consume-class (eqb-true (a .role) 0 h), rw e (r .port-lt))
+
+  -- an atom that makes something
+  pub product-atom : (a : Atom) → Among a (productAtoms R) → AtomRight z R a × (1 ≤ a .role)
+  product-atom a m =
+      let (k, h) = among-keep (λ a. not (hasRole 0 a)) (R .atoms) a m in
+      let n = eqb-false (a .role) 0 (not-true (hasRole 0 a) h) in
+      (right .each a k, positive (a .role) n)
+    where
+      positive : (n : ℕ) → (n ≡ 0 → ⊥) → 1 ≤ n
+      positive n h = omega arith
+
+  pub role-begins : (a : Atom) → Among a (R .atoms) → a .role ≡ 2 → begins R ≡ true
+  role-begins a m e = any-intro (hasRole 2) (R .atoms) a m (eq-eqb (a .role) 2 e)
+
+  -- only a global rule begins a transaction
+  pub begins-global : begins R ≡ true → R .class ≡ 0
+  begins-global h =
+      let (a, m, e) = any-some (hasRole 2) (R .atoms) h in
+      by-bool (eqb (R .class) 0) (eqb-true (R .class) 0)
+      (λ q. absurd (none (eqb-true (a .role) 2 e) (right .each a m .inner (eqb-false (R .class) 0 q))))
+    where
+      none : {n : ℕ} → n ≡ 2 → (n ≡ 0) ⊎ (n ≡ 1) ⊎ (n ≡ 5) → ⊥
+      none e (inl q) = omega arith
+      none e (inr (inl q)) = omega arith
+      none e (inr (inr q)) = omega arith
