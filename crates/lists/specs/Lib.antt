@@ -8,3 +8,4 @@ pub mod Totals
 pub mod Removed
 pub mod Unrepeated
 pub mod Tabled
+pub mod Parts

@@ -2,3 +2,4 @@ pub mod Verdicts
 pub mod Rules
 pub mod Entries
 pub mod Picks
+pub mod Reaction

@@ -87,9 +87,6 @@ module _ {R : Rule} {s : State} {ps : List ℕ} (g : ReactGiven R s ps) where
   pub owners-positive : (R .class ≡ 0 → ⊥) → (o : ℕ) → Among o (ownersAt s ps) → 1 ≤ o
   owners-positive c o m = go (eqb (R .class) 1) (rw (ne-eqb (R .class) 0 c) at (g .owners))
     where
-      os : List ℕ
-      os = ownersAt s ps
-
       go : (b : Bool) → cond b (all (λ o. ltb 0 o && eqb o (least (ownersAt s ps))) (ownersAt s ps)) (all (λ o. ltb 0 o) (ownersAt s ps)) ≡ true → 1 ≤ o
       go true h = ltb-true 0 o (and-left (ltb 0 o) (eqb o (least (ownersAt s ps))) (all-each (λ o. ltb 0 o && eqb o (least (ownersAt s ps))) (ownersAt s ps) h o m))
       go false h = ltb-true 0 o (all-each (λ o. ltb 0 o) (ownersAt s ps) h o m)

@@ -1,0 +1,185 @@
+-- An allowed reaction keeps a state sound.
+use Prim.Native.Nat.{ℕ, zero, suc, _+_, _≤_, _<_}
+use mathlib.Core.Bool.{Bool, true, false, _&&_, _||_, not, cond}
+use mathlib.Core.List.{List, [], _∷_, _++_, map, map-append, append-nil}
+use mathlib.Core.Logic.{_⊎_, inl, inr, ⊎-elim}
+use mathlib.Core.Path.{_≡_, refl, sym, ap, subst, _∙_}
+use native.Mathlib.Omega.{arith}
+use lib.Dec.{leb, ltb, eqb}
+use lib.ListN.{length, getD, replicate}
+use borrow.Author.Tests.{ltb-true, eqb-true, eqb-false, eq-eqb, ne-eqb}
+use Rattle.lists.specs.Lists.{any, oneIf, count, keepIf, keep, isIn, distinct, least, without}
+use Rattle.lists.specs.Choices.{by-bool, clash, is-false, or-cases, given-holds}
+use Rattle.lists.specs.Members.{Among, any-some, among-map, map-among, among-keep, keep-among, among-append, among-left, among-right, isIn-among, among-isIn}
+use Rattle.lists.specs.Smallest.{least-le, least-of}
+use Rattle.lists.specs.Totals.{count-keep-le}
+use Rattle.lists.specs.Removed.{among-without}
+use Rattle.lists.specs.Unrepeated.{distinct-snoc}
+use Rattle.lists.specs.Parts.{keep-append, getD-each}
+use Rattle.semantics.specs.Table.{Rule, portCount, hasRole, consumed, productAtoms, begins}
+use Rattle.semantics.specs.State.{Origin, Entry, State, isMemberMark, markValues}
+use Rattle.semantics.specs.Move.{picked, ownersAt, hasId, merged, valueIn, kindMade, ownerMade, made, products, reacted}
+use Rattle.semantics.specs.declared.Sizes.{Sizes}
+use Rattle.semantics.specs.declared.Atom.{Atom}
+use Rattle.semantics.specs.declared.AtomValue.{AtomValue}
+use Rattle.semantics.specs.declared.AtomValue.the-variants.{Constant, Received}
+use Rattle.wellformed.specs.Rules.{ValueRight, AtomRight, RuleRight, product-atom, role-begins, begins-global}
+use Rattle.wellformed.specs.Entries.{MemberRight, EntryRight, OwnMark, StateRight, message-entry, compensation-entry, abort-entry, member-entry, Sound}
+use Rattle.wellformed.specs.Picks.{ReactGiven, pick-among, marks-left, owners-zero, owners-positive, least-zero, least-owner, owner-pick}
+
+-- ---- the products, for any rule and state
+
+module _ (R : Rule) (s : State) (es : List Entry) (i : ℕ) where
+  pub among-products : (q : ℕ) (atoms : List Atom) (e : Entry) → Among e (products R s es i q atoms) → (a : Atom) × (o : Origin) × Among a atoms × (e ≡ made R s es o a)
+  among-products q [] e m = absurd m
+  among-products q (a ∷ atoms) e (inl k) = (a, record { maker = i; index = q }, inl refl, k)
+  among-products q (a ∷ atoms) e (inr m) = let (b, o, n, k) = among-products (suc q) atoms e m in (b, o, inr n, k)
+
+  pub products-among : (q : ℕ) (atoms : List Atom) (a : Atom) → Among a atoms → (o : Origin) × Among (made R s es o a) (products R s es i q atoms)
+  products-among q [] a m = absurd m
+  products-among q (b ∷ atoms) a (inl e) = (record { maker = i; index = q }, inl (ap (made R s es (record { maker = i; index = q })) e))
+  products-among q (b ∷ atoms) a (inr m) = let (o, n) = products-among (suc q) atoms a m in (o, inr n)
+
+  -- the marks that are made: one for each begin, of value N
+  pub marks-made : (q : ℕ) (atoms : List Atom) → markValues (products R s es i q atoms) ≡ replicate (count (hasRole 2) atoms) (s .next)
+  marks-made q [] = refl
+  marks-made q (a ∷ atoms) =
+      go (marks-made (suc q) atoms) (eqb (a .role) 2) (eqb (a .role) 4) (eqb (a .role) 5) (made R s es (record { maker = i; index = q }) a) refl refl
+    where
+      fewer : (n : ℕ) → replicate n (s .next) ≡ replicate (0 + n) (s .next)
+      fewer n = let e : n ≡ 0 + n = omega arith in ap (λ (n : ℕ). replicate n (s .next)) e
+
+      more : (n : ℕ) → s .next ∷ replicate n (s .next) ≡ replicate (1 + n) (s .next)
+      more n = let e : suc n ≡ 1 + n = omega arith in ap (λ (n : ℕ). replicate n (s .next)) e
+
+      -- by the tests of the atom's role
+      go : markValues (products R s es i (suc q) atoms) ≡ replicate (count (hasRole 2) atoms) (s .next) → (b c d : Bool) (e : Entry)
+          → e .kind ≡ cond b 3 (cond c 1 (cond d 2 0)) → e .value ≡ cond b (s .next) (valueIn (map (λ e. e .value) es) (a .value))
+          → map (λ e. e .value) (keepIf (isMemberMark e) e (keep isMemberMark (products R s es i (suc q) atoms))) ≡ replicate (oneIf b + count (hasRole 2) atoms) (s .next)
+      go ih true c d e k v = rw (eq-eqb (e .kind) 3 k, v, ih) (more (count (hasRole 2) atoms))
+      go ih false true d e k v = rw (ne-eqb (e .kind) 3 (λ q. omega arith), ih) (fewer (count (hasRole 2) atoms))
+      go ih false false true e k v = rw (ne-eqb (e .kind) 3 (λ q. omega arith), ih) (fewer (count (hasRole 2) atoms))
+      go ih false false false e k v = rw (ne-eqb (e .kind) 3 (λ q. omega arith), ih) (fewer (count (hasRole 2) atoms))
+
+-- merging changes no mark's value
+pub marks-merged : (os : List ℕ) (es : List Entry) → markValues (map (merged os) es) ≡ markValues es
+marks-merged os [] = refl
+marks-merged os (e ∷ es) = go (isMemberMark e) (marks-merged os es)
+  where
+    go : (b : Bool) → markValues (map (merged os) es) ≡ markValues es
+        → map (λ e. e .value) (keepIf b (merged os e) (keep isMemberMark (map (merged os) es))) ≡ map (λ e. e .value) (keepIf b e (keep isMemberMark es))
+    go true ih = rw ih
+    go false ih = ih
+
+-- ---- an allowed reaction by a rule of an accepted table
+
+module _ {z : Sizes} {R : Rule} (right : RuleRight z R) {s : State} (sound : Sound z s) {ps : List ℕ} (g : ReactGiven R s ps) (i : ℕ) where
+  abbrev os : List ℕ
+  os = ownersAt s ps
+
+  abbrev new : List Entry
+  new = products R s (picked s ps) i 0 (productAtoms R)
+
+  abbrev all-entries : List Entry
+  all-entries = map (merged os) (without ps 0 (s .entries)) ++ new
+
+  abbrev next′ : ℕ
+  next′ = cond (begins R) (suc (s .next)) (s .next)
+
+  next-le : s .next ≤ next′
+  next-le = go (begins R)
+    where
+      go : (b : Bool) → s .next ≤ cond b (suc (s .next)) (s .next)
+      go true = omega arith
+      go false = omega arith
+
+  id-free : begins R ≡ true → s .next < 65536
+  id-free h = ltb-true (s .next) 65536 (given-holds (begins R) (ltb (s .next) 65536) (g .ids) h)
+
+  next-high : next′ ≤ 65536
+  next-high = by-bool (begins R) (λ h. let l = id-free h in rw h (omega arith)) (λ h. rw h (sound .next-high))
+
+  -- ---- what stays
+
+  -- a mark stays, under the owner that its batch now has
+  mark-stays : (m : Entry) → Among m (s .entries) → m .kind ≡ 3 → Among (merged os m) all-entries
+  mark-stays m k e =
+      let h : Among m (keep isMemberMark (without ps 0 (s .entries))) = rw (marks-left g) (keep-among isMemberMark (s .entries) m k (eq-eqb (m .kind) 3 e)) in
+      among-left (map (merged os) (without ps 0 (s .entries))) new (merged os m)
+      (map-among (merged os) (without ps 0 (s .entries)) m (among-keep isMemberMark (without ps 0 (s .entries)) m h .0))
+
+  merged-in : (e : Entry) → Among (e .owner) os → merged os e .owner ≡ least os
+  merged-in e m = rw (among-isIn (e .owner) os m)
+
+  merged-out : (e : Entry) → isIn (e .owner) os ≡ false → merged os e .owner ≡ e .owner
+  merged-out e h = rw h
+
+  -- the batch of the products of a local or merge rule, and of what is merged, has its mark
+  home-mark : Among (least os) os → (least os ≡ 0 → ⊥) → OwnMark all-entries (least os)
+  home-mark k n =
+      let (e, m, q) = owner-pick g (least os) k in
+      let (d, l, a, b, c) = sound .right .own e m (λ o. n (q ∙ o)) in
+      (merged os d, mark-stays d l a, a, merged-in d (subst (λ (n : ℕ). Among n os) (q ∙ sym b) k), c ∙ sym q)
+
+  -- what is merged stays outside or inside a batch
+  merged-zero : (e : Entry) → merged os e .owner ≡ 0 → e .owner ≡ 0
+  merged-zero e h = by-bool (isIn (e .owner) os)
+      (λ q. let m = isIn-among (e .owner) os q in let w = merged-in e m in
+      by-bool (eqb (R .class) 0) (λ c. owners-zero g (eqb-true (R .class) 0 c) (e .owner) m)
+      (λ c. absurd (let l = owners-positive g (eqb-false (R .class) 0 c) (least os) (least-of os (e .owner) m) in omega arith)))
+      (λ q. let w = merged-out e q in omega arith)
+
+  merged-le : (e : Entry) → merged os e .owner ≤ e .owner
+  merged-le e = by-bool (isIn (e .owner) os)
+      (λ q. let m = isIn-among (e .owner) os q in let w = merged-in e m in let l = least-le os (e .owner) m in omega arith)
+      (λ q. let w = merged-out e q in omega arith)
+
+  kept-right : (e : Entry) → Among e (s .entries) → EntryRight z next′ (merged os e)
+  kept-right e m = let r = sound .right .each e m in record {
+    kind-le = r .kind-le;
+    global = λ o. r .global (merged-zero e o);
+    message = r .message;
+    compensation = r .compensation;
+    abort-mark = r .abort-mark;
+    member-mark = λ k. let q = r .member-mark k in record {
+      port-zero = q .port-zero;
+      owner-low = positive (merged os e .owner) (λ o. let w = merged-zero e o in let l = q .owner-low in omega arith);
+      owner-le = let l = merged-le e in let h = q .owner-le in omega arith;
+      value-lt = let l = next-le in let h = q .value-lt in omega arith;
+    };
+  }
+    where
+      positive : (n : ℕ) → (n ≡ 0 → ⊥) → 1 ≤ n
+      positive n h = omega arith
+
+  kept-own : (e : Entry) → Among e (s .entries) → (merged os e .owner ≡ 0 → ⊥) → OwnMark all-entries (merged os e .owner)
+  kept-own e m n = by-bool (isIn (e .owner) os)
+      (λ q. let k = isIn-among (e .owner) os q in let w = merged-in e k in
+      rw w (home-mark (least-of os (e .owner) k) (λ o. n (w ∙ o))))
+      (λ q. let w = merged-out e q in
+      let (d, l, a, b, c) = sound .right .own e m (λ o. n (w ∙ o)) in
+      rw w (merged os d, mark-stays d l a, a, merged-out d (rw b q) ∙ b, c))
+
+  -- ---- what is made
+
+  home-positive : (R .class ≡ 0 → ⊥) → 1 ≤ least os
+  home-positive c = owners-positive g c (least os) (least-owner g (right .consumes-some))
+
+  module _ (a : Atom) (o : Origin) where
+    abbrev e : Entry
+    e = made R s (picked s ps) o a
+
+    owner-next : R .class ≡ 0 → (a .role ≡ 1 → ⊥) → e .owner ≡ s .next
+    owner-next c n = rw (eq-eqb (R .class) 0 c, ne-eqb (a .role) 1 n)
+
+    owner-home : (R .class ≡ 0 → ⊥) → e .owner ≡ least os
+    owner-home c = rw (ne-eqb (R .class) 0 c)
+
+    owner-emitted : R .class ≡ 0 → a .role ≡ 1 → e .owner ≡ 0
+    owner-emitted c r = let h : e .owner ≡ least os = rw (eq-eqb (R .class) 0 c, eq-eqb (a .role) 1 r) in h ∙ least-zero g c
+
+    value-other : (a .role ≡ 2 → ⊥) → e .value ≡ valueIn (map (λ e. e .value) (picked s ps)) (a .value)
+    value-other n = rw (ne-eqb (a .role) 2 n)
+
+  mark-made : (a : Atom) (o : Origin) → R .class ≡ 0 → a .role ≡ 2 → (e a o .kind ≡ 3) × (e a o .owner ≡ s .next) × (e a o .value ≡ s .next)
+  mark-made a o c r = (rw (eq-eqb (a .role) 2 r), owner-next a o c (λ q. omega arith), rw (eq-eqb (a .role) 2 r))
