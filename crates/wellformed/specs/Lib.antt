@@ -3,3 +3,4 @@ pub mod Rules
 pub mod Entries
 pub mod Picks
 pub mod Reaction
+pub mod Ends

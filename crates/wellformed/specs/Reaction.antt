@@ -183,3 +183,142 @@ module _ {z : Sizes} {R : Rule} (right : RuleRight z R) {s : State} (sound : Sou
 
   mark-made : (a : Atom) (o : Origin) → R .class ≡ 0 → a .role ≡ 2 → (e a o .kind ≡ 3) × (e a o .owner ≡ s .next) × (e a o .value ≡ s .next)
   mark-made a o c r = (rw (eq-eqb (a .role) 2 r), owner-next a o c (λ q. omega arith), rw (eq-eqb (a .role) 2 r))
+
+  -- a begin's mark is the own mark of the transaction that it opens
+  begun-mark : begins R ≡ true → OwnMark all-entries (s .next)
+  begun-mark h =
+      let (a, m, q) = any-some (hasRole 2) (R .atoms) h in
+      let r = eqb-true (a .role) 2 q in
+      let n : not (hasRole 0 a) ≡ true = rw (ne-eqb (a .role) 0 (λ l. omega arith)) in
+      let (o, k) = products-among R s (picked s ps) i 0 (productAtoms R) a (keep-among (λ a. not (hasRole 0 a)) (R .atoms) a m n) in
+      let (b, c, d) = mark-made a o (begins-global right h) r in
+      (e a o, among-right (map (merged os) (without ps 0 (s .entries))) new (e a o) k, b, c, d)
+
+  module _ (a : Atom) (m : Among a (productAtoms R)) (o : Origin) where
+    atom : AtomRight z R a
+    atom = product-atom right a m .0
+
+    in-rule : Among a (R .atoms)
+    in-rule = among-keep (λ a. not (hasRole 0 a)) (R .atoms) a m .0
+
+    -- a transaction's products but emits are made only by a global rule, or are abort marks
+    class-zero : (a .role ≡ 1 → ⊥) → (a .role ≡ 5 → ⊥) → R .class ≡ 0
+    class-zero f h = by-bool (eqb (R .class) 0) (eqb-true (R .class) 0)
+        (λ c. absurd (none (atom .inner (eqb-false (R .class) 0 c)) (product-atom right a m .1)))
+      where
+        none : (a .role ≡ 0) ⊎ (a .role ≡ 1) ⊎ (a .role ≡ 5) → 1 ≤ a .role → ⊥
+        none (inl q) l = omega arith
+        none (inr (inl q)) l = f q
+        none (inr (inr q)) l = h q
+
+    owner-positive : (a .role ≡ 1 → ⊥) → 1 ≤ e a o .owner
+    owner-positive n = by-bool (eqb (R .class) 0)
+        (λ c. let w = owner-next a o (eqb-true (R .class) 0 c) n in let l = sound .next-low in omega arith)
+        (λ c. let w = owner-home a o (eqb-false (R .class) 0 c) in let l = home-positive (eqb-false (R .class) 0 c) in omega arith)
+
+    made-right : EntryRight z next′ (e a o)
+    made-right = go (role-cases (a .role) (atom .role-le) (product-atom right a m .1))
+      where
+        role-cases : (n : ℕ) → n ≤ 5 → 1 ≤ n → (n ≡ 1) ⊎ (n ≡ 2) ⊎ (n ≡ 3) ⊎ (n ≡ 4) ⊎ (n ≡ 5)
+        role-cases n h l =
+            by-bool (eqb n 1) (λ q. inl (eqb-true n 1 q)) (λ a. by-bool (eqb n 2) (λ q. inr (inl (eqb-true n 2 q))) (λ b. by-bool (eqb n 3) (λ q. inr (inr (inl (eqb-true n 3 q))))
+            (λ c. by-bool (eqb n 4) (λ q. inr (inr (inr (inl (eqb-true n 4 q)))))
+            (λ d. inr (inr (inr (inr (let a = eqb-false n 1 a in let b = eqb-false n 2 b in let c = eqb-false n 3 c in let d = eqb-false n 4 d in omega arith))))))))
+
+        go : (a .role ≡ 1) ⊎ (a .role ≡ 2) ⊎ (a .role ≡ 3) ⊎ (a .role ≡ 4) ⊎ (a .role ≡ 5) → EntryRight z next′ (e a o)
+        go (inl q) = message-entry z next′ (e a o) (ap kindMade q) (atom .port-lt)
+            (λ h. by-bool (eqb (R .class) 0) (λ c. atom .emit-global q (eqb-true (R .class) 0 c))
+            (λ c. absurd (let w = owner-home a o (eqb-false (R .class) 0 c) in let l = home-positive (eqb-false (R .class) 0 c) in omega arith)))
+        go (inr (inl q)) =
+            let b = role-begins right a in-rule q in
+            let (k, w, v) = mark-made a o (begins-global right b) q in
+            let n : next′ ≡ suc (s .next) = rw b in
+            let l = sound .next-low in
+            member-entry z next′ (e a o) k (record {
+              port-zero = atom .mark-bare (inl q) .0;
+              owner-low = omega arith;
+              owner-le = omega arith;
+              value-lt = omega arith;
+            })
+        go (inr (inr (inl q))) = message-entry z next′ (e a o) (ap kindMade q) (atom .port-lt) (λ h. absurd (let l = owner-positive (λ r. omega arith) in omega arith))
+        go (inr (inr (inr (inl q)))) = compensation-entry z next′ (e a o) (ap kindMade q) (owner-positive (λ r. omega arith)) (atom .compensate-global q)
+        go (inr (inr (inr (inr q)))) =
+            let (p, v) = atom .mark-bare (inr q) in
+            abort-entry z next′ (e a o) (ap kindMade q) (owner-positive (λ r. omega arith)) p
+            (value-other a o (λ r. omega arith) ∙ ap (valueIn (map (λ e. e .value) (picked s ps))) v)
+
+    made-own : (e a o .owner ≡ 0 → ⊥) → OwnMark all-entries (e a o .owner)
+    made-own n = by-bool (eqb (R .class) 0)
+        (λ c. let c = eqb-true (R .class) 0 c in
+        let r : a .role ≡ 1 → ⊥ = λ q. n (owner-emitted a o c q) in
+        rw (owner-next a o c r) (begun-mark (by-bool (eqb (a .role) 2) (λ q. role-begins right a in-rule (eqb-true (a .role) 2 q))
+        (λ q. atom .begun c (three (a .role) (product-atom right a m .1) r (eqb-false (a .role) 2 q))))))
+        (λ c. let c = eqb-false (R .class) 0 c in let l = home-positive c in
+        rw (owner-home a o c) (home-mark (least-owner g (right .consumes-some)) (λ q. omega arith)))
+      where
+        three : (n : ℕ) → 1 ≤ n → (n ≡ 1 → ⊥) → (n ≡ 2 → ⊥) → 3 ≤ n
+        three n l f h = omega arith
+
+    made-small : e a o .value < 65536
+    made-small = by-bool (eqb (a .role) 2)
+        (λ q. let q = eqb-true (a .role) 2 q in let b = role-begins right a in-rule q in
+        let v = mark-made a o (begins-global right b) q .2 in let l = id-free b in omega arith)
+        (λ q. let v = value-other a o (eqb-false (a .role) 2 q) in let l = value-lt (a .value) (atom .value-right) in omega arith)
+      where
+        picked-small : (v : ℕ) → Among v (map (λ e. e .value) (picked s ps)) → v < 65536
+        picked-small v k = let (d, l, q) = among-map (λ e. e .value) (picked s ps) v k in let h = sound .small d (pick-among g d l) in omega arith
+
+        value-lt : (v : AtomValue) → ValueRight (length (consumed R)) v → valueIn (map (λ e. e .value) (picked s ps)) v < 65536
+        value-lt (Constant v) h = h
+        value-lt (Received n) h = getD-each (λ v. v < 65536) 0 (map (λ e. e .value) (picked s ps)) picked-small (omega arith) n
+
+  -- ---- the whole
+
+  from : (d : Entry) → Among d all-entries
+      → ((e : Entry) × Among e (s .entries) × (d ≡ merged os e)) ⊎ ((a : Atom) × (o : Origin) × Among a (productAtoms R) × (d ≡ made R s (picked s ps) o a))
+  from d m = ⊎-elim
+      (λ k. let (e, l, q) = among-map (merged os) (without ps 0 (s .entries)) d k in inl (e, among-without ps 0 (s .entries) e l, q))
+      (λ k. inr (among-products R s (picked s ps) i 0 (productAtoms R) d k))
+      (among-append (map (merged os) (without ps 0 (s .entries))) new d m)
+
+  marks-all : markValues all-entries ≡ markValues (s .entries) ++ replicate (count (hasRole 2) (productAtoms R)) (s .next)
+  marks-all =
+      ap (map (λ e. e .value)) (keep-append isMemberMark (map (merged os) (without ps 0 (s .entries))) new)
+      ∙ map-append (λ e. e .value) (keep isMemberMark (map (merged os) (without ps 0 (s .entries)))) (keep isMemberMark new)
+      ∙ rw (marks-merged os (without ps 0 (s .entries)), marks-left g, marks-made R s (picked s ps) i 0 (productAtoms R))
+
+  next-new : isIn (s .next) (markValues (s .entries)) ≡ false
+  next-new = is-false (isIn (s .next) (markValues (s .entries))) (λ h.
+      let (e, m, q) = among-map (λ e. e .value) (keep isMemberMark (s .entries)) (s .next) (isIn-among (s .next) (markValues (s .entries)) h) in
+      let (k, t) = among-keep isMemberMark (s .entries) e m in
+      let l = sound .right .each e k .member-mark (eqb-true (e .kind) 3 t) .value-lt in omega arith)
+
+  marks-distinct : distinct (markValues all-entries) ≡ true
+  marks-distinct = rw marks-all (go (count (hasRole 2) (productAtoms R)) (let l = count-keep-le (hasRole 2) (λ a. not (hasRole 0 a)) (R .atoms) in let h = right .begins-le in omega arith))
+    where
+      go : (n : ℕ) → n ≤ 1 → distinct (markValues (s .entries) ++ replicate n (s .next)) ≡ true
+      go zero h = rw (append-nil (markValues (s .entries))) (sound .right .marks)
+      go (suc zero) h = distinct-snoc (markValues (s .entries)) (s .next) (sound .right .marks) next-new
+      go (suc (suc n)) h = absurd (omega arith)
+
+  pub react-keeps : Sound z (reacted R i s ps)
+  unfolding reacted
+  react-keeps = record {
+    right = record {
+      each = λ d m. ⊎-elim
+          (λ (e, k, q). rw q (kept-right e k))
+          (λ (a, o, k, q). rw q (made-right a k o))
+          (from d m);
+      marks = marks-distinct;
+      own = λ d m n. ⊎-elim
+          (λ (e, k, q). rw q (kept-own e k (λ h. n (ap (λ (x : Entry). x .owner) q ∙ h))))
+          (λ (a, o, k, q). rw q (made-own a k o (λ h. n (ap (λ (x : Entry). x .owner) q ∙ h))))
+          (from d m);
+    };
+    next-low = let l = next-le in let h = sound .next-low in omega arith;
+    next-high = next-high;
+    small = λ d m. ⊎-elim
+        (λ (e, k, q). rw q (sound .small e k))
+        (λ (a, o, k, q). rw q (made-small a k o))
+        (from d m);
+  }
