@@ -1,4 +1,4 @@
--- A release or call-off keeps a state sound.
+-- A release or call-off keeps a state sound, and its values small.
 use Prim.Native.Nat.{ℕ, zero, suc, _+_, _≤_, _<_}
 use mathlib.Core.Bool.{Bool, true, false, _&&_, _||_, not, cond}
 use mathlib.Core.List.{List, [], _∷_, _++_, map}
@@ -15,7 +15,7 @@ use Rattle.semantics.specs.State.{Entry, State, isMemberMark, owned, markValues
 use Rattle.semantics.specs.Move.{toGlobal, freed, ended}
 use Rattle.semantics.specs.Table.{portCount}
 use Rattle.semantics.specs.declared.Sizes.{Sizes}
-use Rattle.wellformed.specs.Entries.{EntryRight, OwnMark, StateRight, message-entry, Sound}
+use Rattle.wellformed.specs.Entries.{EntryRight, OwnMark, StateRight, message-entry, Sound, Small}
 
 -- what is freed by the end of b, and what stays
 module _ (p : Entry → Bool) (b : ℕ) where
@@ -74,7 +74,10 @@ module _ {z : Sizes} {s : State} (sound : Sound z s) (p : Entry → Bool) (b : �
     };
     next-low = sound .next-low;
     next-high = sound .next-high;
-    small = λ d m. let (e, k, c) = among-ended p b (s .entries) d m in ⊎-elim
-        (λ (o, t, q). rw q (sound .small e k))
-        (λ (n, q). rw q (sound .small e k)) c;
   }
+
+pub ended-small : (p : Entry → Bool) (b : ℕ) (s : State) → Small (s .entries) → Small (ended p b s .entries)
+unfolding ended
+ended-small p b s small d m = let (e, k, c) = among-ended p b (s .entries) d m in ⊎-elim
+    (λ (o, t, q). rw q (small e k))
+    (λ (n, q). rw q (small e k)) c

@@ -158,10 +158,14 @@ module _ (z : Sizes) (next : ℕ) (e : Entry) where
     member-mark = λ q. r;
   }
 
--- ---- the invariant of a log: a well-formed state whose numbers fit their fields
+-- ---- the invariants of a log
 
+-- a well-formed state
 pub record Sound (z : Sizes) (s : State) : Type 0 where
   pub right : StateRight z s
   pub next-low : 1 ≤ s .next
   pub next-high : s .next ≤ 65536
-  pub small : (e : Entry) → Among e (s .entries) → e .value < 65536
+
+-- values fit their field
+abbrev pub Small : List Entry → Type 0
+Small es = (e : Entry) → Among e es → e .value < 65536

@@ -4,3 +4,5 @@ pub mod Entries
 pub mod Picks
 pub mod Reaction
 pub mod Ends
+pub mod Length
+pub mod Preservation

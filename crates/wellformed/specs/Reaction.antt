@@ -1,4 +1,4 @@
--- An allowed reaction keeps a state sound.
+-- An allowed reaction keeps a state sound, and its values small.
 use Prim.Native.Nat.{ℕ, zero, suc, _+_, _≤_, _<_}
 use mathlib.Core.Bool.{Bool, true, false, _&&_, _||_, not, cond}
 use mathlib.Core.List.{List, [], _∷_, _++_, map, map-append, append-nil}
@@ -24,7 +24,7 @@ use Rattle.semantics.specs.declared.Atom.{Atom}
 use Rattle.semantics.specs.declared.AtomValue.{AtomValue}
 use Rattle.semantics.specs.declared.AtomValue.the-variants.{Constant, Received}
 use Rattle.wellformed.specs.Rules.{ValueRight, AtomRight, RuleRight, product-atom, role-begins, begins-global}
-use Rattle.wellformed.specs.Entries.{MemberRight, EntryRight, OwnMark, StateRight, message-entry, compensation-entry, abort-entry, member-entry, Sound}
+use Rattle.wellformed.specs.Entries.{MemberRight, EntryRight, OwnMark, StateRight, message-entry, compensation-entry, abort-entry, member-entry, Sound, Small}
 use Rattle.wellformed.specs.Picks.{ReactGiven, pick-among, marks-left, owners-zero, owners-positive, least-zero, least-owner, owner-pick}
 
 -- ---- the products, for any rule and state
@@ -259,14 +259,14 @@ module _ {z : Sizes} {R : Rule} (right : RuleRight z R) {s : State} (sound : Sou
         three : (n : ℕ) → 1 ≤ n → (n ≡ 1 → ⊥) → (n ≡ 2 → ⊥) → 3 ≤ n
         three n l f h = omega arith
 
-    made-small : e a o .value < 65536
-    made-small = by-bool (eqb (a .role) 2)
+    made-small : Small (s .entries) → e a o .value < 65536
+    made-small small = by-bool (eqb (a .role) 2)
         (λ q. let q = eqb-true (a .role) 2 q in let b = role-begins right a in-rule q in
         let v = mark-made a o (begins-global right b) q .2 in let l = id-free b in omega arith)
         (λ q. let v = value-other a o (eqb-false (a .role) 2 q) in let l = value-lt (a .value) (atom .value-right) in omega arith)
       where
         picked-small : (v : ℕ) → Among v (map (λ e. e .value) (picked s ps)) → v < 65536
-        picked-small v k = let (d, l, q) = among-map (λ e. e .value) (picked s ps) v k in let h = sound .small d (pick-among g d l) in omega arith
+        picked-small v k = let (d, l, q) = among-map (λ e. e .value) (picked s ps) v k in let h = small d (pick-among g d l) in omega arith
 
         value-lt : (v : AtomValue) → ValueRight (length (consumed R)) v → valueIn (map (λ e. e .value) (picked s ps)) v < 65536
         value-lt (Constant v) h = h
@@ -317,8 +317,11 @@ module _ {z : Sizes} {R : Rule} (right : RuleRight z R) {s : State} (sound : Sou
     };
     next-low = let l = next-le in let h = sound .next-low in omega arith;
     next-high = next-high;
-    small = λ d m. ⊎-elim
-        (λ (e, k, q). rw q (sound .small e k))
-        (λ (a, o, k, q). rw q (made-small a k o))
-        (from d m);
   }
+
+  pub react-small : Small (s .entries) → Small (reacted R i s ps .entries)
+  unfolding reacted
+  react-small small d m = ⊎-elim
+      (λ (e, k, q). rw q (small e k))
+      (λ (a, o, k, q). rw q (made-small a k o small))
+      (from d m)

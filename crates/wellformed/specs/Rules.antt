@@ -13,14 +13,14 @@ use Rattle.lists.specs.Choices.{by-bool, clash, is-true, is-false, and-intro, a
 use Rattle.lists.specs.Members.{Among, all-each, any-some, any-intro, among-map, map-among, among-keep}
 use Rattle.lists.specs.Totals.{length-keep, count-map, count-le}
 use Rattle.semantics.specs.Words.{atomRole, atomMode, portOf, valueOf}
-use Rattle.semantics.specs.Table.{Rule, sizesOf, portCount, classOf, isRole, modeOk, consumeOk, emitOk, markOk, beginOk, innerOk, compensateOk, atomOk, shapeOf, ruleOk, atomValue, atomOf, ruleOf, tableOf, ruleAt, hasRole, consumed, productAtoms, begins, tableSizesOk, tableContentsOk}
+use Rattle.semantics.specs.Table.{Table, Rule, sizesOf, portCount, classOf, isRole, modeOk, consumeOk, emitOk, markOk, beginOk, innerOk, compensateOk, atomOk, shapeOf, ruleOk, atomValue, atomOf, ruleOf, tableOf, ruleAt, hasRole, consumed, productAtoms, begins, tableSizesOk, tableContentsOk}
 use Rattle.semantics.specs.Answers.{tableVerdict}
 use Rattle.semantics.specs.declared.Sizes.{Sizes}
 use Rattle.semantics.specs.declared.Atom.{Atom}
 use Rattle.semantics.specs.declared.AtomValue.{AtomValue}
 use Rattle.semantics.specs.declared.AtomValue.the-variants.{Constant, Received}
 use Rattle.semantics.specs.declared.Verdict.the-variants.{Allowed}
-use Rattle.wellformed.specs.Verdicts.{table-given, rule-given, ruleAt-tableOf, wordsAt}
+use Rattle.wellformed.specs.Verdicts.{table-given, sizes-given, rule-given, sizes-tableOf, length-rules, ruleAt-tableOf, wordsAt}
 
 -- what an atom's value needs of its rule
 abbrev pub ValueRight : ℕ → AtomValue → Type 0
@@ -151,6 +151,16 @@ module _ (z : Sizes) (ws : List ℕ) where
 
 pub rules-right : (T : List ℕ) → tableVerdict T ≡ Allowed → (r : ℕ) → r < sizesOf T .rules → RuleRight (sizesOf T) (ruleAt (tableOf T) r)
 rules-right T h r l = rw (ruleAt-tableOf T r l) (rule-right (sizesOf T) (wordsAt T r) (rule-given T (table-given T h .1) r l))
+
+pub record TableRight (t : Table) : Type 0 where
+  pub ports : portCount (t .sizes) ≤ 256
+  pub rule : (r : ℕ) → r < length (t .rules) → RuleRight (t .sizes) (ruleAt t r)
+
+pub table-right : (T : List ℕ) → tableVerdict T ≡ Allowed → TableRight (tableOf T)
+table-right T h = record {
+  ports = rw (sizes-tableOf T) (sizes-given T (table-given T h .0) .ports);
+  rule = λ r l. rw (sizes-tableOf T) (rules-right T h r (rw (length-rules T) at l));
+}
 
 -- ---- what follows for a rule
 
