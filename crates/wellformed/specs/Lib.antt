@@ -6,3 +6,5 @@ pub mod Reaction
 pub mod Ends
 pub mod Length
 pub mod Preservation
+pub mod Bare
+pub mod RoundTrip
