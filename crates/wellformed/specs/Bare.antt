@@ -121,9 +121,6 @@ module _ (kind b : ℕ) where
   unfolding ended
   ended-bare s = λ k. record { next = s .next; entries = entries k }
     where
-      es : List Entry
-      es = keep goesOn (s .entries)
-
       entries : map bare (map (freed ofKind b) (keep goesOn (map bare (s .entries)))) ≡ map bare (map (freed ofKind b) (keep goesOn (s .entries)))
       entries =
           ap (λ (l : List Entry). map bare (map (freed ofKind b) l)) (keep-map bare goesOn (s .entries))

@@ -8,3 +8,4 @@ pub mod Length
 pub mod Preservation
 pub mod Bare
 pub mod RoundTrip
+pub mod MoveKeeps
