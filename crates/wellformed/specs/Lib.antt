@@ -9,3 +9,4 @@ pub mod Preservation
 pub mod Bare
 pub mod RoundTrip
 pub mod MoveKeeps
+pub mod OneByOne

@@ -83,7 +83,19 @@ length-stateWords s =
     let c = length-map (s .entries) wordOf in
     omega arith
 
+pub entryCount-stateWords : (s : State) → entryCount (stateWords s) ≡ length (s .entries)
+unfolding stateWords
+entryCount-stateWords s = refl
+
+pub nextOf-stateWords : (s : State) → nextOf (stateWords s) ≡ s .next
+unfolding stateWords
+nextOf-stateWords s = refl
+
 -- ---- words, read and written again
+
+pub next-stateOf : (S : List ℕ) → stateOf S .next ≡ nextOf S
+unfolding stateOf
+next-stateOf S = refl
 
 owners-entriesOf : (q : ℕ) (os ws : List ℕ) → length os ≡ length ws → map (λ e. e .owner) (entriesOf q os ws) ≡ os
 owners-entriesOf q [] ws h = refl
