@@ -1,14 +1,14 @@
 -- A list without some of its places: what is left of it, and how long it is.
-use Prim.Native.Nat.{ℕ, zero, suc, _+_, _≤_, _<_}
-use mathlib.Core.Bool.{Bool, true, false, _&&_, _||_, not, false≢true}
-use mathlib.Core.List.{List, [], _∷_, _++_, map}
-use mathlib.Core.Logic.{_⊎_, inl, inr}
-use mathlib.Core.Path.{_≡_, refl, sym, ap, subst, _∙_}
+use Prim.Native.Nat.{ℕ, suc, _+_, _<_}
+use mathlib.Core.Bool.{Bool, true, false, _&&_, not}
+use mathlib.Core.List.{List, [], _∷_}
+use mathlib.Core.Logic.{inl, inr}
+use mathlib.Core.Path.{_≡_, refl, subst}
 use native.Mathlib.Omega.{arith}
 use lib.Dec.{leb, ltb, eqb}
-use borrow.Author.Tests.{eqb-true, eqb-false, eq-eqb, ne-eqb, leb-true, leb-false, le-leb, lt-leb, ltb-true, ltb-false, lt-ltb, le-ltb}
+use borrow.Author.Tests.{eqb-true, eqb-false, leb-true, leb-false, le-leb, lt-leb, lt-ltb, le-ltb}
 use lib.ListN.{length, getD}
-use Rattle.lists.specs.Lists.{all, keepIf, keep, oneIf, count, isIn, distinct, without}
+use Rattle.lists.specs.Lists.{keepIf, keep, oneIf, count, isIn, distinct, without}
 use Rattle.lists.specs.Choices.{by-bool, and-intro}
 use Rattle.lists.specs.Totals.{count-all, count-none, count-sum, count-distinct}
 use Rattle.lists.specs.Members.{Among, all-intro}

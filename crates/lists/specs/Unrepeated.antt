@@ -1,12 +1,12 @@
 -- Lists of numbers in which none occurs twice: one more at the end, and images of a part.
 use Prim.Native.Nat.{ℕ}
-use mathlib.Core.Bool.{Bool, true, false, _&&_, _||_, not}
+use mathlib.Core.Bool.{Bool, true, false, not}
 use mathlib.Core.List.{List, [], _∷_, _++_, map}
-use mathlib.Core.Logic.{_⊎_, inl, inr, ⊎-elim}
-use mathlib.Core.Path.{_≡_, refl, sym, ap, subst, _∙_}
+use mathlib.Core.Logic.{inl, inr, ⊎-elim}
+use mathlib.Core.Path.{_≡_, refl, sym, subst}
 use borrow.Author.Tests.{not-true}
 use Rattle.lists.specs.Lists.{keepIf, keep, isIn, distinct}
-use Rattle.lists.specs.Choices.{clash, is-false, and-intro, and-left, and-right}
+use Rattle.lists.specs.Choices.{clash, is-false, and-left, and-right}
 use Rattle.lists.specs.Members.{Among, among-append, among-map, map-among, among-keep, isIn-among, among-isIn}
 
 pub distinct-snoc : (ns : List ℕ) (n : ℕ) → distinct ns ≡ true → isIn n ns ≡ false → distinct (ns ++ n ∷ []) ≡ true

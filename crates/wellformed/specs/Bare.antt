@@ -1,20 +1,19 @@
 -- Origins do not matter: to what is allowed, to what a move leaves but for origins, to a state's words, or to whether it is well formed.
-use Prim.Native.Nat.{ℕ, zero, suc, _+_}
+use Prim.Native.Nat.{ℕ, suc}
 use mathlib.Core.Bool.{Bool, true, false, _&&_, _||_, not, cond}
 use mathlib.Core.List.{List, [], _∷_, _++_, map, map-map, map-append}
 use mathlib.Core.Path.{_≡_, refl, sym, ap, _∙_}
-use lib.Dec.{leb, ltb, eqb}
-use lib.ListN.{length, getD, length-map, List·getD-map}
+use lib.Dec.{ltb, eqb}
+use lib.ListN.{length-map, List·getD-map}
 use Rattle.lists.specs.Lists.{all, any, keep, distinct, without}
 use Rattle.lists.specs.Parts.{keep-map, all-map, any-map, without-map}
 use Rattle.semantics.specs.Words.{itemWord}
 use Rattle.semantics.specs.Table.{Table, Rule, ruleAt, consumed, productAtoms, begins}
-use Rattle.semantics.specs.State.{Origin, Entry, State, isMessage, isCompensation, isAbortMark, isMemberMark, owned, stateWords, entryOk, markValues, isOwnMark, ownerOk, entriesOk}
-use Rattle.semantics.specs.Move.{unless, both, Move, react, commit, abort, nothing, entryAt, picked, onPorts, picksOk, ownersAt, ownersFit, hasId, reactAllowed, merged, made, products, reacted, isOpen, entriesIn, mayCommit, mayAbort, toGlobal, freed, ended, allowed, applied}
+use Rattle.semantics.specs.State.{Entry, State, isMessage, isAbortMark, isMemberMark, owned, stateWords, entryOk, isOwnMark, ownerOk, entriesOk}
+use Rattle.semantics.specs.Move.{unless, both, Move, react, commit, abort, nothing, picked, onPorts, ownersAt, ownersFit, hasId, merged, products, reacted, entriesIn, toGlobal, freed, ended, allowed, applied}
 use Rattle.semantics.specs.declared.Atom.{Atom}
 use Rattle.semantics.specs.declared.Sizes.{Sizes}
 use Rattle.semantics.specs.declared.Refusal.the-variants.{WrongPick, WrongOwner, NoTransaction, EndNotAllowed, NoMoreIds}
-use Rattle.semantics.specs.declared.Verdict.{Verdict}
 
 -- an entry and a state without origins; two states with the same `bareState` differ in origins alone
 abbrev pub bare : Entry → Entry

@@ -1,21 +1,19 @@
 -- A release or call-off keeps a state sound, and its values small.
-use Prim.Native.Nat.{ℕ, zero, suc, _+_, _≤_, _<_}
-use mathlib.Core.Bool.{Bool, true, false, _&&_, _||_, not, cond}
-use mathlib.Core.List.{List, [], _∷_, _++_, map}
+use Prim.Native.Nat.{ℕ, _<_}
+use mathlib.Core.Bool.{Bool, true, false, _||_, not}
+use mathlib.Core.List.{List, [], _∷_, map}
 use mathlib.Core.Logic.{_⊎_, inl, inr, ⊎-elim}
 use mathlib.Core.Path.{_≡_, refl, sym, ap, subst, _∙_}
 use native.Mathlib.Omega.{arith}
-use lib.Dec.{leb, ltb, eqb}
-use borrow.Author.Tests.{ltb-true, eqb-true, eqb-false, eq-eqb, ne-eqb}
-use Rattle.lists.specs.Lists.{keepIf, keep, distinct}
-use Rattle.lists.specs.Choices.{by-bool, clash, is-false}
+use borrow.Author.Tests.{eqb-true, eqb-false, ne-eqb}
+use Rattle.lists.specs.Lists.{keepIf, keep}
+use Rattle.lists.specs.Choices.{by-bool}
 use Rattle.lists.specs.Members.{Among, among-map, map-among, among-keep, keep-among}
 use Rattle.lists.specs.Unrepeated.{distinct-map-keep}
-use Rattle.semantics.specs.State.{Entry, State, isMemberMark, owned, markValues}
+use Rattle.semantics.specs.State.{Entry, State, isMemberMark, owned}
 use Rattle.semantics.specs.Move.{toGlobal, freed, ended}
-use Rattle.semantics.specs.Table.{portCount}
 use Rattle.semantics.specs.declared.Sizes.{Sizes}
-use Rattle.wellformed.specs.Entries.{EntryRight, OwnMark, StateRight, message-entry, Sound, Small}
+use Rattle.wellformed.specs.Entries.{EntryRight, message-entry, Sound, Small}
 
 -- what is freed by the end of b, and what stays
 module _ (p : Entry → Bool) (b : ℕ) where

@@ -2,11 +2,15 @@ pub mod Verdicts
 pub mod Rules
 pub mod Entries
 pub mod Picks
+pub mod Products
 pub mod Reaction
 pub mod Ends
-pub mod Length
 pub mod Preservation
+pub mod Length
+pub mod Step
 pub mod Bare
 pub mod RoundTrip
+pub mod Held
 pub mod MoveKeeps
 pub mod OneByOne
+pub mod OwnNumbers

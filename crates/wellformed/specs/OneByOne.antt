@@ -1,38 +1,39 @@
 -- A run is its moves made one after another, each on the words that the move before it wrote.
-use Prim.Native.Nat.{ℕ, zero, suc, _≤_, _<_}
+use Prim.Native.Nat.{ℕ, suc, _≤_}
 use mathlib.Core.Bool.{Bool, true, false, cond}
 use mathlib.Core.List.{List, [], _∷_}
-use mathlib.Core.Logic.{_⊎_, inl, inr}
-use mathlib.Core.Path.{_≡_, refl, sym, ap, subst, _∙_}
-use native.Mathlib.Omega.{arith}
+use mathlib.Core.Path.{_≡_, refl, sym, ap, _∙_}
 use lib.Dec.{leb}
 use lib.ListN.{length, length-map}
 use borrow.Author.Tests.{le-leb, leb-true}
-use Rattle.semantics.specs.Table.{Table, sizesOf, tableOf, ruleAt}
+use Rattle.semantics.specs.Table.{Table, sizesOf, tableOf}
 use Rattle.semantics.specs.State.{State, stateOf, stateWords}
-use Rattle.semantics.specs.Move.{unless, both, Move, react, commit, abort, moveOk, moveOf, picksOk, ownersAt, ownersFit, hasId, isOpen, mayCommit, mayAbort, allowed, applied, Stepped, to, refused, steppedBy, step, within, stepWords, moveVerdict}
-use Rattle.semantics.specs.Log.{movesOf, logSizesOk, Ran, ended, stopped, onward, run}
-use Rattle.semantics.specs.Answers.{number, tableVerdict, stateVerdict, Result, write, refuse, refuseMove, unlessDenied, hasWords, steppedResult, moveResult, ranResult, logVerdict, runOf, runResult}
-use Rattle.semantics.specs.declared.Refusal.{Refusal}
-use Rattle.semantics.specs.declared.Refusal.the-variants.{MoveForm, TargetTooShort, WrongPick, WrongOwner, NoTransaction, EndNotAllowed, NoMoreIds, TooManyEntries, LogSizes}
+use Rattle.semantics.specs.Move.{unless, both, moveOk, moveOf, applied, Stepped, to, refused, steppedBy, step, within, stepWords, moveVerdict}
+use Rattle.semantics.specs.Log.{movesOf, logSizesOk, onward, run}
+use Rattle.semantics.specs.Answers.{tableVerdict, stateVerdict, Result, write, refuse, refuseMove, unlessDenied, hasWords, steppedResult, moveResult, ranResult, logVerdict, runOf, runResult}
+use Rattle.semantics.specs.declared.Refusal.the-variants.{MoveForm, TargetTooShort, LogSizes}
 use Rattle.semantics.specs.declared.Verdict.{Verdict}
 use Rattle.semantics.specs.declared.Verdict.the-variants.{Allowed, Denied}
 use Rattle.wellformed.specs.Verdicts.{both-allowed, unless-allowed, state-given}
-use Rattle.wellformed.specs.Length.{stepWords-verdict, refused≢to}
+use Rattle.wellformed.specs.Step.{stepWords-verdict}
 use Rattle.wellformed.specs.Bare.{bare, bareState, words-same, allowed-same, applied-same}
 use Rattle.wellformed.specs.RoundTrip.{stateWords-stateOf}
-use Rattle.wellformed.specs.MoveKeeps.{Held, stateOf-held, reread, words-pass, step-holds}
+use Rattle.wellformed.specs.Held.{Held, stateOf-held, reread, words-pass, step-holds}
 
--- on with the words that a move wrote; a refusal stops with the move's place and own number
+-- on with the words that a move wrote; a refusal stops with the move's place and own number (a single move is refused by `refuse` alone)
 abbrev pub thenOn : Result → ℕ → (List ℕ → Result) → Result
 thenOn (write ws) i rest = rest ws
 thenOn (refuse r) i rest = refuseMove i r
 thenOn (refuseMove j r) i rest = refuseMove i r
 
--- the moves made by single calls: the first gets S, each later one the words that the move before it wrote. The first has the place i.
-abbrev pub oneByOne : ℕ → List ℕ → ℕ → List ℕ → List (List ℕ) → List ℕ → Result
-oneByOne ceiling T i S [] target = write S
-oneByOne ceiling T i S (m ∷ ms) target = thenOn (moveResult ceiling T S m target) i (λ ws. oneByOne ceiling T (suc i) ws ms target)
+-- the first of these moves has the place i
+abbrev pub oneByOneFrom : ℕ → ℕ → List ℕ → List ℕ → List (List ℕ) → List ℕ → Result
+oneByOneFrom i ceiling T S [] target = write S
+oneByOneFrom i ceiling T S (m ∷ ms) target = thenOn (moveResult ceiling T S m target) i (λ ws. oneByOneFrom (suc i) ceiling T ws ms target)
+
+-- moves made by single calls: the first gets S, each later one the words that the move before it wrote
+abbrev pub oneByOne : ℕ → List ℕ → List ℕ → List (List ℕ) → List ℕ → Result
+oneByOne = oneByOneFrom 0
 
 -- ---- a single move
 
@@ -73,102 +74,40 @@ steppedResult-same ceiling t i j s s′ m h =
 -- ---- a log
 
 module _ (ceiling : ℕ) (c : ceiling ≤ 1024) (T : List ℕ) (table : tableVerdict T ≡ Allowed) (target : List ℕ) (l : 2050 ≤ length target) where
-  run-held : (i : ℕ) (s : State) → Held (sizesOf T) s → (ms : List (List ℕ)) → ranResult (run ceiling (tableOf T) i s ms) ≡ oneByOne ceiling T i (stateWords s) ms target
+  run-held : (i : ℕ) (s : State) → Held (sizesOf T) s → (ms : List (List ℕ)) → ranResult (run ceiling (tableOf T) i s ms) ≡ oneByOneFrom i ceiling T (stateWords s) ms target
   unfolding run
   run-held i s h [] = refl
   run-held i s h (m ∷ ms) =
       go (stepWords ceiling (tableOf T) (suc i) s m) refl (λ s′ k. run-held (suc i) s′ k ms)
-      ∙ ap (λ (r : Result). thenOn r i (λ ws. oneByOne ceiling T (suc i) ws ms target)) (sym same)
+      ∙ ap (λ (r : Result). thenOn r i (λ ws. oneByOneFrom (suc i) ceiling T ws ms target)) (sym same)
     where
       same : moveResult ceiling T (stateWords s) m target ≡ steppedResult (stepWords ceiling (tableOf T) (suc i) s m)
       same = moveResult-step ceiling T (stateWords s) m target (words-pass T table s h) l
           ∙ steppedResult-same ceiling (tableOf T) 1 (suc i) (stateOf (stateWords s)) s m (reread T table s h)
 
       go : (x : Stepped) → stepWords ceiling (tableOf T) (suc i) s m ≡ x
-          → ((s′ : State) → Held (sizesOf T) s′ → ranResult (run ceiling (tableOf T) (suc i) s′ ms) ≡ oneByOne ceiling T (suc i) (stateWords s′) ms target)
-          → ranResult (onward x i (λ s′. run ceiling (tableOf T) (suc i) s′ ms)) ≡ thenOn (steppedResult x) i (λ ws. oneByOne ceiling T (suc i) ws ms target)
+          → ((s′ : State) → Held (sizesOf T) s′ → ranResult (run ceiling (tableOf T) (suc i) s′ ms) ≡ oneByOneFrom (suc i) ceiling T (stateWords s′) ms target)
+          → ranResult (onward x i (λ s′. run ceiling (tableOf T) (suc i) s′ ms)) ≡ thenOn (steppedResult x) i (λ ws. oneByOneFrom (suc i) ceiling T ws ms target)
       go (to s′) e ih = ih s′ (step-holds T table ceiling (suc i) s m s′ c h e)
       go (refused r) e ih = refl
 
 pub run-one-by-one : (ceiling : ℕ) → ceiling ≤ 1024 → (T S target : List ℕ) → stateVerdict T S ≡ Allowed → 2050 ≤ length target → (ms : List (List ℕ))
-    → ranResult (run ceiling (tableOf T) 0 (stateOf S) ms) ≡ oneByOne ceiling T 0 S ms target
+    → ranResult (run ceiling (tableOf T) 0 (stateOf S) ms) ≡ oneByOne ceiling T S ms target
 run-one-by-one ceiling c T S target h l ms =
     let (table, k, e) = state-given S T h in
     run-held ceiling c T table target l 0 (stateOf S) (stateOf-held T S h) ms
-    ∙ ap (λ (ws : List ℕ). oneByOne ceiling T 0 ws ms target) (stateWords-stateOf S k)
+    ∙ ap (λ (ws : List ℕ). oneByOne ceiling T ws ms target) (stateWords-stateOf S k)
 
 -- every call of the run, refusals too
 pub runResult-one-by-one : (ceiling : ℕ) → ceiling ≤ 1024 → (T S L target : List ℕ)
-    → runResult ceiling T S L target ≡ unlessDenied (both (logVerdict T S L) (hasWords 2050 target)) (oneByOne ceiling T 0 S (movesOf L) target)
+    → runResult ceiling T S L target ≡ unlessDenied (both (logVerdict T S L) (hasWords 2050 target)) (oneByOne ceiling T S (movesOf L) target)
 unfolding runResult logVerdict
 runResult-one-by-one ceiling c T S L target = go (both (logVerdict T S L) (hasWords 2050 target)) refl
   where
     go : (v : Verdict) → both (logVerdict T S L) (hasWords 2050 target) ≡ v
-        → unlessDenied v (ranResult (runOf ceiling T S L)) ≡ unlessDenied v (oneByOne ceiling T 0 S (movesOf L) target)
+        → unlessDenied v (ranResult (runOf ceiling T S L)) ≡ unlessDenied v (oneByOne ceiling T S (movesOf L) target)
     go (Denied r) e = refl
     go Allowed e =
         let (a, b) = both-allowed (logVerdict T S L) (hasWords 2050 target) e in
         let (s, k) = both-allowed (stateVerdict T S) (unless (logSizesOk L) LogSizes) a in
         run-one-by-one ceiling c T S target s (leb-true 2050 (length target) (unless-allowed (leb 2050 (length target)) TargetTooShort b)) (movesOf L)
-
--- ---- the own number of a refused move
-
-abbrev pub OwnNumber : Refusal → Type 0
-OwnNumber r = (number r ≡ 5) ⊎ ((7 ≤ number r) × (number r ≤ 12))
-
-abbrev Owns : Verdict → Type 0
-Owns Allowed = Unit
-Owns (Denied r) = OwnNumber r
-
-owns-both : (a b : Verdict) → Owns a → Owns b → Owns (both a b)
-owns-both Allowed b h k = k
-owns-both (Denied r) b h k = h
-
-owns-unless : (b : Bool) (r : Refusal) → 7 ≤ number r → number r ≤ 12 → Owns (unless b r)
-owns-unless true r h k = tt
-owns-unless false r h k = inr (h, k)
-
-allowed-owns : (t : Table) (s : State) (m : Move) → Owns (allowed t s m)
-unfolding allowed
-allowed-owns t s (react r ps) =
-    let R = ruleAt t r in
-    owns-both (unless (picksOk R s ps) WrongPick) (both (unless (ownersFit (R .class) (ownersAt s ps)) WrongOwner) (unless (hasId R s) NoMoreIds))
-    (owns-unless (picksOk R s ps) WrongPick (omega arith) (omega arith))
-    (owns-both (unless (ownersFit (R .class) (ownersAt s ps)) WrongOwner) (unless (hasId R s) NoMoreIds)
-    (owns-unless (ownersFit (R .class) (ownersAt s ps)) WrongOwner (omega arith) (omega arith)) (owns-unless (hasId R s) NoMoreIds (omega arith) (omega arith)))
-allowed-owns t s (commit b) =
-    owns-both (unless (isOpen b s) NoTransaction) (unless (mayCommit t b s) EndNotAllowed)
-    (owns-unless (isOpen b s) NoTransaction (omega arith) (omega arith)) (owns-unless (mayCommit t b s) EndNotAllowed (omega arith) (omega arith))
-allowed-owns t s (abort b) =
-    owns-both (unless (isOpen b s) NoTransaction) (unless (mayAbort b s) EndNotAllowed)
-    (owns-unless (isOpen b s) NoTransaction (omega arith) (omega arith)) (owns-unless (mayAbort b s) EndNotAllowed (omega arith) (omega arith))
-
--- 5, or 7 to 12
-pub refused-number : (ceiling : ℕ) (t : Table) (i : ℕ) (s : State) (m : List ℕ) (r : Refusal) → stepWords ceiling t i s m ≡ refused r → OwnNumber r
-unfolding moveVerdict
-refused-number ceiling t i s m r h =
-    go (moveOk t m) (moveVerdict ceiling t s (moveOf t m))
-    (owns-both (allowed t s (moveOf t m)) (unless (leb (length (applied t 0 s (moveOf t m) .entries)) ceiling) TooManyEntries) (allowed-owns t s (moveOf t m))
-    (owns-unless (leb (length (applied t 0 s (moveOf t m) .entries)) ceiling) TooManyEntries (omega arith) (omega arith)))
-    (sym (stepWords-verdict ceiling t i s m) ∙ h)
-  where
-    same : {a b : Refusal} → refused a ≡ refused b → a ≡ b
-    same h = cc
-
-    go : (b : Bool) (v : Verdict) → Owns v → cond b (steppedBy v (applied t i s (moveOf t m))) (refused MoveForm) ≡ refused r → OwnNumber r
-    go false v o k = subst OwnNumber (same k) (inl refl)
-    go true Allowed o k = absurd (refused≢to (sym k))
-    go true (Denied q) o k = subst OwnNumber (same k) o
-
-pub stopped-number : (ceiling : ℕ) (t : Table) (i : ℕ) (s : State) (ms : List (List ℕ)) (j : ℕ) (r : Refusal) → run ceiling t i s ms ≡ stopped j r → OwnNumber r
-unfolding run
-stopped-number ceiling t i s [] j r h = absurd (let z : _≡_ {A = ℕ} 0 1 = cc in omega arith)
-stopped-number ceiling t i s (m ∷ ms) j r h = go (stepWords ceiling t (suc i) s m) refl (λ s′. stopped-number ceiling t (suc i) s′ ms j r) h
-  where
-    same : {a b : ℕ} {p q : Refusal} → stopped a p ≡ stopped b q → p ≡ q
-    same h = cc
-
-    go : (x : Stepped) → stepWords ceiling t (suc i) s m ≡ x → ((s′ : State) → run ceiling t (suc i) s′ ms ≡ stopped j r → OwnNumber r)
-        → onward x i (λ s′. run ceiling t (suc i) s′ ms) ≡ stopped j r → OwnNumber r
-    go (to s′) e ih k = ih s′ k
-    go (refused q) e ih k = subst OwnNumber (same k) (refused-number ceiling t (suc i) s m q e)

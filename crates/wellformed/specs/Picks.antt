@@ -1,19 +1,19 @@
 -- The picks of a reaction that is allowed: places of messages, one for each consume, owned as the rule's class wants.
-use Prim.Native.Nat.{ℕ, zero, suc, _+_, _≤_, _<_}
-use mathlib.Core.Bool.{Bool, true, false, _&&_, _||_, not, cond, false≢true}
-use mathlib.Core.List.{List, [], _∷_, map}
-use mathlib.Core.Logic.{_⊎_, inl, inr, ⊎-elim}
+use Prim.Native.Nat.{ℕ, suc, _+_, _≤_, _<_}
+use mathlib.Core.Bool.{Bool, true, false, _&&_, cond, false≢true}
+use mathlib.Core.List.{List, [], _∷_}
+use mathlib.Core.Logic.{inl, inr}
 use mathlib.Core.Path.{_≡_, refl, sym, ap, subst, _∙_}
 use native.Mathlib.Omega.{arith}
-use lib.Dec.{leb, ltb, eqb}
-use lib.ListN.{length, getD, length-map, List·getD-eq-default}
-use borrow.Author.Tests.{leb-true, ltb-true, ltb-false, eqb-true, eq-eqb, ne-eqb}
-use Rattle.lists.specs.Lists.{all, keep, isIn, distinct, least, without}
-use Rattle.lists.specs.Choices.{by-bool, clash, is-false, and-left, and-right, and-three}
+use lib.Dec.{ltb, eqb}
+use lib.ListN.{length, length-map, List·getD-eq-default}
+use borrow.Author.Tests.{ltb-true, ltb-false, eqb-true, eq-eqb, ne-eqb}
+use Rattle.lists.specs.Lists.{all, keep, distinct, least, without}
+use Rattle.lists.specs.Choices.{by-bool, and-left, and-right, and-three}
 use Rattle.lists.specs.Members.{Among, all-each, among-map, map-among, getD-among, isIn-among}
 use Rattle.lists.specs.Smallest.{least-among}
 use Rattle.lists.specs.Removed.{keep-without, length-without}
-use Rattle.semantics.specs.Table.{Rule, consumed, begins}
+use Rattle.semantics.specs.Table.{Rule, consumed}
 use Rattle.semantics.specs.State.{Entry, State, isMessage, isMemberMark}
 use Rattle.semantics.specs.Move.{unless, both, isZero, nothing, entryAt, picked, onPorts, picksOk, ownersAt, ownersFit, hasId, reactAllowed}
 use Rattle.semantics.specs.declared.Refusal.the-variants.{WrongPick, WrongOwner, NoMoreIds}

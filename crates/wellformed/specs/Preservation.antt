@@ -1,25 +1,25 @@
 -- An allowed move keeps a state well formed.
 use Prim.Native.Nat.{ℕ, _≤_, _<_}
 use mathlib.Core.Bool.{Bool, true, false, _&&_, _||_, not, cond}
-use mathlib.Core.List.{List, [], _∷_}
-use mathlib.Core.Path.{_≡_, refl, sym, ap, subst, _∙_}
+use mathlib.Core.List.{List}
+use mathlib.Core.Path.{_≡_}
 use native.Mathlib.Omega.{arith}
 use lib.Dec.{leb, ltb, eqb}
 use lib.ListN.{length, getD, take, drop}
 use borrow.Author.Tests.{ltb-true, eqb-true, eq-eqb}
 use Rattle.lists.specs.Lists.{all}
-use Rattle.lists.specs.Choices.{and-left, and-right, and-three, given-holds}
+use Rattle.lists.specs.Choices.{and-right, and-three, given-holds}
 use Rattle.lists.specs.Members.{Among, all-each, keep-among}
 use Rattle.semantics.specs.Words.{headKind, headNumber}
-use Rattle.semantics.specs.Table.{Table, Rule, sizesOf, tableOf, ruleAt}
+use Rattle.semantics.specs.Table.{Table, sizesOf, tableOf, ruleAt}
 use Rattle.semantics.specs.State.{Entry, State, isMessage, isCompensation, isAbortMark, owned, entriesOk}
-use Rattle.semantics.specs.Move.{unless, both, Move, react, commit, abort, isZero, picksUsed, headOk, moveOk, moveOf, isOpen, entriesIn, mayCommit, mayAbort, allowed, applied}
+use Rattle.semantics.specs.Move.{unless, Move, react, commit, abort, isZero, picksUsed, headOk, moveOk, moveOf, isOpen, entriesIn, mayCommit, allowed, applied}
 use Rattle.semantics.specs.Answers.{tableVerdict}
 use Rattle.semantics.specs.declared.Refusal.the-variants.{NoTransaction, EndNotAllowed}
 use Rattle.semantics.specs.declared.Verdict.the-variants.{Allowed}
-use Rattle.wellformed.specs.Verdicts.{both-allowed, unless-allowed, sizes-tableOf}
+use Rattle.wellformed.specs.Verdicts.{both-allowed, unless-allowed}
 use Rattle.wellformed.specs.Rules.{TableRight, table-right}
-use Rattle.wellformed.specs.Entries.{StateRight, state-right, state-tests, Sound, Small}
+use Rattle.wellformed.specs.Entries.{state-right, state-tests, Sound, Small}
 use Rattle.wellformed.specs.Picks.{react-given}
 use Rattle.wellformed.specs.Reaction.{react-keeps, react-small}
 use Rattle.wellformed.specs.Ends.{ended-keeps, ended-small}

@@ -1,18 +1,18 @@
 -- A state's words read back are the state with its origins numbered anew, and a state read from words has those words.
-use Prim.Native.Nat.{ℕ, zero, suc, _+_, _-_, _*_, _/_, _%_, _^_, min, _≤_, _<_}
-use mathlib.Core.Bool.{Bool, true, false}
+use Prim.Native.Nat.{ℕ, suc, _+_, _-_, _*_, min, _<_}
+use mathlib.Core.Bool.{true}
 use mathlib.Core.List.{List, [], _∷_, _++_, map}
-use mathlib.Core.Logic.{_⊎_, inl, inr}
+use mathlib.Core.Logic.{inl, inr}
 use mathlib.Core.Path.{_≡_, refl, sym, ap, _∙_}
 use native.Mathlib.Omega.{arith}
-use lib.ListN.{length, getD, take, drop, length-append, length-map, length-take, length-drop, take-append-drop}
+use lib.ListN.{length, take, drop, length-append, length-map, length-take, length-drop, take-append-drop}
 use lib.Seq.{take-at, drop-at}
 use Rattle.lists.specs.Members.{Among}
 use Rattle.semantics.specs.Words.{itemKind, itemWord, portOf, valueOf}
-use Rattle.semantics.specs.State.{Origin, Entry, State, entryCount, nextOf, ownersOf, itemsOf, entryOf, entriesOf, stateOf, stateWords, stateSizesOk}
+use Rattle.semantics.specs.State.{Entry, State, entryCount, nextOf, ownersOf, itemsOf, entriesOf, stateOf, stateWords, stateSizesOk}
 use Rattle.wellformed.specs.Verdicts.{state-sizes-given}
 use Rattle.wellformed.specs.Entries.{Small}
-use Rattle.wellformed.specs.Bare.{bare, bareState}
+use Rattle.wellformed.specs.Bare.{bare}
 
 -- ---- a single item
 

@@ -1,5 +1,5 @@
 -- What is true of every rule of an accepted table, as facts on the decoded rule.
-use Prim.Native.Nat.{ℕ, zero, suc, _+_, _*_, _/_, _%_, _^_, _≤_, _<_}
+use Prim.Native.Nat.{ℕ, _+_, _≤_, _<_}
 use mathlib.Core.Bool.{Bool, true, false, _&&_, _||_, not, cond}
 use mathlib.Core.List.{List, [], _∷_, map}
 use mathlib.Core.Logic.{_⊎_, inl, inr, ⊎-elim}
@@ -8,12 +8,12 @@ use native.Mathlib.Omega.{arith}
 use lib.Dec.{leb, ltb, eqb}
 use lib.ListN.{length, getD, length-map}
 use borrow.Author.Tests.{leb-true, ltb-true, eqb-true, eqb-false, eq-eqb, ne-eqb, le-leb, not-true}
-use Rattle.lists.specs.Lists.{given, all, any, oneIf, count, keep, risesFrom}
-use Rattle.lists.specs.Choices.{by-bool, clash, is-true, is-false, and-intro, and-left, and-right, or-cases, or-right, and-six, and-nine, given-holds}
-use Rattle.lists.specs.Members.{Among, all-each, any-some, any-intro, among-map, map-among, among-keep}
-use Rattle.lists.specs.Totals.{length-keep, count-map, count-le}
+use Rattle.lists.specs.Lists.{all, any, oneIf, count, keep, risesFrom}
+use Rattle.lists.specs.Choices.{by-bool, and-intro, and-left, and-right, or-cases, or-right, and-six, and-nine, given-holds}
+use Rattle.lists.specs.Members.{Among, all-each, any-some, any-intro, among-map, among-keep}
+use Rattle.lists.specs.Totals.{length-keep, count-map}
 use Rattle.semantics.specs.Words.{atomRole, atomMode, portOf, valueOf}
-use Rattle.semantics.specs.Table.{Table, Rule, sizesOf, portCount, classOf, isRole, modeOk, consumeOk, emitOk, markOk, beginOk, innerOk, compensateOk, atomOk, shapeOf, ruleOk, atomValue, atomOf, ruleOf, tableOf, ruleAt, hasRole, consumed, productAtoms, begins, tableSizesOk, tableContentsOk}
+use Rattle.semantics.specs.Table.{Table, Rule, sizesOf, portCount, classOf, isRole, modeOk, consumeOk, emitOk, markOk, beginOk, innerOk, compensateOk, atomOk, shapeOf, ruleOk, atomValue, atomOf, ruleOf, tableOf, ruleAt, hasRole, consumed, productAtoms, begins}
 use Rattle.semantics.specs.Answers.{tableVerdict}
 use Rattle.semantics.specs.declared.Sizes.{Sizes}
 use Rattle.semantics.specs.declared.Atom.{Atom}
@@ -161,6 +161,11 @@ table-right T h = record {
   ports = rw (sizes-tableOf T) (sizes-given T (table-given T h .0) .ports);
   rule = λ r l. rw (sizes-tableOf T) (rules-right T h r (rw (length-rules T) at l));
 }
+
+-- an atom's port fits its field; so does a constant (`ValueRight`). No bound on the words is needed: ports, modes and values are cut out of them, and the
+-- check bounds the role.
+pub port-small : {t : Table} → TableRight t → (r : ℕ) → r < length (t .rules) → (a : Atom) → Among a (ruleAt t r .atoms) → a .port < 256
+port-small h r l a m = let p = h .ports in let q = h .rule r l .each a m .port-lt in omega arith
 
 -- ---- what follows for a rule
 

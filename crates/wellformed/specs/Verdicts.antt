@@ -1,16 +1,16 @@
 -- What an accepted table or state gives: each test that its verdict is made of, and the rule at each number.
 use Prim.Native.Nat.{ℕ, _+_, _*_, _≤_, _<_}
 use mathlib.Core.Bool.{Bool, true, false, _&&_}
-use mathlib.Core.List.{List, [], _∷_, map}
-use mathlib.Core.Path.{_≡_, refl, sym, ap, _∙_}
+use mathlib.Core.List.{List}
+use mathlib.Core.Path.{_≡_, refl, ap, _∙_}
 use native.Mathlib.Omega.{arith}
 use lib.Dec.{leb, eqb}
-use lib.ListN.{length, getD}
+use lib.ListN.{length}
 use borrow.Author.Tests.{leb-true, eqb-true}
 use Rattle.lists.specs.Walk.{below-each}
 use Rattle.lists.specs.Choices.{and-left, and-right, and-three}
 use Rattle.lists.specs.Tabled.{length-upFrom, getD-upFrom}
-use Rattle.semantics.specs.Table.{Table, Rule, sizesOf, numbersOf, atomWordsOf, ruleWords, portCount, sizesWithin, tableSizesOk, numbersOk, ruleOk, rulesOk, tableContentsOk, ruleOf, tableOf, noRule, ruleAt}
+use Rattle.semantics.specs.Table.{sizesOf, numbersOf, atomWordsOf, ruleWords, portCount, sizesWithin, tableSizesOk, numbersOk, ruleOk, rulesOk, tableContentsOk, ruleOf, tableOf, noRule, ruleAt}
 use Rattle.semantics.specs.State.{entryCount, nextOf, stateOf, stateSizesOk, entriesOk}
 use Rattle.semantics.specs.Move.{unless, both}
 use Rattle.semantics.specs.Answers.{tableVerdict, stateOwnVerdict, stateVerdict}
@@ -18,7 +18,6 @@ use Rattle.semantics.specs.declared.Refusal.{Refusal}
 use Rattle.semantics.specs.declared.Refusal.the-variants.{TableSizes, TableContents, StateSizes, StateContents}
 use Rattle.semantics.specs.declared.Verdict.{Verdict}
 use Rattle.semantics.specs.declared.Verdict.the-variants.{Allowed, Denied}
-use Rattle.semantics.specs.declared.Sizes.{Sizes}
 
 pub denied≢allowed : {r : Refusal} → Denied r ≡ Allowed → ⊥
 denied≢allowed h = let z : _≡_ {A = ℕ} 0 1 = cc in omega arith
