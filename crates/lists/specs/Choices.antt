@@ -1,5 +1,5 @@
 -- Case analysis on Bool-valued tests, and conjunctions, disjunctions and `given` read as facts.
-use mathlib.Core.Bool.{Bool, true, false, _&&_, _||_, cond, false≢true, true≢false}
+use mathlib.Core.Bool.{Bool, true, false, _&&_, _||_, false≢true, true≢false}
 use mathlib.Core.Logic.{_⊎_, inl, inr}
 use mathlib.Core.Path.{_≡_, refl, sym, _∙_}
 use Rattle.lists.specs.Lists.{given}
@@ -11,10 +11,6 @@ by-bool false f g = g refl
 
 pub clash : {b : Bool} → b ≡ true → b ≡ false → ⊥
 clash p q = true≢false (sym p ∙ q)
-
-pub is-true : (b : Bool) → (b ≡ false → ⊥) → b ≡ true
-is-true true h = refl
-is-true false h = absurd (h refl)
 
 pub is-false : (b : Bool) → (b ≡ true → ⊥) → b ≡ false
 is-false true h = absurd (h refl)
@@ -45,11 +41,6 @@ given-holds false b h e = absurd (false≢true e)
 pub given-intro : (a b : Bool) → (a ≡ true → b ≡ true) → given a b ≡ true
 given-intro true b f = f refl
 given-intro false b f = refl
-
-module _ {A : Type 0} where
-  pub cond-same : (b : Bool) (x : A) → cond b x x ≡ x
-  cond-same true x = refl
-  cond-same false x = refl
 
 -- ---- longer conjunctions, from the left
 

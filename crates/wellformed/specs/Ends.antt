@@ -24,10 +24,13 @@ module _ (p : Entry → Bool) (b : ℕ) where
       → (e : Entry) × Among e es × (((e .owner ≡ b) × (p e ≡ true) × (d ≡ toGlobal e)) ⊎ ((e .owner ≡ b → ⊥) × (d ≡ e)))
   among-ended es d m =
       let (e, k, q) = among-map (freed p b) (keep stays es) d m in
-      let (l, h) = among-keep stays es e k in
-      (e, l, by-bool (owned b e)
-      (λ o. let t : p e ≡ true = rw o at h in inl (eqb-true (e .owner) b o, t, q ∙ rw (o, t)))
-      (λ o. inr (eqb-false (e .owner) b o, q ∙ rw o)))
+      let (l, h) = among-keep stays es e k in (
+        e,
+        l,
+        by-bool (owned b e)
+            (λ o. let t : p e ≡ true = rw o at h in inl (eqb-true (e .owner) b o, t, q ∙ rw (o, t)))
+            (λ o. inr (eqb-false (e .owner) b o, q ∙ rw o)),
+      )
 
   pub ended-among : (es : List Entry) (e : Entry) → Among e es → (e .owner ≡ b → ⊥) → Among e (map (freed p b) (keep stays es))
   ended-among es e m n =

@@ -57,7 +57,7 @@ module _ (z : Sizes) (next : ℕ) (e : Entry) where
   unfolding entryOk
   entry-right h =
       let (kind, global, message, compensation, abort, member) =
-        and-six (leb (e .kind) 3) (globalOk z e) (messageOk z e) (compensationOk z e) (abortMarkOk e) (memberMarkOk next e) h in
+      and-six (leb (e .kind) 3) (globalOk z e) (messageOk z e) (compensationOk z e) (abortMarkOk e) (memberMarkOk next e) h in
       record {
         kind-le = leb-true (e .kind) 3 kind;
         global = λ o.

@@ -1,8 +1,8 @@
 -- What every state of a log is: read from accepted words, left by an accepted move, and its words are accepted again.
-use Prim.Native.Nat.{ℕ, _+_, _*_, _≤_, _<_}
+use Prim.Native.Nat.{ℕ, suc, _+_, _*_, _≤_, _<_}
 use mathlib.Core.Bool.{true}
-use mathlib.Core.List.{List}
-use mathlib.Core.Path.{_≡_, ap, _∙_}
+use mathlib.Core.List.{List, [], _∷_}
+use mathlib.Core.Path.{_≡_, refl, ap, subst, _∙_}
 use native.Mathlib.Omega.{arith}
 use lib.Dec.{eqb}
 use lib.ListN.{length}
@@ -10,7 +10,8 @@ use borrow.Author.Tests.{eqb-true, eqb-false, le-leb, eq-eqb}
 use Rattle.lists.specs.Choices.{by-bool, and-intro}
 use Rattle.semantics.specs.Table.{sizesOf, tableOf, portCount}
 use Rattle.semantics.specs.State.{Entry, State, stateOf, stateWords, stateSizesOk}
-use Rattle.semantics.specs.Move.{moveOf, to, stepWords}
+use Rattle.semantics.specs.Move.{moveOf, Stepped, to, refused, stepWords}
+use Rattle.semantics.specs.Log.{ended, onward, run}
 use Rattle.semantics.specs.Answers.{tableVerdict, stateOwnVerdict, stateVerdict}
 use Rattle.semantics.specs.declared.Sizes.{Sizes}
 use Rattle.semantics.specs.declared.Refusal.the-variants.{StateSizes, StateContents}
@@ -88,3 +89,17 @@ module _ (T : List ℕ) (table : tableVerdict T ≡ Allowed) where
         small = rw (a .result) at (applied-small (table-right T table) sound i (moveOf (tableOf T) m) k (a .allows) (h .small));
         few = let l = a .fits in omega arith;
       }
+
+  pub run-holds : (ceiling i : ℕ) (s : State) (ms : List (List ℕ)) (s′ : State) → ceiling ≤ 1024 → Held (sizesOf T) s → run ceiling (tableOf T) i s ms ≡ ended s′ → Held (sizesOf T) s′
+  unfolding run
+  run-holds ceiling i s [] s′ c h e = subst (Held (sizesOf T)) (same e) h
+    where
+      same : {a b : State} → ended a ≡ ended b → a ≡ b
+      same h = cc
+  run-holds ceiling i s (m ∷ ms) s′ c h e = go (stepWords ceiling (tableOf T) (suc i) s m) refl (λ x k. run-holds ceiling (suc i) x ms s′ c k) e
+    where
+      go : (x : Stepped) → stepWords ceiling (tableOf T) (suc i) s m ≡ x
+          → ((x : State) → Held (sizesOf T) x → run ceiling (tableOf T) (suc i) x ms ≡ ended s′ → Held (sizesOf T) s′)
+          → onward x i (λ x. run ceiling (tableOf T) (suc i) x ms) ≡ ended s′ → Held (sizesOf T) s′
+      go (to x) q ih k = ih x (step-holds ceiling (suc i) s m x c h q) k
+      go (refused r) q ih k = absurd (let z : _≡_ {A = ℕ} 0 1 = cc in omega arith)

@@ -11,6 +11,9 @@ pub mod Step
 pub mod Bare
 pub mod RoundTrip
 pub mod Held
+pub mod Results
 pub mod MoveKeeps
 pub mod OneByOne
 pub mod OwnNumbers
+pub mod RunKeeps
+pub mod Calls

@@ -2,33 +2,21 @@
 use Prim.Native.Nat.{ℕ, _≤_}
 use mathlib.Core.List.{List}
 use mathlib.Core.Path.{_≡_, refl, ap}
-use native.Mathlib.Omega.{arith}
 use lib.ListN.{length}
 use Rattle.semantics.specs.Table.{tableOf}
 use Rattle.semantics.specs.State.{State, entryCount, stateOf, stateWords}
 use Rattle.semantics.specs.Move.{unless, both, moveOk, Stepped, to, refused, stepWords}
-use Rattle.semantics.specs.Answers.{stateVerdict, answerOf, Result, write, refuse, outcomeOf, unlessDenied, hasWords, steppedResult, moveResult}
-use Rattle.semantics.specs.declared.Refusal.{Refusal}
+use Rattle.semantics.specs.Answers.{stateVerdict, answerOf, Result, write, outcomeOf, hasWords, steppedResult, moveResult}
 use Rattle.semantics.specs.declared.Refusal.the-variants.{MoveForm}
-use Rattle.semantics.specs.declared.Verdict.{Verdict}
-use Rattle.semantics.specs.declared.Verdict.the-variants.{Allowed, Denied}
+use Rattle.semantics.specs.declared.Verdict.the-variants.{Allowed}
 use Rattle.wellformed.specs.Verdicts.{both-allowed, state-given}
 use Rattle.wellformed.specs.Step.{accepted}
+use Rattle.wellformed.specs.Results.{refuse≢write, write-same, unlessDenied-write}
 use Rattle.wellformed.specs.Held.{stateOf-held, words-pass, step-holds}
 use Rattle.wellformed.specs.RoundTrip.{entryCount-stateWords}
 
-pub refuse≢write : {r : Refusal} {ws : List ℕ} → refuse r ≡ write ws → ⊥
-refuse≢write h = let z : _≡_ {A = ℕ} 0 1 = cc in omega arith
-
-unlessDenied-write : (v : Verdict) (x : Result) (ws : List ℕ) → unlessDenied v x ≡ write ws → (v ≡ Allowed) × (x ≡ write ws)
-unlessDenied-write Allowed x ws h = (refl, h)
-unlessDenied-write (Denied r) x ws h = absurd (refuse≢write h)
-
 steppedResult-write : (x : Stepped) (ws : List ℕ) → steppedResult x ≡ write ws → (s : State) × (x ≡ to s) × (stateWords s ≡ ws)
-steppedResult-write (to s) ws h = (s, refl, same h)
-  where
-    same : {a b : List ℕ} → write a ≡ write b → a ≡ b
-    same h = cc
+steppedResult-write (to s) ws h = (s, refl, write-same h)
 steppedResult-write (refused r) ws h = absurd (refuse≢write h)
 
 pub move-keeps : (ceiling : ℕ) → ceiling ≤ 1024 → (T S M target ws : List ℕ) → moveResult ceiling T S M target ≡ write ws
@@ -36,12 +24,11 @@ pub move-keeps : (ceiling : ℕ) → ceiling ≤ 1024 → (T S M target ws : Lis
 unfolding moveResult
 move-keeps ceiling c T S M target ws h =
     let (v, x) = unlessDenied-write (both (stateVerdict T S) (both (unless (moveOk (tableOf T) M) MoveForm) (hasWords 2050 target)))
-      (steppedResult (stepWords ceiling (tableOf T) 1 (stateOf S) M)) ws h in
+    (steppedResult (stepWords ceiling (tableOf T) 1 (stateOf S) M)) ws h in
     let (state, rest) = both-allowed (stateVerdict T S) (both (unless (moveOk (tableOf T) M) MoveForm) (hasWords 2050 target)) v in
     let (s, e, w) = steppedResult-write (stepWords ceiling (tableOf T) 1 (stateOf S) M) ws x in
     let table = state-given S T state .0 in
-    let held = step-holds T table ceiling 1 (stateOf S) M s c (stateOf-held T S state) e in
-    (
+    let held = step-holds T table ceiling 1 (stateOf S) M s c (stateOf-held T S state) e in (
       rw w at (words-pass T table s held),
       rw (← w, entryCount-stateWords s) (accepted ceiling (tableOf T) 1 (stateOf S) M s e .fits),
       ap (λ (r : Result). answerOf (outcomeOf r) .words) h,

@@ -70,5 +70,5 @@ unfolding tableOf
 move-preserves T h i s m e l u f a =
     let t = tableOf T in
     let k : Sound (sizesOf T) (applied t i s (moveOf t m)) =
-      applied-keeps (table-right T h) (record { right = state-right (sizesOf T) s e; next-low = l; next-high = u }) i (moveOf t m) (rule-known t m f) a in
+    applied-keeps (table-right T h) (record { right = state-right (sizesOf T) s e; next-low = l; next-high = u }) i (moveOf t m) (rule-known t m f) a in
     (state-tests (sizesOf T) (applied t i s (moveOf t m)) (k .right), k .next-low, k .next-high)

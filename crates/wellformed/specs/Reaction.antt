@@ -156,16 +156,6 @@ module _ {z : Sizes} {R : Rule} (right : RuleRight z R) {s : State} (sound : Sou
     in-rule : Among a (R .atoms)
     in-rule = among-keep (λ a. not (hasRole 0 a)) (R .atoms) a m .0
 
-    -- a transaction's products but emits are made only by a global rule, or are abort marks
-    class-zero : (a .role ≡ 1 → ⊥) → (a .role ≡ 5 → ⊥) → R .class ≡ 0
-    class-zero f h = by-bool (eqb (R .class) 0) (eqb-true (R .class) 0)
-        (λ c. absurd (none (atom .inner (eqb-false (R .class) 0 c)) (product-atom right a m .1)))
-      where
-        none : (a .role ≡ 0) ⊎ (a .role ≡ 1) ⊎ (a .role ≡ 5) → 1 ≤ a .role → ⊥
-        none (inl q) l = omega arith
-        none (inr (inl q)) l = f q
-        none (inr (inr q)) l = h q
-
     owner-positive : (a .role ≡ 1 → ⊥) → 1 ≤ e a o .owner
     owner-positive n = by-bool (eqb (R .class) 0)
         (λ c. let w = owner-next a o (eqb-true (R .class) 0 c) n in let l = sound .next-low in omega arith)

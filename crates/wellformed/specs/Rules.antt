@@ -81,9 +81,10 @@ module _ (z : Sizes) (ws : List ℕ) where
       (⊎-elim (λ q. rw (eq-eqb (atomRole w) 2 q)) (λ q. or-right (isRole 2 w) (isRole 5 w) (eq-eqb (atomRole w) 5 q)) r) in
       let l = and-left (eqb (atomMode w) 0 && eqb (portOf w) 0) (eqb (valueOf w) 0) k in
       let m = eqb-true (atomMode w) 0 (and-left (eqb (atomMode w) 0) (eqb (portOf w) 0) l) in
-      let n : eqb (atomMode w) 1 ≡ false = ne-eqb (atomMode w) 1 (λ q. omega arith) in
-      (eqb-true (portOf w) 0 (and-right (eqb (atomMode w) 0) (eqb (portOf w) 0) l),
-      rw n (ap Constant (eqb-true (valueOf w) 0 (and-right (eqb (atomMode w) 0 && eqb (portOf w) 0) (eqb (valueOf w) 0) k))))
+      let n : eqb (atomMode w) 1 ≡ false = ne-eqb (atomMode w) 1 (λ q. omega arith) in (
+        eqb-true (portOf w) 0 (and-right (eqb (atomMode w) 0) (eqb (portOf w) 0) l),
+        rw n (ap Constant (eqb-true (valueOf w) 0 (and-right (eqb (atomMode w) 0 && eqb (portOf w) 0) (eqb (valueOf w) 0) k))),
+      )
 
   some-begins : 1 ≤ count (isRole 2) ws → begins (ruleOf z ws) ≡ true
   unfolding ruleOf
@@ -102,7 +103,7 @@ module _ (z : Sizes) (ws : List ℕ) where
   atom-right w h =
       let s = shapeOf z ws in
       let (role, mode, port, consume, emit, mark, begun, inner, compensate) =
-        and-nine (leb (atomRole w) 5) (modeOk s w) (ltb (portOf w) (portCount z)) (consumeOk z s w) (emitOk z s w) (markOk w) (beginOk s w) (innerOk s w) (compensateOk z w) h in
+      and-nine (leb (atomRole w) 5) (modeOk s w) (ltb (portOf w) (portCount z)) (consumeOk z s w) (emitOk z s w) (markOk w) (beginOk s w) (innerOk s w) (compensateOk z w) h in
       record {
         role-le = leb-true (atomRole w) 5 role;
         port-lt = ltb-true (portOf w) (portCount z) port;
@@ -129,7 +130,7 @@ module _ (z : Sizes) (ws : List ℕ) where
   rule-right h =
       let takes = leb 1 (count (isRole 0) ws) && leb (count (isRole 0) ws) 4 in
       let (atoms, rises, takes, begins, aborts, each) =
-        and-six (leb (length ws) 16) (risesFrom 0 atomRole ws) takes (leb (count (isRole 2) ws) 1) (leb (count (isRole 5) ws) 1) (all (atomOk z (shapeOf z ws)) ws) h in
+      and-six (leb (length ws) 16) (risesFrom 0 atomRole ws) takes (leb (count (isRole 2) ws) 1) (leb (count (isRole 5) ws) 1) (all (atomOk z (shapeOf z ws)) ws) h in
       let some = leb-true 1 (count (isRole 0) ws) (and-left (leb 1 (count (isRole 0) ws)) (leb (count (isRole 0) ws) 4) takes) in
       let most = leb-true (count (isRole 0) ws) 4 (and-right (leb 1 (count (isRole 0) ws)) (leb (count (isRole 0) ws) 4) takes) in
       record {
