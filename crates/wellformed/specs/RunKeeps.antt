@@ -1,13 +1,13 @@
 -- An accepted run's words pass the state check; a refused one's own number is 5, or 7 to 12.
 use Prim.Native.Nat.{ℕ, _≤_}
 use mathlib.Core.List.{List}
-use mathlib.Core.Path.{_≡_, refl, ap}
+use mathlib.Core.Path.{_≡_, refl, ap, _∙_}
 use native.Mathlib.Omega.{arith}
 use lib.ListN.{length}
 use Rattle.semantics.specs.Table.{tableOf}
 use Rattle.semantics.specs.State.{State, entryCount, stateOf, stateWords}
 use Rattle.semantics.specs.Move.{unless, both}
-use Rattle.semantics.specs.Log.{movesOf, logSizesOk, Ran, ended, stopped}
+use Rattle.semantics.specs.Log.{movesOf, logSizesOk, Ran, ended, stopped, run}
 use Rattle.semantics.specs.Answers.{stateVerdict, answerOf, Result, write, refuseMove, outcomeOf, unlessDenied, hasWords, ranResult, logVerdict, runOf, runResult}
 use Rattle.semantics.specs.declared.Refusal.{Refusal}
 use Rattle.semantics.specs.declared.Refusal.the-variants.{LogSizes}
@@ -17,6 +17,7 @@ use Rattle.wellformed.specs.Verdicts.{both-allowed, state-given}
 use Rattle.wellformed.specs.Results.{write-same, unlessDenied-write}
 use Rattle.wellformed.specs.RoundTrip.{entryCount-stateWords}
 use Rattle.wellformed.specs.Held.{stateOf-held, words-pass, run-holds}
+use Rattle.wellformed.specs.OneByOne.{oneByOne, run-one-by-one}
 use Rattle.wellformed.specs.OwnNumbers.{OwnNumber, stopped-number}
 
 ranResult-write : (x : Ran) (ws : List ℕ) → ranResult x ≡ write ws → (s : State) × (x ≡ ended s) × (stateWords s ≡ ws)
@@ -48,3 +49,9 @@ unfolding runResult
 run-refused ceiling T S L target i r h =
     stopped-number ceiling (tableOf T) 0 (stateOf S) (movesOf L) i r
     (ranResult-refuse (runOf ceiling T S L) i r (unlessDenied-refuse (both (logVerdict T S L) (hasWords 2050 target)) (ranResult (runOf ceiling T S L)) i r h))
+
+-- so have single calls one after another: no later one is refused for its table, its state or its target (1 to 4, 6)
+pub one-by-one-refused : (ceiling : ℕ) → ceiling ≤ 1024 → (T S target : List ℕ) → stateVerdict T S ≡ Allowed → 2050 ≤ length target → (ms : List (List ℕ)) (i : ℕ) (r : Refusal)
+    → oneByOne ceiling T S ms target ≡ refuseMove i r → OwnNumber r
+one-by-one-refused ceiling c T S target h l ms i r e =
+    stopped-number ceiling (tableOf T) 0 (stateOf S) ms i r (ranResult-refuse (run ceiling (tableOf T) 0 (stateOf S) ms) i r (run-one-by-one ceiling c T S target h l ms ∙ e))
