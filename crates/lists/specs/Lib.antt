@@ -1,3 +1,11 @@
 pub mod Lists
 pub mod Tests
 pub mod Walk
+pub mod Choices
+pub mod Members
+pub mod Smallest
+pub mod Totals
+pub mod Removed
+pub mod Unrepeated
+pub mod Tabled
+pub mod Parts
