@@ -1,0 +1,3 @@
+// The table: its check (01, "Recipe table"), and a rule decoded from its words.
+mod atom;
+mod rule;
