@@ -1,3 +1,5 @@
 pub mod Lists
 pub mod Tests
 pub mod Walk
+pub mod Counting
+pub mod Rising
