@@ -23,6 +23,12 @@ module _ {A : Type 0} (p : A → Bool) where
   count-append [] ys = omega arith
   count-append (x ∷ xs) ys = omega (arith, count-append xs ys)
 
+  pub all-append : (xs ys : List A) → all p xs ≡ true → all p ys ≡ true → all p (xs ++ ys) ≡ true
+  all-append [] ys h k = k
+  all-append (x ∷ xs) ys h k =
+      let (a, b) = and-both (p x) (all p xs) h in
+      rw (a, all-append xs ys b k)
+
   pub count-all : (xs : List A) → all p xs ≡ true → count p xs ≡ length xs
   count-all [] h = refl
   count-all (x ∷ xs) h =

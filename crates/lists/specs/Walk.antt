@@ -6,6 +6,7 @@ use mathlib.Core.Path.{_≡_, refl, sym, ap, _∙_}
 use mathlib.Core.Logic.{⊎-elim}
 use native.Mathlib.Nat.{le-of-suc-le-suc, not-suc-le-zero, eq-or-lt-of-le}
 use native.Mathlib.Numerals.{add-one}
+use native.Mathlib.Omega.{arith}
 use lib.ListN.{length, getD, take, drop, set, drop-of-length-le}
 use lib.Seq.{drop-cons, take-suc, take-suc-set, take-all}
 use Rattle.lists.specs.Lists.{allBelow}
@@ -41,6 +42,10 @@ module _ (p : ℕ → Bool) where
       go : (b : Bool) → p r ≡ b → p r ≡ true
       go true e = e
       go false e = absurd (false≢true (sym (below-false n r l e) ∙ h))
+
+  pub below-of-each : (n : ℕ) → ((r : ℕ) → r < n → p r ≡ true) → allBelow n p ≡ true
+  below-of-each zero f = refl
+  below-of-each (suc n) f = rw (below-of-each n (λ r l. f r (omega arith)), f n (omega arith))
 
 pub below-all : (p q : ℕ → Bool) → ((r : ℕ) → p r ≡ true → q r ≡ true) → (n : ℕ) → allBelow n p ≡ true → allBelow n q ≡ true
 below-all p q f zero h = refl
