@@ -7,13 +7,13 @@ use native.Mathlib.Omega.{arith}
 use native.Mathlib.Numerals.{add-one}
 use borrow.Author.Tests.{ltb-true, leb-true, eqb-true, lt-ltb, le-ltb, le-leb, eq-eqb, ne-eqb}
 use lib.Dec.{leb, ltb, eqb}
-use lib.ListN.{length, getD, take, set, replicate, getD-replicate, length-set, length-replicate}
+use lib.ListN.{length, getD, take, drop, set, replicate, getD-replicate, length-set, length-replicate}
 use lib.Seq.{take-suc, take-all, getD-set-same, getD-set-other, length-take-le}
 use Rattle.lists.specs.Lists.{all, count, oneIf, risesFrom, allBelow}
 use Rattle.lists.specs.Tests.{and-both, or-true, or-false, or-right-true, same-test}
 use Rattle.lists.specs.Counting.{count-append, count-all, all-append, all-weaker, any-count}
 use Rattle.lists.specs.Rising.{Order, before, equal, after, order, none-keyed}
-use Rattle.lists.specs.Walk.{below-each, below-of-each}
+use Rattle.lists.specs.Walk.{step, below-each, below-of-each}
 use Rattle.semantics.specs.Table.{occurs, numbersOk}
 use Rattle.table.specs.Index.{Starts}
 
@@ -27,6 +27,14 @@ follows rules seen n = ltb n rules && leb n seen && leb seen (n + 1)
 abbrev pub dense : ℕ → ℕ → List ℕ → Bool
 dense rules seen [] = eqb seen rules
 dense rules seen (n ∷ ns) = follows rules seen n && dense rules (n + 1) ns
+
+pub dense-step :
+    (rules seen : ℕ) (ns : List ℕ) (i : ℕ) {b : Bool}
+    → i < length ns
+    → follows rules seen (getD ns i 0) ≡ b
+    → dense rules seen (drop i ns) ≡ b && dense rules (getD ns i 0 + 1) (drop (i + 1) ns)
+dense-step rules seen ns i l e =
+    step (dense rules seen) ns i 0 l ∙ ap (λ (t : Bool). t && dense rules (getD ns i 0 + 1) (drop (i + 1) ns)) e
 
 -- the same by 01's conditions
 record Onward (rules seen : ℕ) (ns : List ℕ) : Type 0 where
@@ -129,7 +137,7 @@ marked-start numbers =
     record { room = refl; under = refl; each = λ r l. getD-replicate 65 r 0 0 (omega arith) }
 
 module _ (numbers : List ℕ) (i seen : ℕ) (starts : List ℕ) (was : Marked numbers i seen starts) where
-  module _ (n : ℕ) (here : n ≡ getD numbers i 0) (l : i < length numbers) (f : Follows 64 seen n) where
+  module _ (n : ℕ) (here : n ≡ getD numbers i 0) (l : i < length numbers) (rules : ℕ) (few : rules ≤ 64) (f : Follows rules seen n) where
     grown : take (i + 1) numbers ≡ take i numbers ++ (n ∷ [])
     grown = rw (add-one i, take-suc numbers i 0 l, here)
 

@@ -1,8 +1,8 @@
 // The conditions of a single atom, which is a word.
 ghost use mathlib.Core.Path.{_≡_};
 ghost use Rattle.semantics.specs.Table.{classOf, atomOk};
-use semantics::Sizes;
 use semantics::Shape;
+use semantics::Sizes;
 
 // The class of a port: 0 global, 1 local, 2 merge.
 pub fn class_of(z: Sizes, port: u32) -> u32

@@ -1,4 +1,4 @@
 // The table: its check (01, "Recipe table"), and a rule decoded from its words.
 mod atom;
-mod rule;
 mod index;
+mod rule;

@@ -5,10 +5,10 @@ ghost use lib.ListN.{getD};
 ghost use Rattle.lists.specs.Lists.{all, count, oneIf, risesFrom};
 ghost use Rattle.semantics.specs.Words.{atomRole};
 ghost use Rattle.semantics.specs.Table.{isRole, atomOk, shapeOf, ruleOk};
-use semantics::Sizes;
-use semantics::Shape;
-use crate::atom::class_of;
 use crate::atom::atom_ok;
+use crate::atom::class_of;
+use semantics::Shape;
+use semantics::Sizes;
 
 fn one_if(b: bool) -> usize
     ensures { λ r. ⌜ (r ≡ oneIf b) × (r ≤ 1) ⌝ }
@@ -70,7 +70,11 @@ pub fn shape_of(ws: &[u32], z: Sizes) -> Shape
     let consumes = count_role(ws, 0);
     let begins = count_role(ws, 2);
     let class = class_of(z, first(ws) / 65536 % 256);
-    Shape { consumes, begins, class }
+    Shape {
+        consumes,
+        begins,
+        class,
+    }
 }
 
 pub fn rule_ok(ws: &[u32], z: Sizes) -> bool
