@@ -5,4 +5,5 @@ pub mod Move
 pub mod Log
 pub mod Serial
 pub mod Answers
+pub mod TableLaws
 pub mod Cases
