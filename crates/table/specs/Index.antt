@@ -1,11 +1,15 @@
 -- What the index of a table's rules says.
-use Prim.Native.Nat.{ℕ, _≤_}
+use Prim.Native.Nat.{ℕ, _+_, _-_, _≤_, _<_}
 use mathlib.Core.Bool.{Bool, true}
 use mathlib.Core.List.{List}
-use mathlib.Core.Path.{_≡_}
+use mathlib.Core.Path.{_≡_, refl, sym}
 use lib.Dec.{ltb}
-use lib.ListN.{length, getD}
-use Rattle.lists.specs.Lists.{count}
+use native.Mathlib.Omega.{arith}
+use lib.ListN.{length, getD, take, drop}
+use Rattle.lists.specs.Lists.{count, risesFrom}
+use Rattle.lists.specs.Counting.{count-le}
+use Rattle.lists.specs.Rising.{starts-rise, beside-part}
+use Rattle.semantics.specs.Table.{ruleWords}
 use Rattle.table.specs.declared.index.Index.{Index}
 
 -- Rule r begins after the atoms of smaller numbers; the place after the last rule is there too.
@@ -17,3 +21,30 @@ pub record Starts (numbers : List ℕ) (rules : ℕ) (starts : List ℕ) : Type 
 pub record Indexed (test : Bool) (numbers : List ℕ) (rules : ℕ) (x : Index) : Type 0 where
   pub ok : x .ok ≡ test
   pub starts : test ≡ true → Starts numbers rules (x .starts)
+
+-- the words of rule r
+abbrev pub cut : List ℕ → ℕ → List ℕ → List ℕ
+cut starts r words = take (getD starts (r + 1) 0 - getD starts r 0) (drop (getD starts r 0) words)
+
+-- each rule's words lie within n words
+pub record Cuts (rules n : ℕ) (starts : List ℕ) : Type 0 where
+  pub room : length starts ≡ 65
+  pub few : rules ≤ 64
+  pub rise : (r : ℕ) → r < rules → getD starts r 0 ≤ getD starts (r + 1) 0
+  pub within : (r : ℕ) → r < rules → getD starts (r + 1) 0 ≤ n
+
+module _ {numbers : List ℕ} {rules : ℕ} {starts : List ℕ} (s : Starts numbers rules starts) where
+  pub starts-cuts : (n : ℕ) → rules ≤ 64 → length numbers ≡ n → Cuts rules n starts
+  starts-cuts n few e =
+      record {
+        room = s .room;
+        few = few;
+        rise = λ r l. rw (s .each r (omega arith), s .each (r + 1) (omega arith)) (starts-rise (λ n. n) r (r + 1) (omega arith) numbers);
+        within = λ r l. rw (s .each (r + 1) (omega arith), ← e) (count-le (λ n. ltb n (r + 1)) numbers);
+      }
+
+  -- a rule's words are a part of the table's
+  pub starts-cut :
+      (r : ℕ) (words : List ℕ) → r < rules → risesFrom 0 (λ n. n) numbers ≡ true → ruleWords r numbers words ≡ cut starts r words
+  starts-cut r words l h =
+      rw (s .each r (omega arith), s .each (r + 1) (omega arith)) (beside-part (λ n. n) r 0 numbers words h)

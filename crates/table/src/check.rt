@@ -1,0 +1,109 @@
+// The check of a whole table. The index that it makes on the way serves later calls.
+ghost use mathlib.Core.Path.{_≡_};
+ghost use Prim.Native.Nat.{_≤_, _-_};
+ghost use lib.ListN.{length, take, drop};
+ghost use Rattle.lists.specs.Lists.{allBelow};
+ghost use Rattle.semantics.specs.Table.{sizesOf, numbersOf, tableSizesOk, tableContentsOk, ruleOk};
+ghost use Rattle.semantics.specs.TableLaws.{Sized};
+ghost use Rattle.table.specs.Index.{Cuts, cut, Indexed};
+ghost use Rattle.table.specs.Check.{CheckedAs};
+use semantics::Refusal;
+use semantics::Verdict;
+use semantics::Sizes;
+use crate::rule::rule_ok;
+use crate::index::Index;
+use crate::index::index_rules;
+
+// Where the verdict is Allowed, the atoms of rule r stand from starts[r] on, up to starts[r + 1].
+pub struct Checked {
+    pub verdict: Verdict,
+    pub starts: [u32; 65],
+}
+
+pub fn sizes_of(table: &[u32]) -> Sizes
+    requires { ⌜ 5 ≤ length (now table) ⌝ }
+    ensures { λ r. ⌜ r ≡ sizesOf (now (table .entry)) ⌝ }
+{
+    Sizes {
+        globals: table[0],
+        locals: table[1],
+        merges: table[2],
+        rules: table[3],
+        atoms: table[4],
+    }
+}
+
+fn sizes_ok(table: &[u32]) -> bool
+    ensures { λ r. ⌜ r ≡ tableSizesOk (now (table .entry)) ⌝ }
+{
+    if table.len() < 5 {
+        return false;
+    }
+    let z = sizes_of(table);
+    let ports = z.globals as usize + z.locals as usize + z.merges as usize;
+    let rules = z.rules;
+    let atoms = z.atoms;
+    ((ports <= 256) & (rules <= 64) & (atoms <= 512)) & (table.len() == 5 + 2 * (atoms as usize))
+}
+
+pub fn part<'a>(words: &'a [u32], from: usize, to: usize) -> &'a [u32]
+    requires { ⌜ (from ≤ to) × (to ≤ length (now words)) ⌝ }
+    ensures { λ r. ⌜ now r ≡ take (to - from) (drop from (now (words .entry))) ⌝ }
+{
+    &words[from..to]
+}
+
+fn rules_ok<'a>(words: &'a [u32], starts: &'a [u32; 65], z: Sizes) -> bool
+    requires { ⌜ Cuts (z .rules) (length (now words)) (now starts) ⌝ }
+    ensures { λ b. ⌜ b ≡ allBelow (z .rules) (λ r. ruleOk z (cut (now (starts .entry)) r (now (words .entry)))) ⌝ }
+{
+    let rules = z.rules as usize;
+    let mut r = 0;
+    while r < rules {
+        let from = starts[r] as usize;
+        let to = starts[r + 1] as usize;
+        if !rule_ok(part(words, from, to), z) {
+            return false;
+        }
+        r += 1;
+    }
+    true
+}
+
+fn contents(table: &[u32]) -> Index
+    requires { ⌜ Sized (now table) ⌝ }
+    ensures { λ x. ⌜ Indexed (tableContentsOk (now (table .entry))) (numbersOf (now (table .entry))) (sizesOf (now (table .entry)) .rules) x ⌝ }
+{
+    let z = sizes_of(table);
+    let at = 5 + z.atoms as usize;
+    let found = index_rules(part(table, 5, at), z.rules);
+    let starts = found.starts;
+    if !found.ok {
+        return Index { ok: false, starts };
+    }
+    let ok = rules_ok(part(table, at, table.len()), &starts, z);
+    Index { ok, starts }
+}
+
+pub fn check(table: &[u32]) -> Checked
+    ensures { λ c. ⌜ CheckedAs (now (table .entry)) c ⌝ }
+{
+    if !sizes_ok(table) {
+        return Checked {
+            verdict: Verdict::Denied(Refusal::TableSizes),
+            starts: [0u32; 65],
+        };
+    }
+    let found = contents(table);
+    let starts = found.starts;
+    if found.ok {
+        return Checked {
+            verdict: Verdict::Allowed,
+            starts,
+        };
+    }
+    Checked {
+        verdict: Verdict::Denied(Refusal::TableContents),
+        starts,
+    }
+}
