@@ -26,21 +26,21 @@ pub record Indexed (test : Bool) (numbers : List ℕ) (rules : ℕ) (x : Index) 
 abbrev pub cut : List ℕ → ℕ → List ℕ → List ℕ
 cut starts r words = take (getD starts (r + 1) 0 - getD starts r 0) (drop (getD starts r 0) words)
 
--- each rule's words lie within n words
-pub record Cuts (rules n : ℕ) (starts : List ℕ) : Type 0 where
+-- the words of rule r lie within n words
+pub record Cut (starts : List ℕ) (r n : ℕ) : Type 0 where
   pub room : length starts ≡ 65
-  pub few : rules ≤ 64
-  pub rise : (r : ℕ) → r < rules → getD starts r 0 ≤ getD starts (r + 1) 0
-  pub within : (r : ℕ) → r < rules → getD starts (r + 1) 0 ≤ n
+  pub few : r < 64
+  pub rise : getD starts r 0 ≤ getD starts (r + 1) 0
+  pub within : getD starts (r + 1) 0 ≤ n
 
 module _ {numbers : List ℕ} {rules : ℕ} {starts : List ℕ} (s : Starts numbers rules starts) where
-  pub starts-cuts : (n : ℕ) → rules ≤ 64 → length numbers ≡ n → Cuts rules n starts
-  starts-cuts n few e =
+  pub starts-within : (n : ℕ) → rules ≤ 64 → length numbers ≡ n → (r : ℕ) → r < rules → Cut starts r n
+  starts-within n few e r l =
       record {
         room = s .room;
-        few = few;
-        rise = λ r l. rw (s .each r (omega arith), s .each (r + 1) (omega arith)) (starts-rise (λ n. n) r (r + 1) (omega arith) numbers);
-        within = λ r l. rw (s .each (r + 1) (omega arith), ← e) (count-le (λ n. ltb n (r + 1)) numbers);
+        few = omega arith;
+        rise = rw (s .each r (omega arith), s .each (r + 1) (omega arith)) (starts-rise (λ n. n) r (r + 1) (omega arith) numbers);
+        within = rw (s .each (r + 1) (omega arith), ← e) (count-le (λ n. ltb n (r + 1)) numbers);
       }
 
   -- a rule's words are a part of the table's

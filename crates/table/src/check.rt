@@ -1,11 +1,11 @@
 // The check of a whole table. The index that it makes on the way serves later calls.
 ghost use mathlib.Core.Path.{_≡_};
-ghost use Prim.Native.Nat.{_≤_, _-_};
-ghost use lib.ListN.{length, take, drop};
+ghost use Prim.Native.Nat.{ℕ, _≤_, _<_};
+ghost use lib.ListN.{length};
 ghost use Rattle.lists.specs.Lists.{allBelow};
 ghost use Rattle.semantics.specs.Table.{sizesOf, numbersOf, tableSizesOk, tableContentsOk, ruleOk};
 ghost use Rattle.semantics.specs.TableLaws.{Sized};
-ghost use Rattle.table.specs.Index.{Cuts, cut, Indexed};
+ghost use Rattle.table.specs.Index.{Cut, cut, Indexed};
 ghost use Rattle.table.specs.Check.{CheckedAs};
 use semantics::Refusal;
 use semantics::Verdict;
@@ -13,6 +13,8 @@ use semantics::Sizes;
 use crate::rule::rule_ok;
 use crate::index::Index;
 use crate::index::index_rules;
+use crate::index::part;
+use crate::index::rule_words;
 
 // Where the verdict is Allowed, the atoms of rule r stand from starts[r] on, up to starts[r + 1].
 pub struct Checked {
@@ -46,23 +48,14 @@ fn sizes_ok(table: &[u32]) -> bool
     ((ports <= 256) & (rules <= 64) & (atoms <= 512)) & (table.len() == 5 + 2 * (atoms as usize))
 }
 
-pub fn part<'a>(words: &'a [u32], from: usize, to: usize) -> &'a [u32]
-    requires { ⌜ (from ≤ to) × (to ≤ length (now words)) ⌝ }
-    ensures { λ r. ⌜ now r ≡ take (to - from) (drop from (now (words .entry))) ⌝ }
-{
-    &words[from..to]
-}
-
 fn rules_ok<'a>(words: &'a [u32], starts: &'a [u32; 65], z: Sizes) -> bool
-    requires { ⌜ Cuts (z .rules) (length (now words)) (now starts) ⌝ }
+    requires { ⌜ ((r : ℕ) → r < z .rules → Cut (now starts) r (length (now words))) ⌝ }
     ensures { λ b. ⌜ b ≡ allBelow (z .rules) (λ r. ruleOk z (cut (now (starts .entry)) r (now (words .entry)))) ⌝ }
 {
     let rules = z.rules as usize;
     let mut r = 0;
     while r < rules {
-        let from = starts[r] as usize;
-        let to = starts[r + 1] as usize;
-        if !rule_ok(part(words, from, to), z) {
+        if !rule_ok(rule_words(words, starts, r), z) {
             return false;
         }
         r += 1;
