@@ -47,6 +47,10 @@ module _ (p : ℕ → Bool) where
   below-of-each zero f = refl
   below-of-each (suc n) f = rw (below-of-each n (λ r l. f r (omega arith)), f n (omega arith))
 
+pub below-same : (p q : ℕ → Bool) (n : ℕ) → ((r : ℕ) → r < n → p r ≡ q r) → allBelow n p ≡ allBelow n q
+below-same p q zero f = refl
+below-same p q (suc n) f = rw (below-same p q n (λ r l. f r (omega arith)), f n (omega arith))
+
 pub below-all : (p q : ℕ → Bool) → ((r : ℕ) → p r ≡ true → q r ≡ true) → (n : ℕ) → allBelow n p ≡ true → allBelow n q ≡ true
 below-all p q f zero h = refl
 below-all p q f (suc n) h =

@@ -1,5 +1,5 @@
 -- What is known of a table that the check accepts, of its rules and of their atoms.
-use Prim.Native.Nat.{ℕ, _+_, _*_, _≤_, _<_}
+use Prim.Native.Nat.{ℕ, _+_, _-_, _*_, _≤_, _<_}
 use mathlib.Core.Bool.{Bool, true, false, _&&_, not}
 use mathlib.Core.List.{List, map}
 use mathlib.Core.Path.{_≡_, refl, sym, ap, _∙_}
@@ -7,7 +7,7 @@ use native.Mathlib.Omega.{arith}
 use borrow.Author.Tests.{leb-true, eqb-true, ltb-true}
 use lib.Dec.{leb, ltb, eqb}
 use lib.ListN.{length, getD, take, drop, length-drop, length-map}
-use lib.Seq.{length-take-le}
+use lib.Seq.{length-take-le, take-all}
 use Rattle.lists.specs.Lists.{all, any, keep, count, risesFrom, allBelow}
 use Rattle.lists.specs.Tests.{and-both}
 use Rattle.lists.specs.Counting.{keep-map, count-map, length-keep, any-count}
@@ -54,6 +54,17 @@ numbers-length t s = length-take-le (sizesOf t .atoms) (drop 5 t) (omega (arith,
 
 pub words-length : (t : List ℕ) → Sized t → length (atomWordsOf t) ≡ sizesOf t .atoms
 words-length t s = omega (arith, length-drop (5 + sizesOf t .atoms) t)
+
+-- the two parts, as they are cut out
+pub numbers-part : (t : List ℕ) (a : ℕ) → a ≡ sizesOf t .atoms → take (5 + a - 5) (drop 5 t) ≡ numbersOf t
+numbers-part t a e =
+    let f : 5 + a - 5 ≡ sizesOf t .atoms = omega arith in
+    rw f
+
+pub words-part : (t : List ℕ) (a : ℕ) → a ≡ sizesOf t .atoms → take (length t - (5 + a)) (drop (5 + a) t) ≡ atomWordsOf t
+words-part t a e =
+    let f : 5 + a ≡ 5 + sizesOf t .atoms = omega arith in
+    take-all (length t - (5 + a)) (drop (5 + a) t) (omega (arith, length-drop (5 + a) t)) ∙ rw f
 
 -- ---- the whole table
 

@@ -10,29 +10,18 @@ ghost use Rattle.table.specs.Check.{CheckedAs};
 use semantics::Refusal;
 use semantics::Verdict;
 use semantics::Sizes;
+use crate::parts::sizes_of;
+use crate::parts::numbers_of;
+use crate::parts::atom_words_of;
+use crate::parts::rule_words;
 use crate::rule::rule_ok;
 use crate::index::Index;
 use crate::index::index_rules;
-use crate::index::part;
-use crate::index::rule_words;
 
 // Where the verdict is Allowed, the atoms of rule r stand from starts[r] on, up to starts[r + 1].
 pub struct Checked {
     pub verdict: Verdict,
     pub starts: [u32; 65],
-}
-
-pub fn sizes_of(table: &[u32]) -> Sizes
-    requires { ⌜ 5 ≤ length (now table) ⌝ }
-    ensures { λ r. ⌜ r ≡ sizesOf (now (table .entry)) ⌝ }
-{
-    Sizes {
-        globals: table[0],
-        locals: table[1],
-        merges: table[2],
-        rules: table[3],
-        atoms: table[4],
-    }
 }
 
 fn sizes_ok(table: &[u32]) -> bool
@@ -63,18 +52,18 @@ fn rules_ok<'a>(words: &'a [u32], starts: &'a [u32; 65], z: Sizes) -> bool
     true
 }
 
+// The rule numbers, then the rules.
 fn contents(table: &[u32]) -> Index
     requires { ⌜ Sized (now table) ⌝ }
     ensures { λ x. ⌜ Indexed (tableContentsOk (now (table .entry))) (numbersOf (now (table .entry))) (sizesOf (now (table .entry)) .rules) x ⌝ }
 {
     let z = sizes_of(table);
-    let at = 5 + z.atoms as usize;
-    let found = index_rules(part(table, 5, at), z.rules);
+    let found = index_rules(numbers_of(table), z.rules);
     let starts = found.starts;
     if !found.ok {
         return Index { ok: false, starts };
     }
-    let ok = rules_ok(part(table, at, table.len()), &starts, z);
+    let ok = rules_ok(atom_words_of(table), &starts, z);
     Index { ok, starts }
 }
 

@@ -1,9 +1,8 @@
 // The rule numbers: checked, and indexed, in one pass.
-ghost use mathlib.Core.Path.{_≡_};
-ghost use Prim.Native.Nat.{_≤_, _-_};
-ghost use lib.ListN.{length, take, drop};
+ghost use Prim.Native.Nat.{_≤_};
+ghost use lib.ListN.{length};
 ghost use Rattle.semantics.specs.Table.{numbersOk};
-ghost use Rattle.table.specs.Index.{Indexed, Cut, cut};
+ghost use Rattle.table.specs.Index.{Indexed};
 
 // Where ok, the atoms of rule r stand from starts[r] on, up to starts[r + 1].
 pub struct Index {
@@ -35,21 +34,4 @@ pub fn index_rules(numbers: &[u32], rules: u32) -> Index
         ok: seen == limit,
         starts,
     }
-}
-
-pub fn part<'a>(words: &'a [u32], from: usize, to: usize) -> &'a [u32]
-    requires { ⌜ (from ≤ to) × (to ≤ length (now words)) ⌝ }
-    ensures { λ r. ⌜ now r ≡ take (to - from) (drop from (now (words .entry))) ⌝ }
-{
-    &words[from..to]
-}
-
-// The words of rule r.
-pub fn rule_words<'a>(words: &'a [u32], starts: &'a [u32; 65], r: usize) -> &'a [u32]
-    requires { ⌜ Cut (now starts) r (length (now words)) ⌝ }
-    ensures { λ x. ⌜ now x ≡ cut (now (starts .entry)) r (now (words .entry)) ⌝ }
-{
-    let from = starts[r] as usize;
-    let to = starts[r + 1] as usize;
-    part(words, from, to)
 }
