@@ -85,10 +85,14 @@ both-allowed true true x y h = (refl, refl)
 both-allowed true false x y h = let e : _≡_ {A = ℕ} 0 1 = cc in absurd (omega arith)
 both-allowed false b x y h = let e : _≡_ {A = ℕ} 0 1 = cc in absurd (omega arith)
 
+pub verdict-allowed : (t : List ℕ) → tableVerdict t ≡ Allowed → (tableSizesOk t ≡ true) × (tableContentsOk t ≡ true)
+unfolding tableVerdict
+verdict-allowed t h = both-allowed (tableSizesOk t) (tableContentsOk t) TableSizes TableContents h
+
 pub well-formed : (t : List ℕ) → tableVerdict t ≡ Allowed → WellFormed t
-unfolding tableVerdict tableContentsOk rulesOk
+unfolding tableContentsOk rulesOk
 well-formed t h =
-    let (s, c) = both-allowed (tableSizesOk t) (tableContentsOk t) TableSizes TableContents h in
+    let (s, c) = verdict-allowed t h in
     let z = sizesOf t in
     let (n, k) = and-both (numbersOk (z .rules) (numbersOf t)) (rulesOk z (numbersOf t) (atomWordsOf t)) c in
     record { sizes = sized t s; numbers = n; each = λ r. below-each (λ r. ruleOk z (ruleWords r (numbersOf t) (atomWordsOf t))) (z .rules) r k }

@@ -7,16 +7,16 @@ ghost use Rattle.semantics.specs.Table.{sizesOf, numbersOf, tableSizesOk, table
 ghost use Rattle.semantics.specs.TableLaws.{Sized};
 ghost use Rattle.table.specs.Index.{Cut, cut, Indexed};
 ghost use Rattle.table.specs.Check.{CheckedAs};
-use semantics::Refusal;
-use semantics::Verdict;
-use semantics::Sizes;
-use crate::parts::sizes_of;
-use crate::parts::numbers_of;
-use crate::parts::atom_words_of;
-use crate::parts::rule_words;
-use crate::rule::rule_ok;
 use crate::index::Index;
 use crate::index::index_rules;
+use crate::parts::atom_words_of;
+use crate::parts::numbers_of;
+use crate::parts::rule_words;
+use crate::parts::sizes_of;
+use crate::rule::rule_ok;
+use semantics::Refusal;
+use semantics::Sizes;
+use semantics::Verdict;
 
 // Where the verdict is Allowed, the atoms of rule r stand from starts[r] on, up to starts[r + 1].
 pub struct Checked {

@@ -1,6 +1,6 @@
 // The table: its check (01, "Recipe table"), and a rule decoded from its words.
-mod parts;
 mod atom;
-mod index;
 mod check;
+mod index;
+mod parts;
 mod rule;

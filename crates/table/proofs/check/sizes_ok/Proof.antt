@@ -6,40 +6,10 @@ use Rattle.lists.specs.Tests.{and-false}
 use Rattle.semantics.specs.Table.{tableSizesOk}
 use Rattle.table.proofs.check.sizes_ok.Statement.{statement}
 use Rattle.table.proofs.check.sizes_ok.Tie as tie
-use Rattle.table.proofs.check.sizes_ok.Reads as reads
-use Rattle.table.proofs.check.sizes_ok.Lts as lts
-use Rattle.table.proofs.check.sizes_of.Reads as sizes-of-reads
 
 returns : tie.Need-returns
 unfolding tableSizesOk
 returns c = sym (and-false _ (lt-leb 5 _ (c .if1 .taken)))
-
-sizes-of-requires : tie.Need-sizes-of-requires
-sizes-of-requires c κs = search needs
-
-cast-ports : tie.Need-cast-ports
-cast-ports c = search needs
-
-cast-ports-2 : tie.Need-cast-ports-2
-cast-ports-2 c = search needs
-
-add-ports : tie.Need-add-ports
-add-ports c = search needs
-
-cast-ports-3 : tie.Need-cast-ports-3
-cast-ports-3 c = search needs
-
-add-ports-2 : tie.Need-add-ports-2
-add-ports-2 c = search needs
-
-cast-result : tie.Need-cast-result
-cast-result c = search needs
-
-mul-result : tie.Need-mul-result
-mul-result c = search needs
-
-add-result : tie.Need-add-result
-add-result c = search needs
 
 returns-2 : tie.Need-returns-2
 unfolding tableSizesOk
@@ -50,13 +20,13 @@ sizes-ok-spec =
     tie.close
     (tie.spec
     returns
-    sizes-of-requires
-    cast-ports
-    cast-ports-2
-    add-ports
-    cast-ports-3
-    add-ports-2
-    cast-result
-    mul-result
-    add-result
+    (λ c κs. search needs)
+    (λ c. search needs)
+    (λ c. search needs)
+    (λ c. search needs)
+    (λ c. search needs)
+    (λ c. search needs)
+    (λ c. search needs)
+    (λ c. search needs)
+    (λ c. search needs)
     returns-2)
