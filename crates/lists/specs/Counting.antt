@@ -1,12 +1,13 @@
 -- Laws of `count`, `keep`, `all` and `any`.
-use Prim.Native.Nat.{ℕ, suc, _+_, _≤_}
+use Prim.Native.Nat.{ℕ, zero, suc, _+_, _≤_, _<_}
 use mathlib.Core.List.{List, [], _∷_, _++_, map}
-use mathlib.Core.Bool.{Bool, true, false, _||_}
+use mathlib.Core.Bool.{Bool, true, false, _&&_, _||_}
 use mathlib.Core.Path.{_≡_, refl, sym, ap, _∙_}
 use native.Mathlib.Omega.{arith}
 use borrow.Author.Tests.{le-leb}
 use lib.Dec.{leb}
-use lib.ListN.{length}
+use native.Mathlib.Nat.{le-of-suc-le-suc, not-suc-le-zero}
+use lib.ListN.{length, getD}
 use Rattle.lists.specs.Lists.{all, any, keep, keepIf, count, oneIf}
 use Rattle.lists.specs.Tests.{and-both}
 
@@ -28,6 +29,12 @@ module _ {A : Type 0} (p : A → Bool) where
   all-append (x ∷ xs) ys h k =
       let (a, b) = and-both (p x) (all p xs) h in
       rw (a, all-append xs ys b k)
+
+  -- of the element at a place
+  pub all-at : (xs : List A) (i : ℕ) (d : A) → all p xs ≡ true → i < length xs → p (getD xs i d) ≡ true
+  all-at [] i d h l = absurd (not-suc-le-zero l)
+  all-at (x ∷ xs) zero d h l = and-both (p x) (all p xs) h .0
+  all-at (x ∷ xs) (suc i) d h l = all-at xs i d (and-both (p x) (all p xs) h .1) (le-of-suc-le-suc l)
 
   pub count-all : (xs : List A) → all p xs ≡ true → count p xs ≡ length xs
   count-all [] h = refl
@@ -67,6 +74,10 @@ module _ {A B : Type 0} (f : A → B) (p : B → Bool) where
   pub count-map : (xs : List A) → count p (map f xs) ≡ count (λ x. p (f x)) xs
   count-map [] = refl
   count-map (x ∷ xs) = ap (λ (n : ℕ). oneIf (p (f x)) + n) (count-map xs)
+
+  pub all-map : (xs : List A) → all p (map f xs) ≡ all (λ x. p (f x)) xs
+  all-map [] = refl
+  all-map (x ∷ xs) = ap (λ (b : Bool). p (f x) && b) (all-map xs)
 
 -- ---- of two tests, of which the first holds only where the second does
 module _ {A : Type 0} (p q : A → Bool) (f : (x : A) → p x ≡ true → q x ≡ true) where

@@ -9,7 +9,7 @@ use native.Mathlib.Numerals.{add-one}
 use native.Mathlib.Omega.{arith}
 use lib.ListN.{length, getD, take, drop, set, drop-of-length-le}
 use lib.Seq.{drop-cons, take-suc, take-suc-set, take-all}
-use Rattle.lists.specs.Lists.{allBelow}
+use Rattle.lists.specs.Lists.{allBelow, upFrom}
 use Rattle.lists.specs.Tests.{and-false, and-right-false, and-both}
 
 module _ {A : Type 0} where
@@ -64,3 +64,13 @@ module _ {A B : Type 0} (f : A → B) (xs : List A) (ys : List B) (i : ℕ) wher
 
   pub fill-all : length xs ≤ i → length ys ≤ i → take i ys ≡ map f (take i xs) → ys ≡ map f xs
   fill-all hx hy e = rw (take-all i xs hx, take-all i ys hy) at e
+
+-- ---- a list of f of each number from i on
+pub getD-upFrom : {A : Type 0} (f : ℕ → A) (d : A) (i n r : ℕ) → r < n → getD (map f (upFrom i n)) r d ≡ f (i + r)
+getD-upFrom f d i zero r l = absurd (not-suc-le-zero l)
+getD-upFrom f d i (suc n) zero l =
+    let e : i ≡ i + 0 = omega arith in
+    ap f e
+getD-upFrom f d i (suc n) (suc r) l =
+    let e : suc i + r ≡ i + suc r = omega arith in
+    getD-upFrom f d (suc i) n r (le-of-suc-le-suc l) ∙ ap f e

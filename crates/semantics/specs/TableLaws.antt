@@ -1,24 +1,27 @@
 -- What is known of a table that the check accepts, of its rules and of their atoms.
 use Prim.Native.Nat.{ℕ, _+_, _-_, _*_, _≤_, _<_}
-use mathlib.Core.Bool.{Bool, true, false, _&&_, not}
+use mathlib.Core.Bool.{Bool, true, false, _&&_, _||_}
 use mathlib.Core.List.{List, map}
 use mathlib.Core.Path.{_≡_, refl, sym, ap, _∙_}
 use native.Mathlib.Omega.{arith}
-use borrow.Author.Tests.{leb-true, eqb-true, ltb-true}
+use borrow.Author.Tests.{leb-true, eqb-true, ltb-true, ne-eqb}
 use lib.Dec.{leb, ltb, eqb}
 use lib.ListN.{length, getD, take, drop, length-drop, length-map}
 use lib.Seq.{length-take-le, take-all}
 use Rattle.lists.specs.Lists.{all, any, keep, count, risesFrom, allBelow}
-use Rattle.lists.specs.Tests.{and-both}
-use Rattle.lists.specs.Counting.{keep-map, count-map, length-keep, any-count}
-use Rattle.lists.specs.Rising.{ZerosFirst, zeros-first}
-use Rattle.lists.specs.Walk.{below-each}
+use Rattle.lists.specs.Tests.{and-both, or-false}
+use Rattle.lists.specs.Counting.{count-le, count-map, all-map, all-weaker, length-keep, any-count}
+use Rattle.lists.specs.Rising.{zeros-first, rises-map}
+use Rattle.lists.specs.Walk.{below-each, getD-upFrom}
 use Rattle.semantics.specs.Words.{atomRole, atomMode, portOf, valueOf}
-use Rattle.semantics.specs.Table.{sizesOf, numbersOf, atomWordsOf, ruleWords, portCount, sizesWithin, tableSizesOk, occurs, numbersOk, isRole, modeOk, consumeOk, emitOk, markOk, beginOk, innerOk, compensateOk, atomOk, shapeOf, ruleOk, rulesOk, tableContentsOk}
+use Rattle.semantics.specs.Table.{sizesOf, numbersOf, atomWordsOf, ruleWords, portCount, sizesWithin, tableSizesOk, occurs, numbersOk, isRole, modeOk, consumeOk, emitOk, markOk, beginOk, innerOk, compensateOk, atomOk, shapeOf, ruleOk, rulesOk, tableContentsOk, atomValue, atomOf, Rule, ruleOf, tableOf, noRule, ruleAt, hasRole, consumed, productAtoms, begins}
 use Rattle.semantics.specs.Move.{unless, both}
 use Rattle.semantics.specs.Answers.{tableVerdict}
 use Rattle.semantics.specs.declared.Sizes.{Sizes}
 use Rattle.semantics.specs.declared.Shape.{Shape}
+use Rattle.semantics.specs.declared.Atom.{Atom}
+use Rattle.semantics.specs.declared.AtomValue.{AtomValue}
+use Rattle.semantics.specs.declared.AtomValue.the-variants.{Constant, Received}
 use Rattle.semantics.specs.declared.Refusal.{Refusal}
 use Rattle.semantics.specs.declared.Refusal.the-variants.{TableSizes, TableContents}
 use Rattle.semantics.specs.declared.Verdict.{Verdict}
@@ -175,3 +178,71 @@ atom-fits z s w h =
       inner = inner;
       compensate = compensate;
     }
+
+-- ---- a decoded rule
+
+pub rule-at : (t : List ℕ) (r : ℕ) → r < sizesOf t .rules → ruleAt (tableOf t) r ≡ ruleOf (sizesOf t) (ruleWords r (numbersOf t) (atomWordsOf t))
+unfolding tableOf
+rule-at t r l =
+    let e : 0 + r ≡ r = omega arith in
+    getD-upFrom (λ r. ruleOf (sizesOf t) (ruleWords r (numbersOf t) (atomWordsOf t))) noRule 0 (sizesOf t .rules) r l
+    ∙ ap (λ (r : ℕ). ruleOf (sizesOf t) (ruleWords r (numbersOf t) (atomWordsOf t))) e
+
+-- the value is a constant, or one of n received ones
+abbrev pub valueExists : ℕ → AtomValue → Bool
+valueExists n (Constant v) = true
+valueExists n (Received i) = ltb i n
+
+mode-exists : (m v n : ℕ) → eqb m 0 || eqb m 1 && ltb v n ≡ true → valueExists n (atomValue (eqb m 1) v) ≡ true
+mode-exists m v n h = go (eqb m 1) refl h
+  where
+    go : (b : Bool) → eqb m 1 ≡ b → eqb m 0 || b && ltb v n ≡ true → valueExists n (atomValue b v) ≡ true
+    go false e h = refl
+    go true e h =
+        let one = eqb-true m 1 e in
+        sym (or-false (ltb v n) (ne-eqb m 0 (λ zero. omega arith))) ∙ h
+
+-- The first n atoms are the rule's consumes.
+pub record Leads (n : ℕ) (r : Rule) : Type 0 where
+  pub some : 1 ≤ n
+  pub most : n ≤ 4
+  pub within : n ≤ length (r .atoms)
+  pub few : length (r .atoms) ≤ 16
+  pub consumed : consumed r ≡ map (λ a. a .port) (take n (r .atoms))
+  pub products : productAtoms r ≡ drop n (r .atoms)
+  pub values : all (λ a. valueExists n (a .value)) (r .atoms) ≡ true
+
+module _ (z : Sizes) (ws : List ℕ) where
+  pub rule-begins : begins (ruleOf z ws) ≡ leb 1 (count (isRole 2) ws)
+  unfolding ruleOf
+  rule-begins = any-count (hasRole 2) (map atomOf ws) ∙ ap (leb 1) (count-map atomOf (hasRole 2) ws)
+
+  pub consumed-length : length (consumed (ruleOf z ws)) ≡ count (isRole 0) ws
+  unfolding ruleOf
+  consumed-length =
+      length-map (keep (hasRole 0) (map atomOf ws)) (λ a. a .port) ∙ length-keep (hasRole 0) (map atomOf ws) ∙ count-map atomOf (hasRole 0) ws
+
+  module _ (f : RuleFits z ws) where
+    values : all (λ w. valueExists (count (isRole 0) ws) (atomOf w .value)) ws ≡ true
+    values =
+        all-weaker
+        (atomOk z (shapeOf z ws))
+        (λ w. valueExists (count (isRole 0) ws) (atomOf w .value))
+        (λ w h. mode-exists (atomMode w) (valueOf w) (count (isRole 0) ws) (atom-fits z (shapeOf z ws) w h .mode))
+        ws
+        (f .atoms)
+
+    pub rule-leads : Leads (count (isRole 0) ws) (ruleOf z ws)
+    unfolding ruleOf
+    rule-leads =
+        let first = zeros-first (λ (a : Atom). a .role) 0 (map atomOf ws) (rises-map atomOf (λ (a : Atom). a .role) 0 ws ∙ f .rises) in
+        let n = count-map atomOf (hasRole 0) ws in
+        record {
+          some = f .some;
+          most = f .most;
+          within = rw length-map (count-le (isRole 0) ws);
+          few = rw length-map (f .few);
+          consumed = ap (map (λ a. a .port)) (first .zero ∙ ap (λ (k : ℕ). take k (map atomOf ws)) n);
+          products = first .other ∙ ap (λ (k : ℕ). drop k (map atomOf ws)) n;
+          values = all-map atomOf (λ a. valueExists (count (isRole 0) ws) (a .value)) ws ∙ values;
+        }
