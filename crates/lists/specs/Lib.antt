@@ -9,3 +9,5 @@ pub mod Removed
 pub mod Unrepeated
 pub mod Tabled
 pub mod Parts
+pub mod Counting
+pub mod Rising
