@@ -4,8 +4,8 @@ use mathlib.Core.Path.{_≡_, refl, sym, ap, _∙_}
 use mathlib.Core.Bool.{Bool, true, false, _&&_, _||_, not, and-true, and-false}
 use mathlib.Core.List.{List, [], _∷_}
 use lib.Dec.{eqb}
-use borrow.Author.Tests.{eqb-true, eqb-false, eq-eqb, ne-eqb}
 use Rattle.lists.specs.Lists.{all, isIn, distinct}
+use Rattle.lists.specs.Tests.{eqb-swap}
 
 module _ {A : Type 0} where
   pub all-ext : {p q : A → Bool} → ((x : A) → p x ≡ q x) → (xs : List A) → all p xs ≡ all q xs
@@ -20,13 +20,6 @@ unseen p (m ∷ ms) = not (p m) && unseen (λ u. eqb u m || p u) ms
 pub unseen-ext : {p q : ℕ → Bool} → ((u : ℕ) → p u ≡ q u) → (ms : List ℕ) → unseen p ms ≡ unseen q ms
 unseen-ext e [] = refl
 unseen-ext e (m ∷ ms) = rw (e m, unseen-ext (λ u. ap (λ b. eqb u m || b) (e u)) ms)
-
-eqb-swap : (a b : ℕ) → eqb a b ≡ eqb b a
-eqb-swap a b = go (eqb b a) refl
-  where
-    go : (t : Bool) → eqb b a ≡ t → eqb a b ≡ t
-    go true q = eq-eqb a b (sym (eqb-true b a q))
-    go false q = ne-eqb a b (λ e. eqb-false b a q (sym e))
 
 sort-out : (a b c d : Bool) → not (a || b) && (not c && d) ≡ not (a || c) && (not b && d)
 sort-out true b c d = refl

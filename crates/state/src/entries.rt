@@ -14,7 +14,7 @@ pub fn entries_ok(z: Sizes, state: &[u32]) -> bool
     requires { ⌜ stateSizesOk (now state) ≡ true ⌝ }
     ensures { λ r. ⌜ r ≡ entriesOk z (stateOf (now (state .entry))) ⌝ }
 {
-    let n = state[0] as usize;
+    let n = crate::entry_count(state);
     let next = state[1];
     let columns = &state[2..];
     let owners = &columns[..n];

@@ -6,7 +6,8 @@ use semantics::Sizes;
 use semantics::Verdict;
 ghost use mathlib.Core.Path.{_≡_};
 ghost use mathlib.Core.Bool.{true};
-ghost use Rattle.semantics.specs.State.{stateSizesOk, stateOf};
+ghost use Rattle.semantics.specs.State.{stateSizesOk, stateOf, entryCount};
+ghost use Rattle.semantics.specs.Columns.{Sized};
 ghost use Rattle.semantics.specs.Answers.{stateOwnVerdict};
 
 // Entries in use are the first len of each column. Document 01's limits and its empty state belong to this type. An origin is maker × 1024 + index.
@@ -47,4 +48,12 @@ fn sizes_ok(state: &[u32]) -> bool
     let n = state[0] as usize;
     let next = state[1];
     (n <= State::MAX_ENTRIES) & ((1 <= next) & (next <= State::MAX_NEXT)) & (state.len() == 2 + 2 * n)
+}
+
+// n, and what sizes in order say of it.
+fn entry_count(state: &[u32]) -> usize
+    requires { ⌜ stateSizesOk (now state) ≡ true ⌝ }
+    ensures { λ r. ⌜ (r ≡ entryCount (now (state .entry))) × Sized (now (state .entry)) ⌝ }
+{
+    state[0] as usize
 }

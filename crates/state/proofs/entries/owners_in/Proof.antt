@@ -1,59 +1,42 @@
+-- `owners_in` meets its contract: `all` of the owners ahead is `all` of them.
+use Prim.Native.Nat.{_-_}
+use mathlib.Core.Path.{_≡_, sym, _∙_}
 use borrow.Author.Needs.{needs}
-use Prim.Native.Nat.{ℕ, _+_, _-_, _*_, _≤_, _<_}
-use mathlib.Core.Path.{_≡_, refl, sym, ap, _∙_}
-use native.Mathlib.Omega.{arith}
-use lib.ListN.{length, getD, take, drop}
+use borrow.Author.Tests.{not-true, not-false}
+use lib.ListN.{length, drop}
+use Rattle.lists.specs.Lists.{all}
+use Rattle.lists.specs.Tests.{and-false, and-true}
+use Rattle.lists.specs.Ahead.{Ahead, slice-tails, ahead-start, ahead-here, ahead-next, ahead-done}
+use Rattle.state.specs.Check.{ownerIn}
 use Rattle.state.proofs.entries.owners_in.Statement.{statement}
 use Rattle.state.proofs.entries.owners_in.Tie as tie
-use Rattle.state.proofs.entries.owners_in.Reads as reads
-use Rattle.state.proofs.entries.owners_in.Lts as lts
-use Rattle.state.proofs.entries.owner_in.Reads as owner-in-reads
 
-abbrev Inv-loop : tie.InvT-loop
-Inv-loop own owners i₀ i = ?
+abbrev Inv : tie.InvT-loop
+Inv own owners i₀ i = (length own ≡ 1024) × Ahead (λ k. drop k owners) (length owners) (all (ownerIn own)) i (all (ownerIn own) owners)
 
-abbrev μ-loop : tie.MeasureT-loop
-μ-loop own owners i₀ i = ?
+abbrev μ : tie.MeasureT-loop
+μ own owners i₀ i = length owners - i
 
-loop-holds : tie.Need-loop-holds Inv-loop μ-loop
-loop-holds c = search needs
+loop-holds : tie.Need-loop-holds Inv μ
+loop-holds c = (c .before .pre, ahead-start _ _ _)
 
-mul-owner-in : tie.Need-mul-owner-in Inv-loop μ-loop
-mul-owner-in c = search needs
+returns : tie.Need-returns Inv μ
+returns c =
+    ahead-here (slice-tails 0 _) (c .before .before .before .before .loop .inv .1) (c .before .before .before .loop-test .taken) _
+    (λ os. and-false _ (sym (c .before .owner-in .ensures) ∙ not-true _ (c .if1 .taken)))
 
-shared-slice-read-owner-in : tie.Need-shared-slice-read-owner-in Inv-loop μ-loop
-shared-slice-read-owner-in c = search needs
+loop-again : tie.Need-loop-again Inv μ
+loop-again c =
+    let v = c .before .before .before .before .loop .inv in
+    (v .0,
+    ahead-next (slice-tails 0 _) (v .1) (c .before .before .before .loop-test .taken) _
+    (λ os. and-true _ (sym (c .before .owner-in .ensures) ∙ not-false _ (c .if1 .left))))
 
-owner-in-requires : tie.Need-owner-in-requires Inv-loop μ-loop
-owner-in-requires c κs = search needs
-
-returns : tie.Need-returns Inv-loop μ-loop
-returns c = search needs
-
-add-i : tie.Need-add-i Inv-loop μ-loop
-add-i c = search needs
-
-loop-less : tie.Need-loop-less Inv-loop μ-loop
-loop-less c = search needs
-
-loop-again : tie.Need-loop-again Inv-loop μ-loop
-loop-again c = search needs
-
-returns-2 : tie.Need-returns-2 Inv-loop μ-loop
-returns-2 c = search needs
+returns-2 : tie.Need-returns-2 Inv μ
+returns-2 c = ahead-done (slice-tails 0 _) (c .before .loop .inv .1) (c .loop-test .left)
 
 pub owners-in-spec : {M : Type 1} → statement M
 owners-in-spec =
     tie.close
-    (tie.spec
-    Inv-loop
-    μ-loop
-    loop-holds
-    mul-owner-in
-    shared-slice-read-owner-in
-    owner-in-requires
-    returns
-    add-i
-    loop-less
-    loop-again
-    returns-2)
+    (tie.spec Inv μ loop-holds (λ c. search needs) (λ c. search needs) (λ c κs. search needs) returns
+    (λ c. search needs) (λ c. search needs) loop-again returns-2)
