@@ -1,4 +1,4 @@
--- What the passes of the state check say to each other: which transactions own their own mark.
+-- What the parts of the state check say to each other.
 use Prim.Native.Nat.{ℕ}
 use mathlib.Core.Path.{_≡_}
 use mathlib.Core.Bool.{Bool, _||_}
@@ -8,6 +8,11 @@ use lib.ListN.{length}
 use Rattle.lists.specs.Lists.{any}
 use Rattle.semantics.specs.State.{Entry, isOwnMark}
 use Rattle.idset.specs.IdSet.{has}
+
+-- a slice that is a column of n words
+pub record Column (xs column : List ℕ) (n : ℕ) : Type 0 where
+  pub value : xs ≡ column
+  pub size : length xs ≡ n
 
 -- the set of the transactions of which es has the own mark
 pub record OwnMarks (set : List ℕ) (es : List Entry) : Type 0 where
