@@ -28,7 +28,7 @@ pub fn entry_count(state: &[u32]) -> usize
 
 pub fn owners_of(state: &[u32]) -> &[u32]
     requires { ⌜ stateSizesOk (now state) ≡ true ⌝ }
-    ensures { λ r. ⌜ Column (now r) (ownersOf (now (state .entry))) (entryCount (now (state .entry))) ⌝ }
+    ensures { λ r. ⌜ Column (now r) (ownersOf (now (state .entry))) (now (state .entry)) ⌝ }
 {
     let n = entry_count(state);
     &state[2..2 + n]
@@ -36,7 +36,7 @@ pub fn owners_of(state: &[u32]) -> &[u32]
 
 pub fn items_of(state: &[u32]) -> &[u32]
     requires { ⌜ stateSizesOk (now state) ≡ true ⌝ }
-    ensures { λ r. ⌜ Column (now r) (itemsOf (now (state .entry))) (entryCount (now (state .entry))) ⌝ }
+    ensures { λ r. ⌜ Column (now r) (itemsOf (now (state .entry))) (now (state .entry)) ⌝ }
 {
     let n = entry_count(state);
     &state[2 + n..]

@@ -12,7 +12,7 @@ slice-write-target : tie.Need-slice-write-target
 slice-write-target c = search needs
 
 slice-write-target-2 : tie.Need-slice-write-target-2
-slice-write-target-2 c = search needs
+slice-write-target-2 c = ?
 
 put-column-requires : tie.Need-put-column-requires
 put-column-requires c κs = search needs
@@ -21,7 +21,7 @@ add-put-column : tie.Need-add-put-column
 add-put-column c = search needs
 
 put-column-requires-2 : tie.Need-put-column-requires-2
-put-column-requires-2 c κs = search needs
+put-column-requires-2 c κs = ?
 
 mul-result : tie.Need-mul-result
 mul-result c = search needs
@@ -33,10 +33,10 @@ cast-result : tie.Need-cast-result
 cast-result c = search needs
 
 same-length : tie.Need-same-length
-same-length c = search needs
+same-length c = ?
 
 returns : tie.Need-returns
-returns c = search needs
+returns c = ?
 
 pub store-spec : {M : Type 1} → statement M
 store-spec =

@@ -1,8 +1,6 @@
 -- `entries_ok` meets its contract by what its three passes say of the two columns.
-use native.Mathlib.Omega.{arith}
 use borrow.Author.Needs.{needs}
 use Rattle.semantics.specs.State.{entriesOk, stateOf}
-use Rattle.semantics.specs.Columns.{sized}
 use Rattle.state.proofs.entries.entries_ok.Statement.{statement}
 use Rattle.state.proofs.entries.entries_ok.Tie as tie
 
@@ -16,5 +14,5 @@ returns c =
 pub entries-ok-spec : {M : Type 1} → statement M
 entries-ok-spec =
     tie.close
-    (tie.spec (λ c κs. search needs) (λ c κs. search needs) (λ c. let q = sized _ (c .before .before .before .before .pre) in omega arith)
+    (tie.spec (λ c κs. search needs) (λ c κs. search needs) (λ c. search needs)
     (λ c κs. search needs) (λ c κs. search needs) (λ c κs. search needs) returns)

@@ -8,8 +8,9 @@ use Rattle.state.proofs.words.items_of.Tie as tie
 
 returns : tie.Need-returns
 returns c =
-    let e = items-part (c .before .before .before .args .state .now) (c .before .entry-count .result) (c .before .entry-count .ensures .0) in
-    record { value = e; size = ap length e ∙ c .before .entry-count .ensures .1 .items }
+    let (n, q) = c .before .entry-count .ensures in
+    let e = items-part (c .before .before .before .args .state .now) (c .before .entry-count .result) n in
+    record { value = e; size = ap length e ∙ q .items; sizes = q }
 
 pub items-of-spec : {M : Type 1} → statement M
 items-of-spec =

@@ -8,8 +8,9 @@ use Rattle.state.proofs.words.owners_of.Tie as tie
 
 returns : tie.Need-returns
 returns c =
-    let e = owners-part (c .before .before .before .args .state .now) (c .before .entry-count .result) (c .before .entry-count .ensures .0) in
-    record { value = e; size = ap length e ∙ c .before .entry-count .ensures .1 .owners }
+    let (n, q) = c .before .entry-count .ensures in
+    let e = owners-part (c .before .before .before .args .state .now) (c .before .entry-count .result) n in
+    record { value = e; size = ap length e ∙ q .owners; sizes = q }
 
 pub owners-of-spec : {M : Type 1} → statement M
 owners-of-spec =
