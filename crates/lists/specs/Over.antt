@@ -21,6 +21,11 @@ module _ {A : Type 0} where
       rw (take-append-seam new (drop (length new) old), drop-append-add new (drop (length new) old) n, drop-drop n (length new) old,
       length-append new (take n column), length-take-le n column h)
 
+  -- `new` is `old` with n elements of a source from place `at` on.
+  pub record Pasted (old : List A) (at : ℕ) (source : List A) (n : ℕ) (new : List A) : Type 0 where
+    pub value : new ≡ paste old at source n
+    pub size : length new ≡ length old
+
   -- A loop that copies n elements of a source into `old` from place `at` on, with i of them done.
   pub record Pasting (old : List A) (at : ℕ) (source : List A) (n i : ℕ) (new : List A) : Type 0 where
     pub within : i ≤ n
@@ -42,7 +47,7 @@ module _ {A : Type 0} where
       so-far = ap (λ (l : List A). set l (at + i) (getD source i d)) (p .so-far) ∙ rw (add-one i) (paste-suc old at source i d (omega arith) (omega arith));
     }
 
-    pub pasting-done : n ≤ i → new ≡ paste old at source n
+    pub pasting-done : n ≤ i → Pasted old at source n new
     pasting-done h =
         let e : i ≡ n = omega arith in
-        p .so-far ∙ rw e
+        record { value = p .so-far ∙ rw e; size = p .size }

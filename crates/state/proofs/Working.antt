@@ -4,13 +4,15 @@ use mathlib.Core.Path.{_≡_, refl, sym, ap, _∙_}
 use mathlib.Core.List.{List, [], _∷_, _++_, map, append-assoc}
 use native.Mathlib.Nat.{zero-add}
 use native.Mathlib.Omega.{arith}
-use lib.ListN.{length, getD, take, set, length-set}
-use lib.Seq.{getD-set-same, getD-set-other}
+use lib.ListN.{length, getD, take, set, length-set, length-append}
+use lib.Seq.{length-take-le, getD-set-same, getD-set-other}
+use Rattle.lists.specs.Lists.{over}
+use Rattle.lists.specs.Over.{Pasted, over-two, over-column}
 use Rattle.lists.specs.Rows.{rows, length-rows, rows-ext, rows-more, rows-take, map-rows}
 use Rattle.semantics.specs.Words.{itemKind, itemWord, portOf, valueOf}
 use Rattle.semantics.specs.State as semantics
 use Rattle.semantics.specs.State.{Entry, entryOf, stateWords}
-use Rattle.state.specs.Working.{originOf, entryFrom, rowOf, entryIn, stateIn, Holds}
+use Rattle.state.specs.Working.{originOf, entryFrom, rowOf, entryIn, stateIn, Holds, Stored}
 use Rattle.state.specs.declared.State.{State}
 
 -- three columns of 1,024 places
@@ -76,3 +78,26 @@ state-words s ho hi =
       ∙ rows-ext _ _ 0 n (λ k l u. item-whole (getD (s .items) k 0))
       ∙ rows-take 0 (s .items) n hi in
     rw (length-rows, os, ws)
+
+-- n and next, then the two columns, one after another
+pub stored-words : (s : State) (before middle after : List ℕ) → Columns (s .owners) (s .items) (s .origins) → s .len ≤ 1024 → 2 + 2 * s .len ≤ length before
+    → Pasted (set (set before 0 (s .len)) 1 (s .next)) 2 (s .owners) (s .len) middle → Pasted middle (2 + s .len) (s .items) (s .len) after
+    → Stored s before after (2 + 2 * s .len)
+stored-words s before middle after c h room p q =
+    let n = s .len in
+    let ho : n ≤ length (s .owners) = omega arith in
+    let hi : n ≤ length (s .items) = omega arith in
+    let os = take n (s .owners) in
+    let ws = take n (s .items) in
+    let two : 2 ≤ length before = omega arith in
+    let lo : length os ≡ n = length-take-le n (s .owners) ho in
+    let li : length ws ≡ n = length-take-le n (s .items) hi in
+    let at : 2 + n ≡ length (n ∷ s .next ∷ os) = omega arith in
+    let owners : middle ≡ over (n ∷ s .next ∷ os) before =
+      p .value ∙ rw (over-two n (s .next) before two) (over-column (n ∷ s .next ∷ []) before (s .owners) n ho) in
+    let items : after ≡ over (n ∷ s .next ∷ os ++ ws) before =
+      q .value ∙ rw (owners, at) (over-column (n ∷ s .next ∷ os) before (s .items) n hi) in
+    record {
+      target = rw (state-words s ho hi) items;
+      words = rw (state-words s ho hi) (omega (arith, length-append os ws));
+    }

@@ -10,7 +10,7 @@ ghost use mathlib.Core.Path.{_≡_};
 ghost use mathlib.Core.Bool.{true};
 ghost use mathlib.Core.List.{[]};
 ghost use lib.ListN.{length};
-ghost use lib.Seq.{paste};
+ghost use Rattle.lists.specs.Over.{Pasted};
 ghost use Rattle.semantics.specs.State.{stateSizesOk, stateOf, entriesOf};
 ghost use Rattle.semantics.specs.Answers.{stateOwnVerdict};
 ghost use Rattle.state.specs.Working.{Holds, Stored};
@@ -96,7 +96,7 @@ pub fn store(s: State, target: &mut [u32]) -> u32
 // The first n of a column, from place at on.
 fn put_column(column: &[u32; 1024], n: usize, target: &mut [u32], at: usize)
     requires { ⌜ (n ≤ 1024) × (length (now column) ≡ 1024) × (at + n ≤ length (now target)) ⌝ }
-    ensures { λ _. ⌜ now (target .exit) ≡ paste (now (target .entry)) at (now (column .entry)) n ⌝ }
+    ensures { λ _. ⌜ Pasted (now (target .entry)) at (now (column .entry)) n (now (target .exit)) ⌝ }
 {
     let mut i = 0;
     while i < n {
