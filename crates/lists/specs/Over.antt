@@ -18,8 +18,13 @@ module _ {A : Type 0} where
   -- n elements of a column after what is written
   pub over-column : (new old column : List A) (n : ℕ) → n ≤ length column → paste (over new old) (length new) column n ≡ over (new ++ take n column) old
   over-column new old column n h =
-      rw (take-append-seam new (drop (length new) old), drop-append-add new (drop (length new) old) n, drop-drop n (length new) old,
-      length-append new (take n column), length-take-le n column h)
+      rw (
+        take-append-seam new (drop (length new) old),
+        drop-append-add new (drop (length new) old) n,
+        drop-drop n (length new) old,
+        length-append new (take n column),
+        length-take-le n column h,
+      )
 
   -- `new` is `old` with n elements of a source from place `at` on.
   pub record Pasted (old : List A) (at : ℕ) (source : List A) (n : ℕ) (new : List A) : Type 0 where

@@ -74,9 +74,9 @@ state-words s ho hi =
     let n = s .len in
     let os : map (λ e. e .owner) (rows (entryIn s) 0 n) ≡ take n (s .owners) = map-rows (λ e. e .owner) (entryIn s) 0 n ∙ rows-take 0 (s .owners) n ho in
     let ws : map (λ e. itemWord (e .kind) (e .port) (e .value)) (rows (entryIn s) 0 n) ≡ take n (s .items) =
-      map-rows (λ e. itemWord (e .kind) (e .port) (e .value)) (entryIn s) 0 n
-      ∙ rows-ext _ _ 0 n (λ k l u. item-whole (getD (s .items) k 0))
-      ∙ rows-take 0 (s .items) n hi in
+    map-rows (λ e. itemWord (e .kind) (e .port) (e .value)) (entryIn s) 0 n
+    ∙ rows-ext _ _ 0 n (λ k l u. item-whole (getD (s .items) k 0))
+    ∙ rows-take 0 (s .items) n hi in
     rw (length-rows, os, ws)
 
 -- n and next, then the two columns, one after another
@@ -94,9 +94,9 @@ stored-words s before middle after c h room p q =
     let li : length ws ≡ n = length-take-le n (s .items) hi in
     let at : 2 + n ≡ length (n ∷ s .next ∷ os) = omega arith in
     let owners : middle ≡ over (n ∷ s .next ∷ os) before =
-      p .value ∙ rw (over-two n (s .next) before two) (over-column (n ∷ s .next ∷ []) before (s .owners) n ho) in
+    p .value ∙ rw (over-two n (s .next) before two) (over-column (n ∷ s .next ∷ []) before (s .owners) n ho) in
     let items : after ≡ over (n ∷ s .next ∷ os ++ ws) before =
-      q .value ∙ rw (owners, at) (over-column (n ∷ s .next ∷ os) before (s .items) n hi) in
+    q .value ∙ rw (owners, at) (over-column (n ∷ s .next ∷ os) before (s .items) n hi) in
     record {
       target = rw (state-words s ho hi) items;
       words = rw (state-words s ho hi) (omega (arith, length-append os ws));

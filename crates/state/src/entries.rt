@@ -1,6 +1,6 @@
 // The faults that a state's entries can have (4): each entry by itself, its member marks, its owners.
-use semantics::Sizes;
 use super::words;
+use semantics::Sizes;
 ghost use Prim.Native.Nat.{ℕ, _<_};
 ghost use mathlib.Core.Path.{_≡_};
 ghost use mathlib.Core.Bool.{true};
@@ -17,7 +17,9 @@ pub fn entries_ok(z: Sizes, state: &[u32]) -> bool
 {
     let owners = words::owners_of(state);
     let items = words::items_of(state);
-    entries_ok_each(z, state[1], owners, items) & marks_distinct(owners, items) & owners_marked(owners, items)
+    entries_ok_each(z, state[1], owners, items)
+        & marks_distinct(owners, items)
+        & owners_marked(owners, items)
 }
 
 // One entry by itself; its place does not matter. The ports' sum is of numbers, so it is taken in 64 bits.

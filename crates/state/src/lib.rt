@@ -1,6 +1,6 @@
 // The state: its check on words, and the working state that a step changes.
-pub mod words;
 pub mod entries;
+pub mod words;
 
 use semantics::Refusal;
 use semantics::Sizes;

@@ -15,7 +15,9 @@ pub fn sizes_ok(state: &[u32]) -> bool
     }
     let n = state[0] as usize;
     let next = state[1];
-    (n <= State::MAX_ENTRIES) & ((1 <= next) & (next <= State::MAX_NEXT)) & (state.len() == 2 + 2 * n)
+    (n <= State::MAX_ENTRIES)
+        & ((1 <= next) & (next <= State::MAX_NEXT))
+        & (state.len() == 2 + 2 * n)
 }
 
 // n, and what sizes in order say of it.

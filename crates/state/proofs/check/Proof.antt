@@ -16,14 +16,18 @@ entries-ok-requires c κs = sym (c .before .sizes-ok .ensures) ∙ not-false _ (
 returns-2 : tie.Need-returns-2
 unfolding stateOwnVerdict
 returns-2 c =
-    rw (sym (c .before .before .before .sizes-ok .ensures) ∙ not-false _ (c .before .before .if1 .left),
-    sym (c .before .entries-ok .ensures) ∙ not-true _ (c .if2 .taken))
+    rw (
+      sym (c .before .before .before .sizes-ok .ensures) ∙ not-false _ (c .before .before .if1 .left),
+      sym (c .before .entries-ok .ensures) ∙ not-true _ (c .if2 .taken),
+    )
 
 returns-3 : tie.Need-returns-3
 unfolding stateOwnVerdict
 returns-3 c =
-    rw (sym (c .before .before .before .sizes-ok .ensures) ∙ not-false _ (c .before .before .if1 .left),
-    sym (c .before .entries-ok .ensures) ∙ not-false _ (c .if2 .left))
+    rw (
+      sym (c .before .before .before .sizes-ok .ensures) ∙ not-false _ (c .before .before .if1 .left),
+      sym (c .before .entries-ok .ensures) ∙ not-false _ (c .if2 .left),
+    )
 
 pub check-spec : {M : Type 1} → statement M
 check-spec = tie.close (tie.spec (λ c κs. search needs) returns entries-ok-requires returns-2 returns-3)

@@ -37,10 +37,15 @@ loop-again c =
     let l = c .before .before .before .loop in
     let more = c .before .before .loop-test .taken in
     let v = l .inv in
-    let low : l .i < 1024 = omega arith in
-    (v .0, v .1, v .2, v .3, stored-sized _ _ _ _ _ _ _ (v .4),
-    ahead-next (entries-tails _ _ (v .0)) (v .5) more _
-    (stored-before _ _ _ _ _ _ _ (v .4) low (from-place (l .i) _ _ low)))
+    let low : l .i < 1024 = omega arith in (
+      v .0,
+      v .1,
+      v .2,
+      v .3,
+      stored-sized _ _ _ _ _ _ _ (v .4),
+      ahead-next (entries-tails _ _ (v .0)) (v .5) more _
+          (stored-before _ _ _ _ _ _ _ (v .4) low (from-place (l .i) _ _ low)),
+    )
 
 returns : tie.Need-returns Inv μ
 returns c =

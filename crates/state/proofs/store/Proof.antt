@@ -14,9 +14,11 @@ put-column-requires : tie.Need-put-column-requires
 put-column-requires c κs = (c .before .before .before .before .pre .0, search needs, simp length-set (omega arith))
 
 put-column-requires-2 : tie.Need-put-column-requires-2
-put-column-requires-2 c κs =
-    (c .before .before .before .before .before .before .before .before .before .before .pre .0, search needs,
-    omega (arith, simp length-set at (c .before .before .before .before .before .put-column .ensures .size)))
+put-column-requires-2 c κs = (
+  c .before .before .before .before .before .before .before .before .before .before .pre .0,
+  search needs,
+  omega (arith, simp length-set at (c .before .before .before .before .before .put-column .ensures .size)),
+)
 
 same-length : tie.Need-same-length
 same-length c = simp length-set at (c .before .before .put-column2 .ensures .size ∙ c .before .before .before .before .before .before .before .before .put-column .ensures .size)

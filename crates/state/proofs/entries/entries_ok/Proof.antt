@@ -8,8 +8,13 @@ returns : tie.Need-returns
 unfolding entriesOk stateOf
 returns c =
     let columns = c .before .before .before .before in
-    rw (c .owners-marked .ensures, c .before .marks-distinct .ensures, c .before .before .entries-ok-each .ensures,
-    columns .items-of .ensures .value, columns .before .owners-of .ensures .value)
+    rw (
+      c .owners-marked .ensures,
+      c .before .marks-distinct .ensures,
+      c .before .before .entries-ok-each .ensures,
+      columns .items-of .ensures .value,
+      columns .before .owners-of .ensures .value,
+    )
 
 pub entries-ok-spec : {M : Type 1} → statement M
 entries-ok-spec =
