@@ -43,7 +43,7 @@ fn entry_ok(z: Sizes, next: u32, owner: u32, item: u32) -> bool
         & (!(kind == 3) | ((port == 0) & (1 <= owner) & (owner <= value) & (value < next)))
 }
 
-fn entries_ok_each<'a>(z: Sizes, next: u32, owners: &'a [u32], items: &'a [u32]) -> bool
+fn entries_ok_each(z: Sizes, next: u32, owners: &[u32], items: &[u32]) -> bool
     requires { ⌜ length (now owners) ≡ length (now items) ⌝ }
     ensures { λ r. ⌜ r ≡ all (entryOk z next) (entriesOf 0 (now (owners .entry)) (now (items .entry))) ⌝ }
 {
@@ -58,7 +58,7 @@ fn entries_ok_each<'a>(z: Sizes, next: u32, owners: &'a [u32], items: &'a [u32])
 }
 
 // One pass that keeps the set of the values met.
-fn marks_distinct<'a>(owners: &'a [u32], items: &'a [u32]) -> bool
+fn marks_distinct(owners: &[u32], items: &[u32]) -> bool
     requires { ⌜ length (now owners) ≡ length (now items) ⌝ }
     ensures { λ r. ⌜ r ≡ distinct (markValues (entriesOf 0 (now (owners .entry)) (now (items .entry)))) ⌝ }
 {
@@ -79,7 +79,7 @@ fn marks_distinct<'a>(owners: &'a [u32], items: &'a [u32]) -> bool
 }
 
 // The transactions that own their own mark.
-fn own_marks<'a>(owners: &'a [u32], items: &'a [u32]) -> [u64; 1024]
+fn own_marks(owners: &[u32], items: &[u32]) -> [u64; 1024]
     requires { ⌜ length (now owners) ≡ length (now items) ⌝ }
     ensures { λ r. ⌜ OwnMarks r (entriesOf 0 (now (owners .entry)) (now (items .entry))) ⌝ }
 {
@@ -110,7 +110,7 @@ fn owner_in(own: &[u64; 1024], owner: u32) -> bool
     idset::has(own, owner)
 }
 
-fn owners_in<'a>(own: &'a [u64; 1024], owners: &'a [u32]) -> bool
+fn owners_in(own: &[u64; 1024], owners: &[u32]) -> bool
     requires { ⌜ length (now own) ≡ 1024 ⌝ }
     ensures { λ r. ⌜ r ≡ all (ownerIn (now (own .entry))) (now (owners .entry)) ⌝ }
 {
@@ -125,7 +125,7 @@ fn owners_in<'a>(own: &'a [u64; 1024], owners: &'a [u32]) -> bool
 }
 
 // Every transaction that owns anything owns its own mark.
-fn owners_marked<'a>(owners: &'a [u32], items: &'a [u32]) -> bool
+fn owners_marked(owners: &[u32], items: &[u32]) -> bool
     requires { ⌜ length (now owners) ≡ length (now items) ⌝ }
     ensures { λ r. ⌜ r ≡ all (ownerOk (entriesOf 0 (now (owners .entry)) (now (items .entry)))) (entriesOf 0 (now (owners .entry)) (now (items .entry))) ⌝ }
 {
