@@ -11,3 +11,7 @@ pub mod Tabled
 pub mod Parts
 pub mod Counting
 pub mod Rising
+pub mod Ahead
+pub mod Seen
+pub mod Rows
+pub mod Over
