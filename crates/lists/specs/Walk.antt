@@ -66,6 +66,10 @@ module _ {A B : Type 0} (f : A → B) (xs : List A) (ys : List B) (i : ℕ) wher
   fill-all hx hy e = rw (take-all i xs hx, take-all i ys hy) at e
 
 -- ---- a list of f of each number from i on
+pub length-upFrom : (i n : ℕ) → length (upFrom i n) ≡ n
+length-upFrom i zero = refl
+length-upFrom i (suc n) = ap suc (length-upFrom (suc i) n)
+
 pub getD-upFrom : {A : Type 0} (f : ℕ → A) (d : A) (i n r : ℕ) → r < n → getD (map f (upFrom i n)) r d ≡ f (i + r)
 getD-upFrom f d i zero r l = absurd (not-suc-le-zero l)
 getD-upFrom f d i (suc n) zero l =
