@@ -1,6 +1,6 @@
 -- Laws of Bool-valued tests.
-use mathlib.Core.Bool.{Bool, true, false, _&&_, _||_, not, cond, false≢true}
-use mathlib.Core.Path.{_≡_, refl, sym, ap, _∙_}
+use mathlib.Core.Bool.{Bool, true, false, _&&_, _||_, false≢true}
+use mathlib.Core.Path.{_≡_, refl, sym}
 
 pub and-false : {a : Bool} (b : Bool) → a ≡ false → a && b ≡ false
 and-false b e = rw e

@@ -6,9 +6,9 @@ use mathlib.Core.Path.{_≡_, refl, sym, ap, _∙_}
 use native.Mathlib.Omega.{arith}
 use borrow.Author.Tests.{leb-true, eqb-true, ltb-true, ne-eqb, lt-ltb}
 use lib.Dec.{leb, ltb, eqb}
-use lib.ListN.{length, getD, take, drop, length-drop, length-map}
+use lib.ListN.{length, take, drop, length-drop, length-map}
 use lib.Seq.{length-take-le, take-all}
-use Rattle.lists.specs.Lists.{all, any, keep, count, risesFrom, allBelow, upFrom}
+use Rattle.lists.specs.Lists.{all, keep, count, risesFrom, allBelow, upFrom}
 use Rattle.lists.specs.Tests.{and-both, or-false}
 use Rattle.lists.specs.Counting.{count-le, count-map, all-map, all-each, all-weaker, length-keep, any-count}
 use Rattle.lists.specs.Rising.{zeros-first, rises-map}
@@ -24,8 +24,7 @@ use Rattle.semantics.specs.declared.AtomValue.{AtomValue}
 use Rattle.semantics.specs.declared.AtomValue.the-variants.{Constant, Received}
 use Rattle.semantics.specs.declared.Refusal.{Refusal}
 use Rattle.semantics.specs.declared.Refusal.the-variants.{TableSizes, TableContents}
-use Rattle.semantics.specs.declared.Verdict.{Verdict}
-use Rattle.semantics.specs.declared.Verdict.the-variants.{Allowed, Denied}
+use Rattle.semantics.specs.declared.Verdict.the-variants.{Allowed}
 
 -- ---- sizes and length
 

@@ -1,5 +1,5 @@
 -- What a decoded rule says.
-use Prim.Native.Nat.{ℕ, _≤_}
+use Prim.Native.Nat.{_≤_}
 use mathlib.Core.Path.{_≡_}
 use lib.ListN.{length, take}
 use Rattle.semantics.specs.Table as table
