@@ -29,13 +29,16 @@ module _ {A : Type 0} where
     ahead-start rest n f = record { within = omega arith; so-far = refl }
 
     module _ {at : ℕ → A} {rest : ℕ → List A} {n : ℕ} (t : Tails at rest n) {f : List A → B} {i : ℕ} {goal : B} (a : Ahead rest n f i goal) where
+      turn : i < n → f (at i ∷ rest (i + 1)) ≡ goal
+      turn l = ap f (sym (t .more i l)) ∙ a .so-far
+
       -- the loop ends with b at place i
       pub ahead-here : i < n → (b : B) → ((xs : List A) → f (at i ∷ xs) ≡ b) → b ≡ goal
-      ahead-here l b e = sym (e (rest (i + 1))) ∙ ap f (sym (t .more i l)) ∙ a .so-far
+      ahead-here l b e = sym (e (rest (i + 1))) ∙ turn l
 
       -- it goes on
       pub ahead-next : i < n → (g : List A → B) → ((xs : List A) → f (at i ∷ xs) ≡ g xs) → Ahead rest n g (i + 1) goal
-      ahead-next l g e = record { within = omega arith; so-far = sym (e (rest (i + 1))) ∙ ap f (sym (t .more i l)) ∙ a .so-far }
+      ahead-next l g e = record { within = omega arith; so-far = sym (e (rest (i + 1))) ∙ turn l }
 
       -- nothing is left
       pub ahead-done : n ≤ i → f [] ≡ goal
