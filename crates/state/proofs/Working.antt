@@ -70,18 +70,21 @@ count-in s = length-rows (entryIn s) 0 (s .len)
 pub item-whole : (w : ℕ) → itemWord (itemKind w) (portOf w) (valueOf w) ≡ w
 item-whole w = omega arith
 
--- The words of the value are those of the columns.
-pub state-words : (s : State) → s .len ≤ length (s .owners) → s .len ≤ length (s .items)
-    → stateWords (stateIn s) ≡ s .len ∷ s .next ∷ take (s .len) (s .owners) ++ take (s .len) (s .items)
-unfolding stateWords stateIn
-state-words s ho hi =
-    let n = s .len in
-    let os : map (λ e. e .owner) (rows (entryIn s) 0 n) ≡ take n (s .owners) = map-rows (λ e. e .owner) (entryIn s) 0 n ∙ rows-take 0 (s .owners) n ho in
-    let ws : map (λ e. itemWord (e .kind) (e .port) (e .value)) (rows (entryIn s) 0 n) ≡ take n (s .items) =
-    map-rows (λ e. itemWord (e .kind) (e .port) (e .value)) (entryIn s) 0 n
-    ∙ rows-ext _ _ 0 n (λ k l u. item-whole (getD (s .items) k 0))
-    ∙ rows-take 0 (s .items) n hi in
-    rw (length-rows, os, ws)
+module _ (s : State) where
+  owner-words : s .len ≤ length (s .owners) → map (λ e. e .owner) (rows (entryIn s) 0 (s .len)) ≡ take (s .len) (s .owners)
+  owner-words h = map-rows (λ e. e .owner) (entryIn s) 0 (s .len) ∙ rows-take 0 (s .owners) (s .len) h
+
+  item-words : s .len ≤ length (s .items) → map (λ e. itemWord (e .kind) (e .port) (e .value)) (rows (entryIn s) 0 (s .len)) ≡ take (s .len) (s .items)
+  item-words h =
+      map-rows (λ e. itemWord (e .kind) (e .port) (e .value)) (entryIn s) 0 (s .len)
+      ∙ rows-ext _ _ 0 (s .len) (λ k l u. item-whole (getD (s .items) k 0))
+      ∙ rows-take 0 (s .items) (s .len) h
+
+  -- The words of the value are those of the columns.
+  pub state-words : s .len ≤ length (s .owners) → s .len ≤ length (s .items)
+      → stateWords (stateIn s) ≡ s .len ∷ s .next ∷ take (s .len) (s .owners) ++ take (s .len) (s .items)
+  unfolding stateWords stateIn
+  state-words ho hi = rw (length-rows, owner-words ho, item-words hi)
 
 -- n and next, then the two columns, one after another
 pub stored-words : (s : State) (before middle after : List ℕ) → Arrays (s .owners) (s .items) (s .origins) → s .len ≤ 1024 → 2 + 2 * s .len ≤ length before
