@@ -1,8 +1,8 @@
 use mathlib.Core.Path.{sym, ap, _∙_}
 use Rattle.semantics.specs.Answers.{answerOf}
 use borrow.Author.Needs.{needs}
-use Rattle.coordinator.proofs.answer_of.Statement.{statement}
-use Rattle.coordinator.proofs.answer_of.Tie as tie
+use Rattle.answers.proofs.answer_of.Statement.{statement}
+use Rattle.answers.proofs.answer_of.Tie as tie
 
 returns : tie.Need-returns
 returns c = sym (ap answerOf (c .enum-told .given .1))
