@@ -1,0 +1,27 @@
+// The program's input: bytes to words, and the words' three parts.
+ghost use Prim.Native.Nat.{_≤_, min};
+ghost use mathlib.Core.Path.{_≡_};
+ghost use Rattle.intake.specs.Gather.{Gathered};
+
+fn least(a: usize, b: usize) -> usize
+    ensures { λ r. ⌜ (r ≡ min a b) × (r ≤ a) × (r ≤ b) ⌝ }
+{
+    if a < b { a } else { b }
+}
+
+// Gathers the whole words of the bytes into the target, as many as it holds, and answers how many.
+// A byte comes in at the top of the word at hand. The fourth pushes out what was there before, and
+// its store is the one that stays.
+pub fn words(bytes: &[u8], target: &mut [u32]) -> usize
+    ensures { λ r. ⌜ Gathered (now (bytes .entry)) (now (target .entry)) (now (target .exit)) r ⌝ }
+{
+    let n = least(target.len(), bytes.len() / 4);
+    let mut word = 0;
+    let mut i = 0;
+    while i < 4 * n {
+        word = word / 256 + 16777216 * (bytes[i] as u32);
+        target[i / 4] = word;
+        i += 1;
+    }
+    n
+}

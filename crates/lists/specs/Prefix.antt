@@ -1,0 +1,20 @@
+-- The beginning of a list, and a list written over the beginning of another.
+use Prim.Native.Nat.{ℕ, zero, suc, _+_, _≤_, _<_}
+use mathlib.Core.List.{List, [], _∷_, _++_}
+use mathlib.Core.Path.{_≡_, refl, sym, ap, _∙_}
+use native.Mathlib.Omega.{arith}
+use lib.ListN.{length, getD, take, drop, set}
+use Rattle.lists.specs.Lists.{over}
+
+module _ {A : Type 0} where
+  pub over-next : (new old : List A) (n : ℕ) (d : A) → n < length new → n < length old → set (over (take n new) old) n (getD new n d) ≡ over (take (suc n) new) old
+  over-next [] old n d h k = absurd (omega arith)
+  over-next (x ∷ new) [] n d h k = absurd (omega arith)
+  over-next (x ∷ new) (y ∷ old) zero d h k = refl
+  over-next (x ∷ new) (y ∷ old) (suc n) d h k = ap (λ (l : List A). x ∷ l) (over-next new old n d (omega arith) (omega arith))
+
+  -- a beginning is as many elements as it has
+  pub take-taken : (n : ℕ) (l : List A) → take (length (take n l)) l ≡ take n l
+  take-taken zero l = refl
+  take-taken (suc n) [] = refl
+  take-taken (suc n) (x ∷ l) = ap (λ (r : List A). x ∷ r) (take-taken n l)
