@@ -34,3 +34,13 @@ or-true b e = rw e
 
 pub or-false : {a : Bool} (b : Bool) → a ≡ false → a || b ≡ b
 or-false b e = rw e
+
+pub or-right-true : (a : Bool) {b : Bool} → b ≡ true → a || b ≡ true
+or-right-true true e = refl
+or-right-true false e = e
+
+-- two tests that hold together are equal
+pub same-test : (a b : Bool) → (a ≡ true → b ≡ true) → (b ≡ true → a ≡ true) → a ≡ b
+same-test true b f g = sym (f refl)
+same-test false true f g = g refl
+same-test false false f g = refl
