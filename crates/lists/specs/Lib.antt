@@ -4,3 +4,7 @@ pub mod Walk
 pub mod Prefix
 pub mod Counting
 pub mod Rising
+pub mod Ahead
+pub mod Seen
+pub mod Rows
+pub mod Over
