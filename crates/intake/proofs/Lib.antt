@@ -1,1 +1,3 @@
 pub mod Bytewise
+pub mod Ends
+pub mod Verdicts

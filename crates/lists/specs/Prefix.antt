@@ -1,9 +1,9 @@
 -- The beginning of a list, and a list written over the beginning of another.
-use Prim.Native.Nat.{ℕ, zero, suc, _+_, _≤_, _<_}
+use Prim.Native.Nat.{ℕ, zero, suc, _+_, _-_, _≤_, _<_, min}
 use mathlib.Core.List.{List, [], _∷_, _++_}
 use mathlib.Core.Path.{_≡_, refl, sym, ap, _∙_}
 use native.Mathlib.Omega.{arith}
-use lib.ListN.{length, getD, take, drop, set}
+use lib.ListN.{length, getD, take, drop, set, length-take, length-drop}
 use Rattle.lists.specs.Lists.{over}
 
 module _ {A : Type 0} where
@@ -18,3 +18,13 @@ module _ {A : Type 0} where
   take-taken zero l = refl
   take-taken (suc n) [] = refl
   take-taken (suc n) (x ∷ l) = ap (λ (r : List A). x ∷ r) (take-taken n l)
+
+  -- a part of n elements from a place on, cut short where the list ends
+  module _ (l : List A) (at n : ℕ) (h : at ≤ length l) where
+    pub part-end : min (at + n) (length l) ≡ at + length (take n (drop at l))
+    part-end = rw (length-take, length-drop) (omega arith)
+
+    pub part-cut : take (min (at + n) (length l) - at) (drop at l) ≡ take n (drop at l)
+    part-cut =
+        let e : min (at + n) (length l) - at ≡ length (take n (drop at l)) = omega (arith, part-end) in
+        rw e (take-taken n (drop at l))
