@@ -24,6 +24,10 @@ module _ {A : Type 0} (p : A → Bool) where
   count-append [] ys = omega arith
   count-append (x ∷ xs) ys = omega (arith, count-append xs ys)
 
+  pub all-each : ((x : A) → p x ≡ true) → (xs : List A) → all p xs ≡ true
+  all-each f [] = refl
+  all-each f (x ∷ xs) = rw (f x, all-each f xs)
+
   pub all-append : (xs ys : List A) → all p xs ≡ true → all p ys ≡ true → all p (xs ++ ys) ≡ true
   all-append [] ys h k = k
   all-append (x ∷ xs) ys h k =

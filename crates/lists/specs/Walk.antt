@@ -1,7 +1,7 @@
 -- What a loop over a slice uses: what is left from i on, one element further; and the ends of loops that test or fill.
 use Prim.Native.Nat.{ℕ, zero, suc, _+_, _≤_, _<_}
 use mathlib.Core.List.{List, [], _∷_, map, map-append}
-use mathlib.Core.Bool.{Bool, true, false, _&&_, false≢true}
+use mathlib.Core.Bool.{Bool, true, false, false≢true}
 use mathlib.Core.Path.{_≡_, refl, sym, ap, _∙_}
 use mathlib.Core.Logic.{⊎-elim}
 use native.Mathlib.Nat.{le-of-suc-le-suc, not-suc-le-zero, eq-or-lt-of-le}
@@ -66,6 +66,10 @@ module _ {A B : Type 0} (f : A → B) (xs : List A) (ys : List B) (i : ℕ) wher
   fill-all hx hy e = rw (take-all i xs hx, take-all i ys hy) at e
 
 -- ---- a list of f of each number from i on
+pub length-upFrom : (i n : ℕ) → length (upFrom i n) ≡ n
+length-upFrom i zero = refl
+length-upFrom i (suc n) = ap suc (length-upFrom (suc i) n)
+
 pub getD-upFrom : {A : Type 0} (f : ℕ → A) (d : A) (i n r : ℕ) → r < n → getD (map f (upFrom i n)) r d ≡ f (i + r)
 getD-upFrom f d i zero r l = absurd (not-suc-le-zero l)
 getD-upFrom f d i (suc n) zero l =

@@ -4,15 +4,15 @@ use mathlib.Core.Bool.{Bool, true, false, _&&_, _||_}
 use mathlib.Core.List.{List, map}
 use mathlib.Core.Path.{_≡_, refl, sym, ap, _∙_}
 use native.Mathlib.Omega.{arith}
-use borrow.Author.Tests.{leb-true, eqb-true, ltb-true, ne-eqb}
+use borrow.Author.Tests.{leb-true, eqb-true, ltb-true, ne-eqb, lt-ltb}
 use lib.Dec.{leb, ltb, eqb}
-use lib.ListN.{length, getD, take, drop, length-drop, length-map}
+use lib.ListN.{length, take, drop, length-drop, length-map}
 use lib.Seq.{length-take-le, take-all}
-use Rattle.lists.specs.Lists.{all, any, keep, count, risesFrom, allBelow}
+use Rattle.lists.specs.Lists.{all, keep, count, risesFrom, allBelow, upFrom}
 use Rattle.lists.specs.Tests.{and-both, or-false}
-use Rattle.lists.specs.Counting.{count-le, count-map, all-map, all-weaker, length-keep, any-count}
+use Rattle.lists.specs.Counting.{count-le, count-map, all-map, all-each, all-weaker, length-keep, any-count}
 use Rattle.lists.specs.Rising.{zeros-first, rises-map}
-use Rattle.lists.specs.Walk.{below-each, getD-upFrom}
+use Rattle.lists.specs.Walk.{below-each, getD-upFrom, length-upFrom}
 use Rattle.semantics.specs.Words.{atomRole, atomMode, portOf, valueOf}
 use Rattle.semantics.specs.Table.{sizesOf, numbersOf, atomWordsOf, ruleWords, portCount, sizesWithin, tableSizesOk, occurs, numbersOk, isRole, modeOk, consumeOk, emitOk, markOk, beginOk, innerOk, compensateOk, atomOk, shapeOf, ruleOk, rulesOk, tableContentsOk, atomValue, atomOf, Rule, ruleOf, tableOf, noRule, ruleAt, hasRole, consumed, productAtoms, begins}
 use Rattle.semantics.specs.Move.{unless, both}
@@ -24,8 +24,7 @@ use Rattle.semantics.specs.declared.AtomValue.{AtomValue}
 use Rattle.semantics.specs.declared.AtomValue.the-variants.{Constant, Received}
 use Rattle.semantics.specs.declared.Refusal.{Refusal}
 use Rattle.semantics.specs.declared.Refusal.the-variants.{TableSizes, TableContents}
-use Rattle.semantics.specs.declared.Verdict.{Verdict}
-use Rattle.semantics.specs.declared.Verdict.the-variants.{Allowed, Denied}
+use Rattle.semantics.specs.declared.Verdict.the-variants.{Allowed}
 
 -- ---- sizes and length
 
@@ -202,14 +201,15 @@ mode-exists m v n h = go (eqb m 1) refl h
         let one = eqb-true m 1 e in
         sym (or-false (ltb v n) (ne-eqb m 0 (λ zero. omega arith))) ∙ h
 
--- The first n atoms are the rule's consumes.
-pub record Leads (n : ℕ) (r : Rule) : Type 0 where
+-- A rule of a well-formed table, with n consumes: its first n atoms are those.
+pub record LegalRule (n : ℕ) (r : Rule) : Type 0 where
   pub some : 1 ≤ n
   pub most : n ≤ 4
   pub within : n ≤ length (r .atoms)
   pub few : length (r .atoms) ≤ 16
   pub consumed : consumed r ≡ map (λ a. a .port) (take n (r .atoms))
   pub products : productAtoms r ≡ drop n (r .atoms)
+  pub ports : all (λ a. ltb (a .port) 256) (r .atoms) ≡ true
   pub values : all (λ a. valueExists n (a .value)) (r .atoms) ≡ true
 
 module _ (z : Sizes) (ws : List ℕ) where
@@ -232,9 +232,9 @@ module _ (z : Sizes) (ws : List ℕ) where
         ws
         (f .atoms)
 
-    pub rule-leads : Leads (count (isRole 0) ws) (ruleOf z ws)
+    pub rule-legal : LegalRule (count (isRole 0) ws) (ruleOf z ws)
     unfolding ruleOf
-    rule-leads =
+    rule-legal =
         let first = zeros-first (λ (a : Atom). a .role) 0 (map atomOf ws) (rises-map atomOf (λ (a : Atom). a .role) 0 ws ∙ f .rises) in
         let n = count-map atomOf (hasRole 0) ws in
         record {
@@ -244,5 +244,27 @@ module _ (z : Sizes) (ws : List ℕ) where
           few = rw length-map (f .few);
           consumed = ap (map (λ a. a .port)) (first .zero ∙ ap (λ (k : ℕ). take k (map atomOf ws)) n);
           products = first .other ∙ ap (λ (k : ℕ). drop k (map atomOf ws)) n;
+          ports = all-map atomOf (λ a. ltb (a .port) 256) ws ∙ all-each (λ w. ltb (portOf w) 256) (λ w. lt-ltb (portOf w) 256 (omega arith)) ws;
           values = all-map atomOf (λ a. valueExists (count (isRole 0) ws) (a .value)) ws ∙ values;
         }
+
+pub legal-rule :
+    (t : List ℕ) (r : ℕ)
+    → tableVerdict t ≡ Allowed
+    → r < sizesOf t .rules
+    → LegalRule (length (consumed (ruleAt (tableOf t) r))) (ruleAt (tableOf t) r)
+legal-rule t r v l =
+    let z = sizesOf t in
+    let ws = ruleWords r (numbersOf t) (atomWordsOf t) in
+    rw (rule-at t r l, consumed-length z ws) (rule-legal z ws (rule-fits z ws (well-formed t v .each r l)))
+
+-- ---- a decoded table
+pub table-sizes : (t : List ℕ) → tableOf t .sizes ≡ sizesOf t
+unfolding tableOf
+table-sizes t = refl
+
+pub table-rules : (t : List ℕ) → length (tableOf t .rules) ≡ sizesOf t .rules
+unfolding tableOf
+table-rules t =
+    length-map (upFrom 0 (sizesOf t .rules)) (λ r. ruleOf (sizesOf t) (ruleWords r (numbersOf t) (atomWordsOf t)))
+    ∙ length-upFrom 0 (sizesOf t .rules)

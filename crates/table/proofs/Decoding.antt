@@ -1,11 +1,11 @@
 -- A rule decoded from its words, and the words of a rule of a well-formed table.
-use Prim.Native.Nat.{ℕ, _≤_, _<_}
+use Prim.Native.Nat.{ℕ, _<_}
 use mathlib.Core.List.{List, map}
 use mathlib.Core.Path.{_≡_, refl, sym, ap, _∙_}
 use lib.Dec.{leb}
 use lib.ListN.{length, take}
 use Rattle.semantics.specs.Table.{sizesOf, numbersOf, atomWordsOf, ruleWords, shapeOf, atomOf, ruleOf, tableOf, ruleAt}
-use Rattle.semantics.specs.TableLaws.{WellFormed, well-formed, numbers-length, words-length, numbers-rise, RuleFits, rule-fits, rule-at, rule-begins, consumed-length, rule-leads}
+use Rattle.semantics.specs.TableLaws.{WellFormed, well-formed, numbers-length, words-length, numbers-rise, RuleFits, rule-fits, rule-at, rule-begins, consumed-length, rule-legal}
 use Rattle.semantics.specs.Answers.{tableVerdict}
 use Rattle.semantics.specs.declared.Atom.{Atom}
 use Rattle.semantics.specs.declared.Shape.{Shape}
@@ -33,7 +33,7 @@ decodes z ws s atoms f e room same =
       class = refl;
       begins = sym (rule-begins z ws);
       consumes = sym (consumed-length z ws);
-      leads = rule-leads z ws f;
+      legal = rule-legal z ws f;
     })
 
 module _ (t starts : List ℕ) (r : ℕ) (v : tableVerdict t ≡ Allowed) (l : r < sizesOf t .rules) (s : Starts (numbersOf t) (sizesOf t .rules) starts) where

@@ -1,15 +1,15 @@
 -- The numbers of a well-formed table follow each other with no gap, so that one pass checks them and finds where each rule begins.
-use Prim.Native.Nat.{ℕ, suc, _+_, _-_, _≤_, _<_}
+use Prim.Native.Nat.{ℕ, _+_, _-_, _≤_, _<_}
 use mathlib.Core.List.{List, [], _∷_, _++_}
-use mathlib.Core.Bool.{Bool, true, false, _&&_, _||_, false≢true}
+use mathlib.Core.Bool.{Bool, true, false, _&&_, false≢true}
 use mathlib.Core.Path.{_≡_, refl, sym, ap, _∙_}
 use native.Mathlib.Omega.{arith}
 use native.Mathlib.Numerals.{add-one}
 use borrow.Author.Tests.{ltb-true, leb-true, eqb-true, lt-ltb, le-ltb, le-leb, eq-eqb, ne-eqb}
 use lib.Dec.{leb, ltb, eqb}
-use lib.ListN.{length, getD, take, drop, set, replicate, getD-replicate, length-set, length-replicate}
+use lib.ListN.{length, getD, take, drop, set, replicate, getD-replicate, length-set}
 use lib.Seq.{take-suc, take-all, getD-set-same, getD-set-other, length-take-le}
-use Rattle.lists.specs.Lists.{all, count, oneIf, risesFrom, allBelow}
+use Rattle.lists.specs.Lists.{all, count, risesFrom, allBelow}
 use Rattle.lists.specs.Tests.{and-both, or-true, or-false, or-right-true, same-test}
 use Rattle.lists.specs.Counting.{count-append, count-all, all-append, all-weaker, any-count}
 use Rattle.lists.specs.Rising.{Order, before, equal, after, order, none-keyed}

@@ -1,9 +1,9 @@
 -- What a decoded rule says.
-use Prim.Native.Nat.{ℕ, _≤_}
+use Prim.Native.Nat.{_≤_}
 use mathlib.Core.Path.{_≡_}
 use lib.ListN.{length, take}
 use Rattle.semantics.specs.Table as table
-use Rattle.semantics.specs.TableLaws.{Leads}
+use Rattle.semantics.specs.TableLaws.{LegalRule}
 use Rattle.table.specs.declared.decode.Rule.{Rule}
 
 -- the code's rule x is the rule r
@@ -14,4 +14,4 @@ pub record Decodes (x : Rule) (r : table.Rule) : Type 0 where
   pub class : x .class ≡ r .class
   pub begins : x .begins ≡ table.begins r
   pub consumes : x .consumes ≡ length (table.consumed r)
-  pub leads : Leads (x .consumes) r
+  pub legal : LegalRule (x .consumes) r

@@ -1,8 +1,5 @@
 -- `decode::rule_at` meets its contract: the words cut out are the rule's (`Decoding`).
-use mathlib.Core.Path.{ap}
-use borrow.Author.Needs.{needs}
 use Rattle.semantics.specs.TableLaws.{well-formed}
-use Rattle.table.specs.Decode.{Decodes}
 use Rattle.table.proofs.Decoding.{rule-within, cut-fits, cut-rule}
 use Rattle.table.proofs.decode.rule_at.Statement.{statement}
 use Rattle.table.proofs.decode.rule_at.Tie as tie

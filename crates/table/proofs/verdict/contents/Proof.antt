@@ -1,15 +1,14 @@
--- `check::contents` meets its contract: the two passes together (`Whole`).
-use mathlib.Core.Path.{_≡_, sym, ap, _∙_}
+-- `verdict::contents` meets its contract: the two passes together (`Whole`).
+use mathlib.Core.Path.{ap, _∙_}
 use native.Mathlib.Omega.{arith}
 use borrow.Author.Needs.{needs}
 use borrow.Author.Tests.{not-true, not-false}
 use lib.ListN.{length}
 use Rattle.semantics.specs.declared.Sizes.{Sizes}
-use Rattle.semantics.specs.Table.{numbersOf}
 use Rattle.semantics.specs.TableLaws.{numbers-length}
-use Rattle.table.proofs.Whole.{index-of, numbers-wrong, cuts, numbers-right}
-use Rattle.table.proofs.check.contents.Statement.{statement}
-use Rattle.table.proofs.check.contents.Tie as tie
+use Rattle.table.proofs.Whole.{numbers-wrong, cuts, numbers-right}
+use Rattle.table.proofs.verdict.contents.Statement.{statement}
+use Rattle.table.proofs.verdict.contents.Tie as tie
 
 index-rules-requires : tie.Need-index-rules-requires
 index-rules-requires c κs =
@@ -23,43 +22,34 @@ index-rules-requires c κs =
 returns : tie.Need-returns
 returns c =
     let b = c .before .before .before in
-    let t = b .before .before .before .before .args .table .now in
-    numbers-wrong
-    t
-    (b .index-rules .result)
-    (index-of t (b .before .before .sizes-of .ensures) (b .before .numbers-of .ensures) (b .index-rules .ensures))
-    (not-true _ (c .if1 .taken))
+    let start = b .before .before .before .before in
+    numbers-wrong (start .args .table .now) (start .pre) (b .before .before .sizes-of .ensures) (b .before .numbers-of .ensures) (b .index-rules .ensures) (not-true _ (c .if1 .taken))
 
 rules-ok-requires : tie.Need-rules-ok-requires
 rules-ok-requires c κs =
     let b = c .before .before .before .before .before in
-    let s = b .before .before .before .before .pre in
-    let t = b .before .before .before .before .args .table .now in
-    let ez = b .before .before .sizes-of .ensures in
+    let start = b .before .before .before .before in
     cuts
-    t
-    (b .index-rules .result)
-    (index-of t ez (b .before .numbers-of .ensures) (b .index-rules .ensures))
-    s
+    (start .args .table .now)
+    (start .pre)
+    (b .before .before .sizes-of .ensures)
+    (b .before .numbers-of .ensures)
+    (b .index-rules .ensures)
     (not-false _ (c .before .before .if1 .left))
-    ez
     (c .before .atom-words-of .ensures)
 
 returns-2 : tie.Need-returns-2
 returns-2 c =
     let b = c .before .before .before .before .before .before in
-    let s = b .before .before .before .before .pre in
-    let t = b .before .before .before .before .args .table .now in
-    let ez = b .before .before .sizes-of .ensures in
+    let start = b .before .before .before .before in
     numbers-right
-    t
-    (b .index-rules .result)
-    (index-of t ez (b .before .numbers-of .ensures) (b .index-rules .ensures))
-    s
+    (start .args .table .now)
+    (start .pre)
+    (b .before .before .sizes-of .ensures)
+    (b .before .numbers-of .ensures)
+    (b .index-rules .ensures)
     (not-false _ (c .before .before .before .if1 .left))
-    ez
     (c .before .before .atom-words-of .ensures)
-    (c .rules-ok .result)
     (c .rules-ok .ensures)
 
 pub contents-spec : {M : Type 1} → statement M

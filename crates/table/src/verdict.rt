@@ -1,6 +1,6 @@
 // The check of a whole table. The index that it makes on the way serves later calls.
 ghost use mathlib.Core.Path.{_≡_};
-ghost use Prim.Native.Nat.{ℕ, _≤_, _<_};
+ghost use Prim.Native.Nat.{ℕ, _<_};
 ghost use lib.ListN.{length};
 ghost use Rattle.lists.specs.Lists.{allBelow};
 ghost use Rattle.semantics.specs.Table.{sizesOf, numbersOf, tableSizesOk, tableContentsOk, ruleOk};
