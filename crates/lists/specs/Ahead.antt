@@ -2,9 +2,12 @@
 -- The sequence is a slice (`slice-tails`), columns side by side, or anything else that has an element at each place.
 use Prim.Native.Nat.{ℕ, _+_, _≤_, _<_}
 use mathlib.Core.Path.{_≡_, refl, sym, ap, _∙_}
+use mathlib.Core.Bool.{Bool, true, false}
 use mathlib.Core.List.{List, [], _∷_}
 use native.Mathlib.Omega.{arith}
 use lib.ListN.{length, getD, drop, drop-of-length-le}
+use Rattle.lists.specs.Lists.{all}
+use Rattle.lists.specs.Tests.{and-false, and-true}
 use Rattle.lists.specs.Walk.{drop-step}
 
 module _ {A : Type 0} where
@@ -26,14 +29,25 @@ module _ {A : Type 0} where
     ahead-start rest n f = record { within = omega arith; so-far = refl }
 
     module _ {at : ℕ → A} {rest : ℕ → List A} {n : ℕ} (t : Tails at rest n) {f : List A → B} {i : ℕ} {goal : B} (a : Ahead rest n f i goal) where
+      turn : i < n → f (at i ∷ rest (i + 1)) ≡ goal
+      turn l = ap f (sym (t .more i l)) ∙ a .so-far
+
       -- the loop ends with b at place i
       pub ahead-here : i < n → (b : B) → ((xs : List A) → f (at i ∷ xs) ≡ b) → b ≡ goal
-      ahead-here l b e = sym (e (rest (i + 1))) ∙ ap f (sym (t .more i l)) ∙ a .so-far
+      ahead-here l b e = sym (e (rest (i + 1))) ∙ turn l
 
       -- it goes on
       pub ahead-next : i < n → (g : List A → B) → ((xs : List A) → f (at i ∷ xs) ≡ g xs) → Ahead rest n g (i + 1) goal
-      ahead-next l g e = record { within = omega arith; so-far = sym (e (rest (i + 1))) ∙ ap f (sym (t .more i l)) ∙ a .so-far }
+      ahead-next l g e = record { within = omega arith; so-far = sym (e (rest (i + 1))) ∙ turn l }
 
       -- nothing is left
       pub ahead-done : n ≤ i → f [] ≡ goal
       ahead-done l = ap f (sym (t .none i l)) ∙ a .so-far
+
+  -- ---- a loop that tests each element
+  module _ {p : A → Bool} {at : ℕ → A} {rest : ℕ → List A} {n : ℕ} (t : Tails at rest n) {i : ℕ} {goal : Bool} (a : Ahead rest n (all p) i goal) where
+    pub each-fails : i < n → p (at i) ≡ false → false ≡ goal
+    each-fails l e = ahead-here t a l false (λ xs. and-false (all p xs) e)
+
+    pub each-next : i < n → p (at i) ≡ true → Ahead rest n (all p) (i + 1) goal
+    each-next l e = ahead-next t a l (all p) (λ xs. and-true (all p xs) e)

@@ -1,6 +1,7 @@
--- Laws of the two columns in which words hold entries: what a loop over both has ahead of it, and what depends on owners alone.
+-- Laws of the two columns in which words hold entries: what a loop over both has ahead of it, what depends on owners alone,
+-- and what sizes in order say of the columns.
 use Prim.Native.Nat.{ℕ, suc, _+_, _-_, _*_, _≤_, _<_}
-use mathlib.Core.Path.{_≡_, refl, sym, ap, _∙_}
+use mathlib.Core.Path.{_≡_, refl}
 use mathlib.Core.Bool.{Bool, true, _&&_}
 use mathlib.Core.List.{List, [], _∷_}
 use native.Mathlib.Numerals.{add-one}
@@ -30,10 +31,6 @@ entries-tails os ws e = record { more = more; none = λ i h. rw (drop-of-length-
     more i h =
         let l : i < length ws = omega arith in
         rw (drop-step os i 0 h, drop-step ws i 0 l, add-one i)
-
-pub entries-whole : (os ws : List ℕ) → entriesFrom os ws 0 ≡ entriesOf 0 os ws
-unfolding entriesFrom
-entries-whole os ws = refl
 
 pub all-owners : (p : ℕ → Bool) (i : ℕ) (os ws : List ℕ) → length os ≡ length ws → all (λ e. p (e .owner)) (entriesOf i os ws) ≡ all p os
 all-owners p i [] ws h = refl

@@ -5,8 +5,7 @@ use borrow.Author.Needs.{needs}
 use borrow.Author.Tests.{not-true, not-false}
 use lib.ListN.{length}
 use Rattle.lists.specs.Lists.{all}
-use Rattle.lists.specs.Tests.{and-false, and-true}
-use Rattle.lists.specs.Ahead.{Ahead, ahead-start, ahead-here, ahead-next, ahead-done}
+use Rattle.lists.specs.Ahead.{Ahead, ahead-start, ahead-done, each-fails, each-next}
 use Rattle.semantics.specs.State.{entryOk, entriesOf}
 use Rattle.semantics.specs.Columns.{entriesFrom, entries-tails}
 use Rattle.state.proofs.entries.entries_ok_each.Statement.{statement}
@@ -26,15 +25,15 @@ loop-holds c = (c .before .before .pre, ahead-start _ _ _)
 returns : tie.Need-returns Inv μ
 returns c =
     let l = c .before .before .before .before .before .loop in
-    ahead-here (entries-tails _ _ (l .inv .0)) (l .inv .1) (c .before .before .before .before .loop-test .taken) _
-    (λ es. and-false _ (sym (c .before .entry-ok .ensures (l .i)) ∙ not-true _ (c .if1 .taken)))
+    each-fails (entries-tails _ _ (l .inv .0)) (l .inv .1) (c .before .before .before .before .loop-test .taken)
+    (sym (c .before .entry-ok .ensures (l .i)) ∙ not-true _ (c .if1 .taken))
 
 loop-again : tie.Need-loop-again Inv μ
 loop-again c =
     let l = c .before .before .before .before .before .loop in (
       l .inv .0,
-      ahead-next (entries-tails _ _ (l .inv .0)) (l .inv .1) (c .before .before .before .before .loop-test .taken) _
-          (λ es. and-true _ (sym (c .before .entry-ok .ensures (l .i)) ∙ not-false _ (c .if1 .left))),
+      each-next (entries-tails _ _ (l .inv .0)) (l .inv .1) (c .before .before .before .before .loop-test .taken)
+          (sym (c .before .entry-ok .ensures (l .i)) ∙ not-false _ (c .if1 .left)),
     )
 
 returns-2 : tie.Need-returns-2 Inv μ

@@ -5,8 +5,7 @@ use borrow.Author.Needs.{needs}
 use borrow.Author.Tests.{not-true, not-false}
 use lib.ListN.{length, drop}
 use Rattle.lists.specs.Lists.{all}
-use Rattle.lists.specs.Tests.{and-false, and-true}
-use Rattle.lists.specs.Ahead.{Ahead, slice-tails, ahead-start, ahead-here, ahead-next, ahead-done}
+use Rattle.lists.specs.Ahead.{Ahead, slice-tails, ahead-start, ahead-done, each-fails, each-next}
 use Rattle.state.specs.Check.{ownerIn}
 use Rattle.state.proofs.entries.owners_in.Statement.{statement}
 use Rattle.state.proofs.entries.owners_in.Tie as tie
@@ -22,16 +21,13 @@ loop-holds c = (c .before .pre, ahead-start _ _ _)
 
 returns : tie.Need-returns Inv μ
 returns c =
-    ahead-here (slice-tails 0 _) (c .before .before .before .before .loop .inv .1) (c .before .before .before .loop-test .taken) _
-    (λ os. and-false _ (sym (c .before .owner-in .ensures) ∙ not-true _ (c .if1 .taken)))
+    each-fails (slice-tails 0 _) (c .before .before .before .before .loop .inv .1) (c .before .before .before .loop-test .taken)
+    (sym (c .before .owner-in .ensures) ∙ not-true _ (c .if1 .taken))
 
 loop-again : tie.Need-loop-again Inv μ
 loop-again c =
-    let v = c .before .before .before .before .loop .inv in (
-      v .0,
-      ahead-next (slice-tails 0 _) (v .1) (c .before .before .before .loop-test .taken) _
-          (λ os. and-true _ (sym (c .before .owner-in .ensures) ∙ not-false _ (c .if1 .left))),
-    )
+    let v = c .before .before .before .before .loop .inv in
+    (v .0, each-next (slice-tails 0 _) (v .1) (c .before .before .before .loop-test .taken) (sym (c .before .owner-in .ensures) ∙ not-false _ (c .if1 .left)))
 
 returns-2 : tie.Need-returns-2 Inv μ
 returns-2 c = ahead-done (slice-tails 0 _) (c .before .loop .inv .1) (c .loop-test .left)
