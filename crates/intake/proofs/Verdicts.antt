@@ -15,7 +15,7 @@ use Rattle.semantics.specs.declared.Refusal.the-variants.{LogSizes}
 use Rattle.semantics.specs.declared.Verdict.{Verdict}
 use Rattle.semantics.specs.declared.Verdict.the-variants.{Allowed, Denied}
 use Rattle.table.specs.Check.{CheckedAs}
-use Rattle.table.specs.declared.check.Checked.{Checked}
+use Rattle.table.specs.declared.verdict.Checked.{Checked}
 use Rattle.intake.specs.Split.{CutAt, SplitAs, cut-words, accepted}
 use Rattle.intake.specs.declared.Parts.{Parts}
 

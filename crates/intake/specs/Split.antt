@@ -49,11 +49,11 @@ pub record Accepted (ws : List ℕ) (bytes : ℕ) : Type 0 where
   pub log : logSizesOk (partsOf ws .log) ≡ true
   pub whole : bytes ≡ 4 * partWords (partsOf ws)
 
-both-allowed : (v w : Verdict) → both v w ≡ Allowed → (v ≡ Allowed) × (w ≡ Allowed)
+pub both-allowed : (v w : Verdict) → both v w ≡ Allowed → (v ≡ Allowed) × (w ≡ Allowed)
 both-allowed Allowed w h = (refl, h)
 both-allowed (Denied r) w h = let e : _≡_ {A = ℕ} 0 1 = cc in absurd (omega arith)
 
-unless-allowed : (b : Bool) (r : Refusal) → unless b r ≡ Allowed → b ≡ true
+pub unless-allowed : (b : Bool) (r : Refusal) → unless b r ≡ Allowed → b ≡ true
 unless-allowed true r h = refl
 unless-allowed false r h = let e : _≡_ {A = ℕ} 0 1 = cc in absurd (omega arith)
 

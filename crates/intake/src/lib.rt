@@ -108,7 +108,7 @@ fn verdict_of<'a>(
     if let Verdict::Denied(r) = first {
         return Verdict::Denied(r);
     }
-    let second = state::check(table::parts::sizes_of(table), state);
+    let second = state::check(table::sizes_of(table), state);
     if let Verdict::Denied(r) = second {
         return Verdict::Denied(r);
     }
@@ -125,7 +125,7 @@ pub fn split(words: &[u32], bytes: usize) -> Parts
     let log_at = cuts.log_at;
     let end = cuts.end;
     let table = &words[..state_at];
-    let checked = table::check::check(table);
+    let checked = table::check(table);
     let first = checked.verdict;
     let starts = checked.starts;
     let verdict = verdict_of(

@@ -2,8 +2,10 @@
 use Prim.Native.Nat.{ℕ, zero, suc, _+_, _-_, _≤_, _<_, min}
 use mathlib.Core.List.{List, [], _∷_, _++_}
 use mathlib.Core.Path.{_≡_, refl, sym, ap, _∙_}
+use native.Mathlib.Numerals.{unary-clauses}
 use native.Mathlib.Omega.{arith}
 use lib.ListN.{length, getD, take, drop, set, length-take, length-drop}
+use lib.Seq.{take-nil}
 use Rattle.lists.specs.Lists.{over}
 
 module _ {A : Type 0} where
@@ -18,6 +20,12 @@ module _ {A : Type 0} where
   take-taken zero l = refl
   take-taken (suc n) [] = refl
   take-taken (suc n) (x ∷ l) = ap (λ (r : List A). x ∷ r) (take-taken n l)
+
+  pub drop-take : (m n : ℕ) (l : List A) → drop m (take n l) ≡ take (n - m) (drop m l)
+  drop-take zero n l = simp unary-clauses
+  drop-take (suc m) zero l = let e : 0 - suc m ≡ 0 = omega arith in rw e
+  drop-take (suc m) (suc n) [] = sym (take-nil (suc n - suc m))
+  drop-take (suc m) (suc n) (x ∷ l) = simp unary-clauses (drop-take m n l)
 
   -- a part of n elements from a place on, cut short where the list ends
   module _ (l : List A) (at n : ℕ) (h : at ≤ length l) where
