@@ -1,12 +1,11 @@
 -- Words gathered a byte at a time: the word at hand and the target after i bytes, and that after four bytes a word more is gathered.
 use Prim.Native.Nat.{ℕ, zero, suc, _+_, _*_, _/_, _≤_, _<_, min}
 use mathlib.Core.List.{List, [], _∷_}
-use mathlib.Core.Path.{_≡_, refl, sym, ap, _∙_}
-use native.Mathlib.Numerals.{add-one}
+use mathlib.Core.Path.{_≡_, refl, sym, _∙_}
 use native.Mathlib.Omega.{arith}
 use mir.Syntax.{w8}
 use mir.Val.{Fits}
-use lib.ListN.{length, getD, take, set, length-take, length-set}
+use lib.ListN.{length, getD, take, set, length-take}
 use lib.Seq.{set-set}
 use Rattle.lists.specs.Lists.{over}
 use Rattle.lists.specs.Prefix.{over-next, take-taken}

@@ -1,13 +1,13 @@
 -- The places at which the parts of an input end, from the sizes that stand in it.
-use Prim.Native.Nat.{ℕ, _+_, _-_, _*_, _≤_, min}
+use Prim.Native.Nat.{ℕ, _+_, _*_, min}
 use mathlib.Core.List.{List}
-use mathlib.Core.Path.{_≡_, refl, sym, ap, _∙_}
+use mathlib.Core.Path.{_≡_, sym, _∙_}
 use native.Mathlib.Nat.{add-zero}
 use native.Mathlib.Omega.{arith}
-use lib.ListN.{length, getD, take, drop, length-take, length-drop}
+use lib.ListN.{length, getD, drop, length-take}
 use lib.Seq.{getD-drop, drop-drop}
 use Rattle.lists.specs.Prefix.{take-taken, part-end, part-cut}
-use Rattle.semantics.specs.Program.{tablePart, statePart, logPart, afterTable, afterState, partsOf}
+use Rattle.semantics.specs.Program.{tablePart, statePart, afterTable, afterState, partsOf}
 use Rattle.intake.specs.Split.{CutAt}
 
 first-at : (ws : List ℕ) (at : ℕ) → getD (drop at ws) 0 0 ≡ getD ws at 0

@@ -2,14 +2,14 @@
 use Prim.Native.Nat.{ℕ, _-_, _*_}
 use mathlib.Core.Bool.{Bool, true, false, _&&_}
 use mathlib.Core.List.{List}
-use mathlib.Core.Path.{_≡_, refl, sym, ap, _∙_}
+use mathlib.Core.Path.{_≡_, refl, sym, _∙_}
 use lib.Dec.{eqb}
 use lib.ListN.{take, drop}
 use Rattle.semantics.specs.Table.{sizesOf}
 use Rattle.semantics.specs.Log.{logSizesOk}
 use Rattle.semantics.specs.Move.{unless, both}
 use Rattle.semantics.specs.Answers.{tableVerdict, stateOwnVerdict, stateVerdict, logVerdict}
-use Rattle.semantics.specs.Program.{partsOf, partWords, inputVerdict}
+use Rattle.semantics.specs.Program.{partsOf, inputVerdict}
 use Rattle.semantics.specs.declared.Refusal.{Refusal}
 use Rattle.semantics.specs.declared.Refusal.the-variants.{LogSizes}
 use Rattle.semantics.specs.declared.Verdict.{Verdict}
@@ -17,7 +17,7 @@ use Rattle.semantics.specs.declared.Verdict.the-variants.{Allowed, Denied}
 use Rattle.table.specs.Check.{CheckedAs}
 use Rattle.table.specs.declared.verdict.Checked.{Checked}
 use Rattle.intake.specs.Split.{CutAt, SplitAs, cut-words, accepted}
-use Rattle.intake.specs.declared.Parts.{Parts}
+use Rattle.intake.specs.declared.parts.Parts.{Parts}
 
 one-test : (a b : Bool) (r : Refusal) → unless (a && b) r ≡ both (unless a r) (unless b r)
 one-test true b r = refl

@@ -1,7 +1,7 @@
 -- The longest input that is allowed has 8,200 words: 1,029 of table, 2,050 of state and 5,121 of log. Reading one byte more than its 32,800 is enough: the verdict
 -- on what was read is that on the whole input, and where it is Allowed all was read.
 use Prim.Native.Nat.{ℕ, zero, suc, _+_, _-_, _*_, _≤_, _<_}
-use mathlib.Core.Bool.{Bool, true, false, _&&_, false≢true}
+use mathlib.Core.Bool.{Bool, true, false, _&&_}
 use mathlib.Core.List.{List, [], _∷_}
 use mathlib.Core.Path.{_≡_, refl, sym, ap, _∙_}
 use native.Mathlib.Omega.{arith}
@@ -13,18 +13,17 @@ use Rattle.lists.specs.Tests.{and-both}
 use Rattle.lists.specs.Prefix.{drop-take}
 use Rattle.semantics.specs.Table.{sizesOf, tableSizesOk}
 use Rattle.semantics.specs.TableLaws as TableLaws
-use Rattle.semantics.specs.State.{stateOf, stateSizesOk, entriesOk}
+use Rattle.semantics.specs.State.{stateSizesOk}
 use Rattle.semantics.specs.Columns as Columns
 use Rattle.semantics.specs.Log.{moveCount, logSizesOk}
 use Rattle.semantics.specs.Move.{unless, both}
 use Rattle.semantics.specs.Answers.{tableVerdict, stateOwnVerdict, stateVerdict, logVerdict}
-use Rattle.semantics.specs.Program.{wordOf, wordsOf, Parts, tablePart, statePart, logPart, afterTable, partsOf, partWords, inputVerdict}
+use Rattle.semantics.specs.Program.{wordsOf, Parts, tablePart, statePart, afterTable, partsOf, partWords, inputVerdict}
 use Rattle.semantics.specs.declared.Sizes.{Sizes}
-use Rattle.semantics.specs.declared.Refusal.{Refusal}
-use Rattle.semantics.specs.declared.Refusal.the-variants.{TableSizes, StateSizes, StateContents, LogSizes}
+use Rattle.semantics.specs.declared.Refusal.the-variants.{TableSizes, StateSizes, LogSizes}
 use Rattle.semantics.specs.declared.Verdict.{Verdict}
 use Rattle.semantics.specs.declared.Verdict.the-variants.{Allowed, Denied}
-use Rattle.intake.specs.Split.{both-allowed, unless-allowed, Accepted, accepted}
+use Rattle.intake.specs.Split.{both-allowed, unless-allowed, accepted}
 
 fails : (b : Bool) → (b ≡ true → ⊥) → b ≡ false
 fails true h = absurd (h refl)

@@ -1,12 +1,12 @@
 -- What gathering words from bytes promises: about the words only.
-use Prim.Native.Nat.{ℕ, suc, _+_, _*_, _/_, _≤_, _<_}
+use Prim.Native.Nat.{ℕ, _/_, _≤_}
 use mathlib.Core.List.{List, [], _∷_}
-use mathlib.Core.Path.{_≡_, refl, sym, ap, _∙_}
+use mathlib.Core.Path.{_≡_, refl}
 use native.Mathlib.Omega.{arith}
-use lib.ListN.{length, getD, take, length-take}
+use lib.ListN.{length, take}
 use lib.Seq.{take-all, take-append-seam}
 use Rattle.lists.specs.Lists.{over}
-use Rattle.semantics.specs.Program.{wordOf, wordsOf}
+use Rattle.semantics.specs.Program.{wordsOf}
 
 -- the words that the target has room for
 abbrev pub fitting : List ℕ → List ℕ → List ℕ

@@ -1,8 +1,8 @@
 -- Where the parts of the program's input lie, and what its check answers.
-use Prim.Native.Nat.{ℕ, _+_, _-_, _*_, _≤_}
+use Prim.Native.Nat.{ℕ, _-_, _*_, _≤_}
 use mathlib.Core.Bool.{Bool, true, false}
 use mathlib.Core.List.{List}
-use mathlib.Core.Path.{_≡_, refl, sym, ap, _∙_}
+use mathlib.Core.Path.{_≡_, refl}
 use native.Mathlib.Omega.{arith}
 use borrow.Author.Tests.{eqb-true}
 use lib.Dec.{eqb}
@@ -18,7 +18,7 @@ use Rattle.semantics.specs.declared.Refusal.the-variants.{LogSizes}
 use Rattle.semantics.specs.declared.Verdict.{Verdict}
 use Rattle.semantics.specs.declared.Verdict.the-variants.{Allowed, Denied}
 use Rattle.table.specs.Index.{Starts}
-use Rattle.intake.specs.declared.Parts.{Parts}
+use Rattle.intake.specs.declared.parts.Parts.{Parts}
 
 -- the parts as slices
 pub record CutAt (ws : List ℕ) (state-at log-at end : ℕ) : Type 0 where

@@ -1,8 +1,8 @@
 -- `log_ok` meets its contract: its text is the definition's.
 use Rattle.semantics.specs.Log.{logSizesOk}
 use borrow.Author.Needs.{needs}
-use Rattle.intake.proofs.log_ok.Statement.{statement}
-use Rattle.intake.proofs.log_ok.Tie as tie
+use Rattle.intake.proofs.parts.log_ok.Statement.{statement}
+use Rattle.intake.proofs.parts.log_ok.Tie as tie
 
 returns : tie.Need-returns
 unfolding logSizesOk

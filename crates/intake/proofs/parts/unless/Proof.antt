@@ -1,7 +1,7 @@
 -- `unless` meets its contract.
 use borrow.Author.Needs.{needs}
-use Rattle.intake.proofs.unless.Statement.{statement}
-use Rattle.intake.proofs.unless.Tie as tie
+use Rattle.intake.proofs.parts.unless.Statement.{statement}
+use Rattle.intake.proofs.parts.unless.Tie as tie
 
 returns-2 : tie.Need-returns-2
 returns-2 c = rw (c .if1 .left)

@@ -3,8 +3,8 @@ use mathlib.Core.Path.{sym, _∙_}
 use Rattle.semantics.specs.TableLaws.{well-formed}
 use Rattle.intake.proofs.Verdicts.{table-denied, state-denied, log-tested}
 use borrow.Author.Needs.{needs}
-use Rattle.intake.proofs.verdict_of.Statement.{statement}
-use Rattle.intake.proofs.verdict_of.Tie as tie
+use Rattle.intake.proofs.parts.verdict_of.Statement.{statement}
+use Rattle.intake.proofs.parts.verdict_of.Tie as tie
 
 returns : tie.Need-returns
 returns c = table-denied _ _ _ _ (sym (c .before .before .before .before .before .before .pre) ∙ c .before .first .given .1)

@@ -4,8 +4,8 @@ use native.Mathlib.Omega.{arith}
 use lib.Seq.{length-take-le}
 use Rattle.intake.proofs.Verdicts.{split-as}
 use borrow.Author.Needs.{needs}
-use Rattle.intake.proofs.split.Statement.{statement}
-use Rattle.intake.proofs.split.Tie as tie
+use Rattle.intake.proofs.parts.split.Statement.{statement}
+use Rattle.intake.proofs.parts.split.Tie as tie
 
 slice-aggregate-table : tie.Need-slice-aggregate-table
 slice-aggregate-table c =

@@ -1,8 +1,8 @@
 -- `cuts_of` meets its contract (`Ends`).
 use Rattle.intake.proofs.Ends.{cut-at}
 use borrow.Author.Needs.{needs}
-use Rattle.intake.proofs.cuts_of.Statement.{statement}
-use Rattle.intake.proofs.cuts_of.Tie as tie
+use Rattle.intake.proofs.parts.cuts_of.Statement.{statement}
+use Rattle.intake.proofs.parts.cuts_of.Tie as tie
 
 returns : tie.Need-returns
 returns c =

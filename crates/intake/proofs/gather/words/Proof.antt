@@ -6,8 +6,8 @@ use native.Mathlib.Omega.{arith}
 use borrow.Author.Needs.{needs}
 use lib.ListN.{length, length-set}
 use Rattle.intake.proofs.Bytewise.{wordAfter, targetAfter, after-fits, gathered}
-use Rattle.intake.proofs.words.Statement.{statement}
-use Rattle.intake.proofs.words.Tie as tie
+use Rattle.intake.proofs.gather.words.Statement.{statement}
+use Rattle.intake.proofs.gather.words.Tie as tie
 
 abbrev Inv-loop : tie.InvT-loop
 Inv-loop bytes target₀ n word₀ i₀ target word i =
