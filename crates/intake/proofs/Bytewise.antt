@@ -6,7 +6,7 @@ use native.Mathlib.Omega.{arith}
 use mir.Syntax.{w8}
 use mir.Val.{Fits}
 use lib.ListN.{length, getD, take, set, length-take}
-use lib.Seq.{set-set}
+use lib.Seq.{set-set, length-take-le}
 use Rattle.lists.specs.Lists.{over}
 use Rattle.lists.specs.Prefix.{over-next, take-taken}
 use Rattle.semantics.specs.Program.{wordOf, wordsOf}
@@ -19,11 +19,14 @@ push word byte = word / 256 + 16777216 * byte
 push-fits : (w b : ℕ) → w < 4294967296 → b < 256 → push w b < 4294967296
 push-fits w b h k = omega arith
 
-push-four : (w a b c d : ℕ) → w < 4294967296 → a < 256 → b < 256 → c < 256 → d < 256 → push (push (push (push w a) b) c) d ≡ wordOf a b c d
+push-four :
+    (w a b c d : ℕ) → w < 4294967296 → a < 256 → b < 256 → c < 256 → d < 256 → push (push (push (push w a) b) c) d ≡ wordOf a b c d
 push-four w a b c d h k l m n = omega arith
 
-word-at : (bytes : List ℕ) (n : ℕ) → n < length (wordsOf bytes)
-    → getD (wordsOf bytes) n 0 ≡ wordOf (getD bytes (4 * n) 0) (getD bytes (suc (4 * n)) 0) (getD bytes (suc (suc (4 * n))) 0) (getD bytes (suc (suc (suc (4 * n)))) 0)
+word-at :
+    (bytes : List ℕ) (n : ℕ) → n < length (wordsOf bytes)
+    → getD (wordsOf bytes) n 0
+    ≡ wordOf (getD bytes (4 * n) 0) (getD bytes (suc (4 * n)) 0) (getD bytes (suc (suc (4 * n))) 0) (getD bytes (suc (suc (suc (4 * n)))) 0)
 word-at [] n h = absurd (omega arith)
 word-at (a ∷ []) n h = absurd (omega arith)
 word-at (a ∷ b ∷ []) n h = absurd (omega arith)
@@ -54,11 +57,13 @@ module _ (bytes : List ℕ) (known : (i : ℕ) → Fits w8 (getD bytes i 0)) whe
   after-four : (n : ℕ) → n < length (wordsOf bytes) → wordAfter bytes (suc (suc (suc (suc (4 * n))))) ≡ getD (wordsOf bytes) n 0
   after-four n h =
       let i = 4 * n in
-      push-four (wordAfter bytes i) (getD bytes i 0) (getD bytes (suc i) 0) (getD bytes (suc (suc i)) 0) (getD bytes (suc (suc (suc i))) 0) (after-fits i)
+      push-four (wordAfter bytes i) _ _ _ _ (after-fits i)
       (small i) (small (suc i)) (small (suc (suc i))) (small (suc (suc (suc i))))
       ∙ sym (word-at bytes n h)
 
-  after-words : (target : List ℕ) (n : ℕ) → n ≤ length (wordsOf bytes) → n ≤ length target → targetAfter bytes target (4 * n) ≡ over (take n (wordsOf bytes)) target
+  after-words :
+      (target : List ℕ) (n : ℕ) → n ≤ length (wordsOf bytes) → n ≤ length target
+      → targetAfter bytes target (4 * n) ≡ over (take n (wordsOf bytes)) target
   after-words target zero h k = refl
   after-words target (suc n) h k =
       let e : 4 * suc n ≡ suc (suc (suc (suc (4 * n)))) = omega arith in
@@ -70,7 +75,9 @@ module _ (bytes : List ℕ) (known : (i : ℕ) → Fits w8 (getD bytes i 0)) whe
       (over-next (wordsOf bytes) target n 0 h k)
 
   -- after all of the bytes that go into the target
-  pub gathered : {target after : List ℕ} {n i : ℕ} → n ≡ min (length target) (length bytes / 4) → i ≡ 4 * n → after ≡ targetAfter bytes target i → length after ≡ length target → Gathered bytes target after n
+  pub gathered :
+      {target after : List ℕ} {n i : ℕ} → n ≡ min (length target) (length bytes / 4) → i ≡ 4 * n
+      → after ≡ targetAfter bytes target i → length after ≡ length target → Gathered bytes target after n
   gathered {target} {after} {n} {i} least all e same =
       let count : n ≡ length (fitting bytes target) = rw (length-take, length-words) least in
       let few = length-take (length target) (wordsOf bytes) in
@@ -78,4 +85,5 @@ module _ (bytes : List ℕ) (known : (i : ℕ) → Fits w8 (getD bytes i 0)) whe
         count = count;
         contents = e ∙ rw (all, after-words target n (omega arith) (omega arith), count, take-taken);
         within = omega arith;
+        sliced = sym (length-take-le n after (omega arith));
       }

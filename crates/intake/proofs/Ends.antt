@@ -5,7 +5,7 @@ use mathlib.Core.Path.{_≡_, sym, _∙_}
 use native.Mathlib.Nat.{add-zero}
 use native.Mathlib.Omega.{arith}
 use lib.ListN.{length, getD, drop, length-take}
-use lib.Seq.{getD-drop, drop-drop}
+use lib.Seq.{getD-drop, drop-drop, length-take-le}
 use Rattle.lists.specs.Prefix.{take-taken, part-end, part-cut}
 use Rattle.semantics.specs.Program.{tablePart, statePart, afterTable, afterState, partsOf}
 use Rattle.intake.specs.Split.{CutAt}
@@ -38,4 +38,5 @@ module _ (ws : List ℕ) {a b e : ℕ}
     state-after = omega arith;
     log-after = omega arith;
     within = omega arith;
+    sliced = sym (length-take-le a ws (omega arith));
   }

@@ -33,14 +33,21 @@ module _ (t s l : List ℕ) where
     unfolding logVerdict stateVerdict
     state-denied v e = rw (a, e)
 
-    pub log-tested : (whole : Bool) → stateOwnVerdict (sizesOf t) s ≡ Allowed → unless (logSizesOk l && whole) LogSizes ≡ both (logVerdict t s l) (unless whole LogSizes)
+    pub log-tested :
+        (whole : Bool) → stateOwnVerdict (sizesOf t) s ≡ Allowed
+        → unless (logSizesOk l && whole) LogSizes ≡ both (logVerdict t s l) (unless whole LogSizes)
     unfolding logVerdict stateVerdict
     log-tested whole e = rw (a, e) (one-test (logSizesOk l) whole LogSizes)
 
 -- ---- the answer
-pub split-as : (ws : List ℕ) (bytes : ℕ) (p : Parts)
+pub split-as :
+    (ws : List ℕ) (bytes : ℕ) (p : Parts)
     → CutAt ws (p .«state_at») (p .«log_at») (p .end)
-    → p .verdict ≡ both (logVerdict (take (p .«state_at») ws) (take (p .«log_at» - p .«state_at») (drop (p .«state_at») ws)) (take (p .end - p .«log_at») (drop (p .«log_at») ws))) (unless (eqb bytes (4 * p .end)) LogSizes)
+    → p .verdict
+    ≡ both
+    (logVerdict (take (p .«state_at») ws) (take (p .«log_at» - p .«state_at») (drop (p .«state_at») ws))
+    (take (p .end - p .«log_at») (drop (p .«log_at») ws)))
+    (unless (eqb bytes (4 * p .end)) LogSizes)
     → (c : Checked) → CheckedAs (take (p .«state_at») ws) c → p .starts ≡ c .starts
     → SplitAs ws bytes p
 unfolding inputVerdict

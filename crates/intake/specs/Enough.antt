@@ -1,5 +1,5 @@
--- The longest input that is allowed has 8,200 words: 1,029 of table, 2,050 of state and 5,121 of log. Reading one byte more than its 32,800 is enough: the verdict
--- on what was read is that on the whole input, and where it is Allowed all was read.
+-- The longest input that is allowed has 8,200 words: 1,029 of table, 2,050 of state and 5,121 of log. Reading one byte more than its 32,800 is
+-- enough: the verdict on what was read is that on the whole input, and where it is Allowed all was read.
 use Prim.Native.Nat.{ℕ, zero, suc, _+_, _-_, _*_, _≤_, _<_}
 use mathlib.Core.Bool.{Bool, true, false, _&&_}
 use mathlib.Core.List.{List, [], _∷_}
@@ -58,44 +58,42 @@ module _ (ws : List ℕ) where
       let same : getD (statePart ws) 0 0 ≡ getD ws 0 0 = getD-take (2 + 2 * getD ws 0 0) ws 0 0 (omega arith) in
       rw (fails (stateSizesOk (statePart ws)) (λ yes. let z = Columns.sized (statePart ws) yes in omega arith))
 
-module _ (m : ℕ) where
-  state-enough : (z : Sizes) (ws : List ℕ) → 2050 ≤ m → stateOwnVerdict z (statePart (take m ws)) ≡ stateOwnVerdict z (statePart ws)
-  state-enough z ws h = go (leb (getD ws 0 0) 1024) refl
-    where
-      same : getD (take m ws) 0 0 ≡ getD ws 0 0
-      same = getD-take m ws 0 0 (omega arith)
+state-enough : (m : ℕ) (z : Sizes) (ws : List ℕ) → 2050 ≤ m → stateOwnVerdict z (statePart (take m ws)) ≡ stateOwnVerdict z (statePart ws)
+state-enough m z ws h = go (leb (getD ws 0 0) 1024) refl
+  where
+    same : getD (take m ws) 0 0 ≡ getD ws 0 0
+    same = getD-take m ws 0 0 (omega arith)
 
-      go : (b : Bool) → leb (getD ws 0 0) 1024 ≡ b → stateOwnVerdict z (statePart (take m ws)) ≡ stateOwnVerdict z (statePart ws)
-      go true e =
-          let l = leb-true (getD ws 0 0) 1024 e in
-          rw (same, take-take (2 + 2 * getD ws 0 0) m ws (omega arith))
-      go false e =
-          let l = leb-false (getD ws 0 0) 1024 e in
-          state-over (take m ws) z (rw same l) ∙ sym (state-over ws z l)
+    go : (b : Bool) → leb (getD ws 0 0) 1024 ≡ b → stateOwnVerdict z (statePart (take m ws)) ≡ stateOwnVerdict z (statePart ws)
+    go true e =
+        let l = leb-true (getD ws 0 0) 1024 e in
+        rw (same, take-take (2 + 2 * getD ws 0 0) m ws (omega arith))
+    go false e =
+        let l = leb-false (getD ws 0 0) 1024 e in
+        state-over (take m ws) z (rw same l) ∙ sym (state-over ws z l)
 
-module _ (m : ℕ) where
-  table-enough :
-      (ws : List ℕ) → 3079 ≤ m
-      → stateVerdict (tablePart (take m ws)) (statePart (afterTable (take m ws))) ≡ stateVerdict (tablePart ws) (statePart (afterTable ws))
-  unfolding stateVerdict
-  table-enough ws h = go (leb (getD ws 4 0) 512) refl
-    where
-      same : getD (take m ws) 4 0 ≡ getD ws 4 0
-      same = getD-take m ws 4 0 (omega arith)
+table-enough :
+    (m : ℕ) (ws : List ℕ) → 3079 ≤ m
+    → stateVerdict (tablePart (take m ws)) (statePart (afterTable (take m ws))) ≡ stateVerdict (tablePart ws) (statePart (afterTable ws))
+unfolding stateVerdict
+table-enough m ws h = go (leb (getD ws 4 0) 512) refl
+  where
+    same : getD (take m ws) 4 0 ≡ getD ws 4 0
+    same = getD-take m ws 4 0 (omega arith)
 
-      go : (b : Bool) → leb (getD ws 4 0) 512 ≡ b
-          → both (tableVerdict (tablePart (take m ws))) (stateOwnVerdict (sizesOf (tablePart (take m ws))) (statePart (afterTable (take m ws))))
-          ≡ both (tableVerdict (tablePart ws)) (stateOwnVerdict (sizesOf (tablePart ws)) (statePart (afterTable ws)))
-      go true e =
-          let l = leb-true (getD ws 4 0) 512 e in
-          let t : tablePart (take m ws) ≡ tablePart ws = rw (same, take-take (5 + 2 * getD ws 4 0) m ws (omega arith)) in
-          let k = length (tablePart ws) in
-          let few : k ≤ 1029 = omega (arith, length-take (5 + 2 * getD ws 4 0) ws) in
-          let d : drop k (take m ws) ≡ take (m - k) (afterTable ws) = drop-take k m ws in
-          rw (t, d) (ap (both (tableVerdict (tablePart ws))) (state-enough (m - k) (sizesOf (tablePart ws)) (afterTable ws) (omega arith)))
-      go false e =
-          let l = leb-false (getD ws 4 0) 512 e in
-          rw (table-over (take m ws) (rw same l), table-over ws l)
+    go : (b : Bool) → leb (getD ws 4 0) 512 ≡ b
+        → both (tableVerdict (tablePart (take m ws))) (stateOwnVerdict (sizesOf (tablePart (take m ws))) (statePart (afterTable (take m ws))))
+        ≡ both (tableVerdict (tablePart ws)) (stateOwnVerdict (sizesOf (tablePart ws)) (statePart (afterTable ws)))
+    go true e =
+        let l = leb-true (getD ws 4 0) 512 e in
+        let t : tablePart (take m ws) ≡ tablePart ws = rw (same, take-take (5 + 2 * getD ws 4 0) m ws (omega arith)) in
+        let k = length (tablePart ws) in
+        let few : k ≤ 1029 = omega (arith, length-take (5 + 2 * getD ws 4 0) ws) in
+        let d : drop k (take m ws) ≡ take (m - k) (afterTable ws) = drop-take k m ws in
+        rw (t, d) (ap (both (tableVerdict (tablePart ws))) (state-enough (m - k) (sizesOf (tablePart ws)) (afterTable ws) (omega arith)))
+    go false e =
+        let l = leb-false (getD ws 4 0) 512 e in
+        rw (table-over (take m ws) (rw same l), table-over ws l)
 
 -- ---- an input of more bytes than the longest one has some left over, whatever its log
 
@@ -114,7 +112,9 @@ parts-few p h l =
     let n = Columns.sized (p .state) (unless-allowed (stateSizesOk (p .state)) StateSizes (both-allowed _ _ s .0)) in
     omega (arith, log-few (p .log) l)
 
-long-verdict : (ws : List ℕ) (bytes : ℕ) → 32800 < bytes → inputVerdict ws bytes ≡ both (stateVerdict (partsOf ws .table) (partsOf ws .state)) (Denied LogSizes)
+long-verdict :
+    (ws : List ℕ) (bytes : ℕ) → 32800 < bytes
+    → inputVerdict ws bytes ≡ both (stateVerdict (partsOf ws .table) (partsOf ws .state)) (Denied LogSizes)
 unfolding inputVerdict logVerdict
 long-verdict ws bytes h = go (stateVerdict (p .table) (p .state)) refl
   where
@@ -141,7 +141,8 @@ module _ (bytes : List ℕ) (n : ℕ) (h : 8200 ≤ n) where
       ∙ ap (λ (v : Verdict). both v (Denied LogSizes)) (table-enough n (wordsOf bytes) (omega arith))
       ∙ sym (long-verdict (wordsOf bytes) (length bytes) (omega arith))
 
-  read-enough : inputVerdict (wordsOf (take (4 * n + 1) bytes)) (length (take (4 * n + 1) bytes)) ≡ inputVerdict (wordsOf bytes) (length bytes)
+  read-enough :
+      inputVerdict (wordsOf (take (4 * n + 1) bytes)) (length (take (4 * n + 1) bytes)) ≡ inputVerdict (wordsOf bytes) (length bytes)
   read-enough = go (leb (length bytes) (4 * n + 1)) refl
     where
       go : (b : Bool) → leb (length bytes) (4 * n + 1) ≡ b
@@ -162,9 +163,14 @@ allowed-short ws bytes h =
     let few = parts-few (partsOf ws) (rw (a .table, a .state)) (a .log) in
     omega arith
 
--- an allowed input is read whole, so that its parts are those of the whole input
+-- an allowed input is read whole, ..
 pub enough-allowed : (bytes : List ℕ) → inputVerdict (wordsOf bytes) (length bytes) ≡ Allowed → take 32801 bytes ≡ bytes
 enough-allowed bytes h = go 32801 (omega arith)
   where
     go : (n : ℕ) → 32800 < n → take n bytes ≡ bytes
     go n l = take-all n bytes (omega (arith, allowed-short (wordsOf bytes) (length bytes) h))
+
+-- .. so that its parts are those of the whole input
+pub enough-parts :
+    (bytes : List ℕ) → inputVerdict (wordsOf bytes) (length bytes) ≡ Allowed → partsOf (wordsOf (take 32801 bytes)) ≡ partsOf (wordsOf bytes)
+enough-parts bytes h = ap (λ (b : List ℕ). partsOf (wordsOf b)) (enough-allowed bytes h)

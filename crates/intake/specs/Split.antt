@@ -28,6 +28,7 @@ pub record CutAt (ws : List ℕ) (state-at log-at end : ℕ) : Type 0 where
   pub state-after : state-at ≤ log-at
   pub log-after : log-at ≤ end
   pub within : end ≤ length ws
+  pub sliced : state-at ≡ length (take state-at ws)
 
 pub record SplitAs (ws : List ℕ) (bytes : ℕ) (p : Parts) : Type 0 where
   pub verdict : p .verdict ≡ inputVerdict ws bytes

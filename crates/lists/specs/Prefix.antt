@@ -9,7 +9,9 @@ use lib.Seq.{take-nil}
 use Rattle.lists.specs.Lists.{over}
 
 module _ {A : Type 0} where
-  pub over-next : (new old : List A) (n : ℕ) (d : A) → n < length new → n < length old → set (over (take n new) old) n (getD new n d) ≡ over (take (suc n) new) old
+  pub over-next :
+      (new old : List A) (n : ℕ) (d : A) → n < length new → n < length old
+      → set (over (take n new) old) n (getD new n d) ≡ over (take (suc n) new) old
   over-next [] old n d h k = absurd (omega arith)
   over-next (x ∷ new) [] n d h k = absurd (omega arith)
   over-next (x ∷ new) (y ∷ old) zero d h k = refl

@@ -8,7 +8,10 @@ returns : tie.Need-returns
 returns c =
     let b = c .before .before in
     let a = b .before .before in
-    cut-at _ (rw (a .before .size-at .ensures .0) at (a .least .ensures .0)) (rw (b .before .size-at2 .ensures .0) at (b .least2 .ensures .0)) (rw (c .before .size-at3 .ensures .0) at (c .least3 .ensures .0))
+    cut-at _
+    (rw (a .before .size-at .ensures .0) at (a .least .ensures .0))
+    (rw (b .before .size-at2 .ensures .0) at (b .least2 .ensures .0))
+    (rw (c .before .size-at3 .ensures .0) at (c .least3 .ensures .0))
 
 pub cuts-of-spec : {M : Type 1} → statement M
 cuts-of-spec =

@@ -1,16 +1,9 @@
 -- `split` meets its contract (`Verdicts`).
-use mathlib.Core.Path.{refl, sym}
-use native.Mathlib.Omega.{arith}
-use lib.Seq.{length-take-le}
+use mathlib.Core.Path.{refl}
 use Rattle.intake.proofs.Verdicts.{split-as}
 use borrow.Author.Needs.{needs}
 use Rattle.intake.proofs.parts.split.Statement.{statement}
 use Rattle.intake.proofs.parts.split.Tie as tie
-
-slice-aggregate-table : tie.Need-slice-aggregate-table
-slice-aggregate-table c =
-    let n = c .before .cuts-of in
-    sym (length-take-le (n .result .«state_at») (c .before .before .before .args .words .now) (omega arith))
 
 returns : tie.Need-returns
 returns c =
@@ -22,7 +15,7 @@ split-spec =
     tie.close
     (tie.spec
     (λ c κs. search needs)
-    slice-aggregate-table
+    (λ c. search needs)
     (λ c κs. search needs)
     (λ c. search needs)
     (λ c. search needs)

@@ -16,7 +16,8 @@ returns-2 : tie.Need-returns-2
 returns-2 c =
     let s = c .before .before .before in
     let t = s .before .before in
-    state-denied _ _ _ (sym (t .before .before .before .before .before .pre) ∙ t .enum-told .given .1) _ (rw (s .before .sizes-of .ensures) at (sym (s .check .ensures) ∙ c .before .second .given .1))
+    state-denied _ _ _ (sym (t .before .before .before .before .before .pre) ∙ t .enum-told .given .1) _
+    (rw (s .before .sizes-of .ensures) at (sym (s .check .ensures) ∙ c .before .second .given .1))
 
 returns-3 : tie.Need-returns-3
 returns-3 c =
