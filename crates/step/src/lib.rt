@@ -1,0 +1,2 @@
+// A single move on a working state.
+mod few;
