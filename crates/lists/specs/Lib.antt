@@ -1,3 +1,5 @@
 pub mod Lists
 pub mod Tests
 pub mod Walk
+pub mod Ahead
+pub mod Seen

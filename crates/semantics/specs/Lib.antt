@@ -1,6 +1,7 @@
 pub mod Words
 pub mod Table
 pub mod State
+pub mod Columns
 pub mod Move
 pub mod Log
 pub mod Serial

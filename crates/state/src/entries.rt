@@ -1,0 +1,130 @@
+// The faults that a state's entries can have (4): each entry by itself, its member marks, its owners.
+use semantics::Sizes;
+ghost use Prim.Native.Nat.{ℕ, _<_};
+ghost use mathlib.Core.Path.{_≡_};
+ghost use mathlib.Core.Bool.{true};
+ghost use lib.ListN.{length};
+ghost use Rattle.lists.specs.Lists.{all, any, distinct};
+ghost use Rattle.semantics.specs.State.{entryOk, entryOf, entriesOf, markValues, isOwnMark, ownerOk, entriesOk, stateSizesOk, stateOf};
+ghost use Rattle.idset.specs.IdSet.{has};
+ghost use Rattle.state.specs.Check.{OwnMarks, ownerIn};
+
+// Each of a state's entries, their member marks and their owners.
+pub fn entries_ok(z: Sizes, state: &[u32]) -> bool
+    requires { ⌜ stateSizesOk (now state) ≡ true ⌝ }
+    ensures { λ r. ⌜ r ≡ entriesOk z (stateOf (now (state .entry))) ⌝ }
+{
+    let n = crate::entry_count(state);
+    let next = state[1];
+    let columns = &state[2..];
+    let owners = &columns[..n];
+    let items = &columns[n..];
+    entries_ok_each(z, next, owners, items) & marks_distinct(owners, items) & owners_marked(owners, items)
+}
+
+// One entry by itself; its place does not matter. The ports' sum is of numbers, so it is taken in 64 bits.
+fn entry_ok(z: Sizes, next: u32, owner: u32, item: u32) -> bool
+    ensures { λ r. ⌜ ((place : ℕ) → r ≡ entryOk z next (entryOf place owner item)) ⌝ }
+{
+    let kind = item / 16777216;
+    let port = item / 65536 % 256;
+    let value = item % 65536;
+    let ports = z.globals as u64 + z.locals as u64 + z.merges as u64;
+    let on_global = port < z.globals;
+    (kind <= 3)
+        & (!(owner == 0) | ((kind == 0) & on_global))
+        & (!(kind == 0) | ((port as u64) < ports))
+        & (!(kind == 1) | on_global)
+        & (!(kind == 2) | ((port == 0) & (value == 0)))
+        & (!(kind == 3) | ((port == 0) & (1 <= owner) & (owner <= value) & (value < next)))
+}
+
+fn entries_ok_each<'a>(z: Sizes, next: u32, owners: &'a [u32], items: &'a [u32]) -> bool
+    requires { ⌜ length (now owners) ≡ length (now items) ⌝ }
+    ensures { λ r. ⌜ r ≡ all (entryOk z next) (entriesOf 0 (now (owners .entry)) (now (items .entry))) ⌝ }
+{
+    let mut i = 0;
+    while i < owners.len() {
+        if !entry_ok(z, next, owners[i], items[i]) {
+            return false;
+        }
+        i += 1;
+    }
+    true
+}
+
+// One pass that keeps the set of the values met.
+fn marks_distinct<'a>(owners: &'a [u32], items: &'a [u32]) -> bool
+    requires { ⌜ length (now owners) ≡ length (now items) ⌝ }
+    ensures { λ r. ⌜ r ≡ distinct (markValues (entriesOf 0 (now (owners .entry)) (now (items .entry)))) ⌝ }
+{
+    let mut met = [0u64; 1024];
+    let mut i = 0;
+    while i < owners.len() {
+        let item = items[i];
+        if item / 16777216 == 3 {
+            let value = item % 65536;
+            if idset::has(&met, value) {
+                return false;
+            }
+            idset::insert(&mut met, value);
+        }
+        i += 1;
+    }
+    true
+}
+
+// The transactions that own their own mark.
+fn own_marks<'a>(owners: &'a [u32], items: &'a [u32]) -> [u64; 1024]
+    requires { ⌜ length (now owners) ≡ length (now items) ⌝ }
+    ensures { λ r. ⌜ OwnMarks r (entriesOf 0 (now (owners .entry)) (now (items .entry))) ⌝ }
+{
+    let mut own = [0u64; 1024];
+    let mut i = 0;
+    while i < owners.len() {
+        let item = items[i];
+        let value = item % 65536;
+        if (item / 16777216 == 3) & (value == owners[i]) {
+            idset::insert(&mut own, value);
+        }
+        i += 1;
+    }
+    own
+}
+
+// An owner is a whole word, and the set holds numbers below 65,536.
+fn owner_in(own: &[u64; 1024], owner: u32) -> bool
+    requires { ⌜ length (now own) ≡ 1024 ⌝ }
+    ensures { λ r. ⌜ r ≡ ownerIn (now (own .entry)) owner ⌝ }
+{
+    if owner == 0 {
+        return true;
+    }
+    if 65536 <= owner {
+        return false;
+    }
+    idset::has(own, owner)
+}
+
+fn owners_in<'a>(own: &'a [u64; 1024], owners: &'a [u32]) -> bool
+    requires { ⌜ length (now own) ≡ 1024 ⌝ }
+    ensures { λ r. ⌜ r ≡ all (ownerIn (now (own .entry))) (now (owners .entry)) ⌝ }
+{
+    let mut i = 0;
+    while i < owners.len() {
+        if !owner_in(own, owners[i]) {
+            return false;
+        }
+        i += 1;
+    }
+    true
+}
+
+// Every transaction that owns anything owns its own mark.
+fn owners_marked<'a>(owners: &'a [u32], items: &'a [u32]) -> bool
+    requires { ⌜ length (now owners) ≡ length (now items) ⌝ }
+    ensures { λ r. ⌜ r ≡ all (ownerOk (entriesOf 0 (now (owners .entry)) (now (items .entry)))) (entriesOf 0 (now (owners .entry)) (now (items .entry))) ⌝ }
+{
+    let own = own_marks(owners, items);
+    owners_in(&own, owners)
+}
