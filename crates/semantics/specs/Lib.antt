@@ -8,3 +8,5 @@ pub mod Serial
 pub mod Answers
 pub mod Cases
 pub mod OddCases
+pub mod Program
+pub mod ProgramCases
