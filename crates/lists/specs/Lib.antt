@@ -5,3 +5,5 @@ pub mod Ahead
 pub mod Seen
 pub mod Prefix
 pub mod Least
+pub mod Rows
+pub mod Over

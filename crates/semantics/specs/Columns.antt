@@ -1,5 +1,5 @@
 -- Laws of the two columns in which words hold entries: what a loop over both has ahead of it, and what depends on owners alone.
-use Prim.Native.Nat.{ℕ, suc, _+_, _*_, _≤_, _<_}
+use Prim.Native.Nat.{ℕ, suc, _+_, _-_, _*_, _≤_, _<_}
 use mathlib.Core.Path.{_≡_, refl, sym, ap, _∙_}
 use mathlib.Core.Bool.{Bool, true, _&&_}
 use mathlib.Core.List.{List, [], _∷_}
@@ -8,6 +8,7 @@ use native.Mathlib.Omega.{arith}
 use lib.Dec.{leb, eqb}
 use borrow.Author.Tests.{leb-true, eqb-true}
 use lib.ListN.{length, getD, take, drop, length-take, length-drop, drop-of-length-le}
+use lib.Seq.{take-all}
 use Rattle.lists.specs.Lists.{all}
 use Rattle.lists.specs.Tests.{and-both}
 use Rattle.lists.specs.Walk.{drop-step}
@@ -66,3 +67,12 @@ sized s h =
       owners = simp (length-take, length-drop) (omega arith);
       items = simp length-drop (omega arith);
     }
+
+-- the columns as parts of the words, in the form in which code slices
+pub owners-part : (s : List ℕ) (n : ℕ) → n ≡ entryCount s → take (2 + n - 2) (drop 2 s) ≡ ownersOf s
+owners-part s n e =
+    let k : 2 + n - 2 ≡ entryCount s = omega arith in
+    rw k
+
+pub items-part : (s : List ℕ) (n : ℕ) → n ≡ entryCount s → take (length s - (2 + n)) (drop (2 + n) s) ≡ itemsOf s
+items-part s n e = rw (take-all (length s - (2 + n)) (drop (2 + n) s) (simp length-drop (omega arith)), e)

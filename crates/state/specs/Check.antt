@@ -1,4 +1,4 @@
--- What the passes of the state check say to each other: which transactions own their own mark.
+-- What the parts of the state check say to each other.
 use Prim.Native.Nat.{ℕ}
 use mathlib.Core.Path.{_≡_}
 use mathlib.Core.Bool.{Bool, _||_}
@@ -6,8 +6,15 @@ use mathlib.Core.List.{List}
 use lib.Dec.{eqb}
 use lib.ListN.{length}
 use Rattle.lists.specs.Lists.{any}
-use Rattle.semantics.specs.State.{Entry, isOwnMark}
+use Rattle.semantics.specs.State.{Entry, isOwnMark, entryCount}
+use Rattle.semantics.specs.Columns.{Sized}
 use Rattle.idset.specs.IdSet.{has}
+
+-- a slice that is a column of a state whose sizes are in order
+pub record Column (xs column state : List ℕ) : Type 0 where
+  pub value : xs ≡ column
+  pub size : length xs ≡ entryCount state
+  pub sizes : Sized state
 
 -- the set of the transactions of which es has the own mark
 pub record OwnMarks (set : List ℕ) (es : List Entry) : Type 0 where

@@ -1,4 +1,5 @@
 // The faults that a state's entries can have (4): each entry by itself, its member marks, its owners.
+use super::words;
 use semantics::Sizes;
 ghost use Prim.Native.Nat.{ℕ, _<_};
 ghost use mathlib.Core.Path.{_≡_};
@@ -14,12 +15,11 @@ pub fn entries_ok(z: Sizes, state: &[u32]) -> bool
     requires { ⌜ stateSizesOk (now state) ≡ true ⌝ }
     ensures { λ r. ⌜ r ≡ entriesOk z (stateOf (now (state .entry))) ⌝ }
 {
-    let n = crate::entry_count(state);
-    let next = state[1];
-    let columns = &state[2..];
-    let owners = &columns[..n];
-    let items = &columns[n..];
-    entries_ok_each(z, next, owners, items) & marks_distinct(owners, items) & owners_marked(owners, items)
+    let owners = words::owners_of(state);
+    let items = words::items_of(state);
+    entries_ok_each(z, state[1], owners, items)
+        & marks_distinct(owners, items)
+        & owners_marked(owners, items)
 }
 
 // One entry by itself; its place does not matter. The ports' sum is of numbers, so it is taken in 64 bits.

@@ -31,10 +31,11 @@ returns c =
 
 loop-again : tie.Need-loop-again Inv μ
 loop-again c =
-    let l = c .before .before .before .before .before .loop in
-    (l .inv .0,
-    ahead-next (entries-tails _ _ (l .inv .0)) (l .inv .1) (c .before .before .before .before .loop-test .taken) _
-    (λ es. and-true _ (sym (c .before .entry-ok .ensures (l .i)) ∙ not-false _ (c .if1 .left))))
+    let l = c .before .before .before .before .before .loop in (
+      l .inv .0,
+      ahead-next (entries-tails _ _ (l .inv .0)) (l .inv .1) (c .before .before .before .before .loop-test .taken) _
+          (λ es. and-true _ (sym (c .before .entry-ok .ensures (l .i)) ∙ not-false _ (c .if1 .left))),
+    )
 
 returns-2 : tie.Need-returns-2 Inv μ
 returns-2 c = ahead-done (entries-tails _ _ (c .before .loop .inv .0)) (c .before .loop .inv .1) (c .loop-test .left)

@@ -38,10 +38,11 @@ loop-again c =
     let l = c .before .before .before .loop in
     let go = ahead-next (entries-tails _ _ (l .inv .0)) (l .inv .2) (c .before .before .loop-test .taken) in
     ⊎-elim
-    (λ w.
-      (l .inv .0,
+    (λ w. (
+      l .inv .0,
       rw (w .6) (w .5 .ensures .size),
-      rw (w .6) (go _ (λ es. fresh-new _ _ es (eq-eqb _ _ (w .0 .taken)) (sym (w .2 .ensures) ∙ w .3 .left) (w .5 .ensures)))))
+      rw (w .6) (go _ (λ es. fresh-new _ _ es (eq-eqb _ _ (w .0 .taken)) (sym (w .2 .ensures) ∙ w .3 .left) (w .5 .ensures))),
+    ))
     (λ w. (l .inv .0, rw (w .1) (l .inv .1), rw (w .1) (go _ (λ es. fresh-other _ _ es (ne-eqb _ _ (w .0 .left))))))
     (c .if1 .came)
 

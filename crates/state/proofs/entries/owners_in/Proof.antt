@@ -27,10 +27,11 @@ returns c =
 
 loop-again : tie.Need-loop-again Inv μ
 loop-again c =
-    let v = c .before .before .before .before .loop .inv in
-    (v .0,
-    ahead-next (slice-tails 0 _) (v .1) (c .before .before .before .loop-test .taken) _
-    (λ os. and-true _ (sym (c .before .owner-in .ensures) ∙ not-false _ (c .if1 .left))))
+    let v = c .before .before .before .before .loop .inv in (
+      v .0,
+      ahead-next (slice-tails 0 _) (v .1) (c .before .before .before .loop-test .taken) _
+          (λ os. and-true _ (sym (c .before .owner-in .ensures) ∙ not-false _ (c .if1 .left))),
+    )
 
 returns-2 : tie.Need-returns-2 Inv μ
 returns-2 c = ahead-done (slice-tails 0 _) (c .before .loop .inv .1) (c .loop-test .left)
