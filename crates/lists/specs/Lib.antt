@@ -7,3 +7,5 @@ pub mod Prefix
 pub mod Least
 pub mod Rows
 pub mod Over
+pub mod Counting
+pub mod Rising

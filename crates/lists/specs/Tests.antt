@@ -44,3 +44,13 @@ eqb-swap a b = go (eqb b a) refl
     go : (t : Bool) → eqb b a ≡ t → eqb a b ≡ t
     go true q = eq-eqb a b (sym (eqb-true b a q))
     go false q = ne-eqb a b (λ e. eqb-false b a q (sym e))
+
+pub or-right-true : (a : Bool) {b : Bool} → b ≡ true → a || b ≡ true
+or-right-true true e = refl
+or-right-true false e = e
+
+-- two tests that hold together are equal
+pub same-test : (a b : Bool) → (a ≡ true → b ≡ true) → (b ≡ true → a ≡ true) → a ≡ b
+same-test true b f g = sym (f refl)
+same-test false true f g = g refl
+same-test false false f g = refl

@@ -6,6 +6,7 @@ pub mod Move
 pub mod Log
 pub mod Serial
 pub mod Answers
+pub mod TableLaws
 pub mod Cases
 pub mod OddCases
 pub mod Program
