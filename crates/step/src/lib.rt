@@ -1,2 +1,3 @@
 // A single move on a working state.
 mod few;
+mod react;
