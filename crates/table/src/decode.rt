@@ -11,13 +11,13 @@ ghost use Rattle.semantics.specs.Answers.{tableVerdict};
 ghost use Rattle.semantics.specs.declared.Verdict.the-variants.{Allowed};
 ghost use Rattle.table.specs.Index.{Starts};
 ghost use Rattle.table.specs.Decode.{Decodes};
-use semantics::Sizes;
-use semantics::Atom;
-use semantics::AtomValue;
-use crate::parts::sizes_of;
 use crate::parts::atom_words_of;
 use crate::parts::rule_words;
+use crate::parts::sizes_of;
 use crate::rule::shape_of;
+use semantics::Atom;
+use semantics::AtomValue;
+use semantics::Sizes;
 
 // The first count atoms are the rule's, the consumes (takes) first among them.
 pub struct Rule {
@@ -73,7 +73,13 @@ fn rule_of(ws: &[u32], z: Sizes) -> Rule
     let consumes = s.consumes;
     let class = s.class;
     let begins = 1 <= s.begins;
-    Rule { atoms, count, consumes, class, begins }
+    Rule {
+        atoms,
+        count,
+        consumes,
+        class,
+        begins,
+    }
 }
 
 pub fn rule_at<'a>(table: &'a [u32], starts: &'a [u32; 65], r: u32) -> Rule
