@@ -1,13 +1,15 @@
 // The faults that a state's entries can have (4): each entry by itself, its member marks, its owners.
+use super::item::kind_of;
+use super::item::port_of;
+use super::item::value_of;
 use super::words;
 use semantics::Sizes;
-ghost use Prim.Native.Nat.{ℕ, _<_};
+ghost use Prim.Native.Nat.{ℕ};
 ghost use mathlib.Core.Path.{_≡_};
 ghost use mathlib.Core.Bool.{true};
 ghost use lib.ListN.{length};
-ghost use Rattle.lists.specs.Lists.{all, any, distinct};
-ghost use Rattle.semantics.specs.State.{entryOk, entryOf, entriesOf, markValues, isOwnMark, ownerOk, entriesOk, stateSizesOk, stateOf};
-ghost use Rattle.idset.specs.IdSet.{has};
+ghost use Rattle.lists.specs.Lists.{all, distinct};
+ghost use Rattle.semantics.specs.State.{entryOk, entryOf, entriesOf, markValues, ownerOk, entriesOk, stateSizesOk, stateOf};
 ghost use Rattle.state.specs.Check.{OwnMarks, ownerIn};
 
 // Each of a state's entries, their member marks and their owners.
@@ -22,18 +24,20 @@ pub fn entries_ok(z: Sizes, state: &[u32]) -> bool
         & owners_marked(owners, items)
 }
 
-// One entry by itself; its place does not matter. The ports' sum is of numbers, so it is taken in 64 bits.
+// One entry by itself; its place does not matter. The sum of the ports is taken in 64 bits, since in
+// 32 it could wrap.
 fn entry_ok(z: Sizes, next: u32, owner: u32, item: u32) -> bool
     ensures { λ r. ⌜ ((place : ℕ) → r ≡ entryOk z next (entryOf place owner item)) ⌝ }
 {
-    let kind = item / 16777216;
-    let port = item / 65536 % 256;
-    let value = item % 65536;
+    let kind = kind_of(item);
+    let port = port_of(item);
+    let value = value_of(item);
     let ports = z.globals as u64 + z.locals as u64 + z.merges as u64;
     let on_global = port < z.globals;
+    let on_port = (port as u64) < ports;
     (kind <= 3)
         & (!(owner == 0) | ((kind == 0) & on_global))
-        & (!(kind == 0) | ((port as u64) < ports))
+        & (!(kind == 0) | on_port)
         & (!(kind == 1) | on_global)
         & (!(kind == 2) | ((port == 0) & (value == 0)))
         & (!(kind == 3) | ((port == 0) & (1 <= owner) & (owner <= value) & (value < next)))
@@ -62,8 +66,8 @@ fn marks_distinct<'a>(owners: &'a [u32], items: &'a [u32]) -> bool
     let mut i = 0;
     while i < owners.len() {
         let item = items[i];
-        if item / 16777216 == 3 {
-            let value = item % 65536;
+        if kind_of(item) == 3 {
+            let value = value_of(item);
             if idset::has(&met, value) {
                 return false;
             }
@@ -83,8 +87,8 @@ fn own_marks<'a>(owners: &'a [u32], items: &'a [u32]) -> [u64; 1024]
     let mut i = 0;
     while i < owners.len() {
         let item = items[i];
-        let value = item % 65536;
-        if (item / 16777216 == 3) & (value == owners[i]) {
+        let value = value_of(item);
+        if (kind_of(item) == 3) & (value == owners[i]) {
             idset::insert(&mut own, value);
         }
         i += 1;

@@ -1,6 +1,7 @@
 // The state: its check on words, and the working state that a step changes.
-pub mod entries;
-pub mod words;
+mod entries;
+pub mod item;
+mod words;
 
 use semantics::Refusal;
 use semantics::Sizes;
@@ -15,7 +16,8 @@ ghost use Rattle.semantics.specs.State.{stateSizesOk, stateOf, entriesOf};
 ghost use Rattle.semantics.specs.Answers.{stateOwnVerdict};
 ghost use Rattle.state.specs.Working.{Holds, Stored};
 
-// Entries in use are the first len of each column. Document 01's limits and its empty state belong to this type. An origin is maker × 1024 + index.
+// The entries in use are the first len of each column. Items are as 01 lays them out; an origin is
+// maker × 1024 + index, and next is 01's next ticket N.
 pub struct State {
     pub owners: [u32; 1024],
     pub items: [u32; 1024],
@@ -55,6 +57,7 @@ pub fn check(z: Sizes, state: &[u32]) -> Verdict
     Verdict::Allowed
 }
 
+// The words need only have sizes in order: what `check` finds beyond that is not looked at again.
 pub fn load(state: &[u32]) -> State
     requires { ⌜ stateSizesOk (now state) ≡ true ⌝ }
     ensures { λ r. ⌜ Holds r (stateOf (now (state .entry))) ⌝ }

@@ -6,8 +6,12 @@ use Rattle.state.proofs.entries.entry_ok.Tie as tie
 
 returns : tie.Need-returns
 unfolding entryOk
-returns c = search needs
+returns c =
+    let fields = c .before .before .before .before in
+    λ place. rw (fields .value-of .ensures, fields .before .port-of .ensures, fields .before .before .kind-of .ensures)
 
 pub entry-ok-spec : {M : Type 1} → statement M
 entry-ok-spec =
-    tie.close (tie.spec (λ c. search needs) (λ c. search needs) (λ c. search needs) (λ c. search needs) (λ c. search needs) (λ c. search needs) returns)
+    tie.close
+    (tie.spec (λ c κs. search needs) (λ c κs. search needs) (λ c κs. search needs)
+    (λ c. search needs) (λ c. search needs) (λ c. search needs) (λ c. search needs) (λ c. search needs) (λ c. search needs) returns)

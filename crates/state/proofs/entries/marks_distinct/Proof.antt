@@ -29,21 +29,26 @@ loop-holds c = (c .before .before .pre, search needs, rw (← fresh-all) (ahead-
 
 returns : tie.Need-returns Inv μ
 returns c =
-    let l = c .before .before .before .before .before .before .loop in
-    ahead-here (entries-tails _ _ (l .inv .0)) (l .inv .2) (c .before .before .before .before .before .loop-test .taken) _
-    (λ es. fresh-again _ _ es (eq-eqb _ _ (c .before .before .before .if1 .taken)) (sym (c .before .has .ensures) ∙ c .if2 .taken))
+    let mark = c .before .before .before .before in
+    let l = mark .before .before .before .before .loop in
+    ahead-here (entries-tails _ _ (l .inv .0)) (l .inv .2) (mark .before .before .before .loop-test .taken) _
+    (λ es. fresh-again _ _ es (eq-eqb _ _ (sym (mark .before .kind-of .ensures) ∙ mark .if1 .taken))
+    (rw (c .before .before .before .value-of .ensures) at (sym (c .before .has .ensures) ∙ c .if2 .taken)))
 
 loop-again : tie.Need-loop-again Inv μ
 loop-again c =
-    let l = c .before .before .before .loop in
-    let go = ahead-next (entries-tails _ _ (l .inv .0)) (l .inv .2) (c .before .before .loop-test .taken) in
+    let l = c .before .before .before .before .loop in
+    let kind = c .before .kind-of .ensures in
+    let go = ahead-next (entries-tails _ _ (l .inv .0)) (l .inv .2) (c .before .before .before .loop-test .taken) in
     ⊎-elim
-    (λ w. (
-      l .inv .0,
-      rw (w .6) (w .5 .ensures .size),
-      rw (w .6) (go _ (λ es. fresh-new _ _ es (eq-eqb _ _ (w .0 .taken)) (sym (w .2 .ensures) ∙ w .3 .left) (w .5 .ensures))),
-    ))
-    (λ w. (l .inv .0, rw (w .1) (l .inv .1), rw (w .1) (go _ (λ es. fresh-other _ _ es (ne-eqb _ _ (w .0 .left))))))
+    (λ w.
+      (l .inv .0,
+      rw (w .7) (w .6 .ensures .size),
+      rw (w .7)
+      (go _
+      (λ es. fresh-new _ _ es (eq-eqb _ _ (sym kind ∙ w .0 .taken)) (rw (w .1 .ensures) at (sym (w .3 .ensures) ∙ w .4 .left))
+      (rw (w .1 .ensures) at (w .6 .ensures))))))
+    (λ w. (l .inv .0, rw (w .1) (l .inv .1), rw (w .1) (go _ (λ es. fresh-other _ _ es (ne-eqb _ _ (λ e. w .0 .left (kind ∙ e)))))))
     (c .if1 .came)
 
 returns-2 : tie.Need-returns-2 Inv μ
@@ -52,5 +57,5 @@ returns-2 c = sym (fresh-none _) ∙ ahead-done (entries-tails _ _ (c .before .l
 pub marks-distinct-spec : {M : Type 1} → statement M
 marks-distinct-spec =
     tie.close
-    (tie.spec Inv μ loop-holds (λ c. search needs) (λ c. search needs) (λ c κs. search needs) returns
+    (tie.spec Inv μ loop-holds (λ c. search needs) (λ c. search needs) (λ c κs. search needs) (λ c κs. search needs) (λ c κs. search needs) returns
     (λ c κs. search needs) (λ c. search needs) (λ c. search needs) loop-again returns-2)

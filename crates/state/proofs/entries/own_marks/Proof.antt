@@ -27,12 +27,20 @@ loop-holds c = (c .before .before .pre, search needs, λ u. rw (← owns-all u) 
 
 loop-again : tie.Need-loop-again Inv μ
 loop-again c =
-    let l = c .before .before .before .before .loop in
+    let l = c .before .before .before .before .before .before .loop in
     let t = entries-tails _ _ (l .inv .0) in
-    let more = c .before .before .before .loop-test .taken in
+    let more = c .before .before .before .before .before .loop-test .taken in
+    let kind = c .before .before .kind-of .ensures in
+    let value = c .before .before .before .value-of .ensures in
     ⊎-elim
-    (λ w. (l .inv .0, rw (w .3) (w .2 .ensures .size), λ u. rw (w .3) (ahead-next t (l .inv .2 u) more _ (λ es. owns-more u _ _ es (w .0 .taken) (w .2 .ensures)))))
-    (λ w. (l .inv .0, rw (w .1) (l .inv .1), λ u. rw (w .1) (ahead-next t (l .inv .2 u) more _ (λ es. owns-other u _ _ es (w .0 .left)))))
+    (λ w.
+      (l .inv .0,
+      rw (w .3) (w .2 .ensures .size),
+      λ u. rw (w .3) (ahead-next t (l .inv .2 u) more _ (λ es. owns-more u _ _ es (rw (kind, value) at (w .0 .taken)) (rw value at (w .2 .ensures))))))
+    (λ w.
+      (l .inv .0,
+      rw (w .1) (l .inv .1),
+      λ u. rw (w .1) (ahead-next t (l .inv .2 u) more _ (λ es. owns-other u _ _ es (rw (kind, value) at (w .0 .left))))))
     (c .if1 .came)
 
 returns : tie.Need-returns Inv μ
@@ -43,5 +51,5 @@ returns c =
 pub own-marks-spec : {M : Type 1} → statement M
 own-marks-spec =
     tie.close
-    (tie.spec Inv μ loop-holds (λ c. search needs) (λ c. search needs) (λ c. search needs) (λ c. search needs)
-    (λ c κs. search needs) (λ c. search needs) (λ c. search needs) loop-again returns)
+    (tie.spec Inv μ loop-holds (λ c. search needs) (λ c. search needs) (λ c κs. search needs) (λ c κs. search needs)
+    (λ c. search needs) (λ c. search needs) (λ c κs. search needs) (λ c. search needs) (λ c. search needs) loop-again returns)
