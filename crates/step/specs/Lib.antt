@@ -1,1 +1,3 @@
 pub mod Working
+pub mod End
+pub mod Products

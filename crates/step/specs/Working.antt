@@ -1,27 +1,24 @@
 -- The rule and the state that the code works on, as values of semantics, and what its functions ask of them.
-use Prim.Native.Nat.{ℕ, _≤_, _<_}
+use Prim.Native.Nat.{ℕ, _≤_}
 use mathlib.Core.Path.{_≡_}
-use mathlib.Core.List.{List, _∷_}
-use lib.Dec.{leb, eqb}
+use mathlib.Core.List.{List}
+use lib.Dec.{leb}
 use lib.ListN.{length, take}
 use Rattle.lists.specs.Rows.{rows}
-use Rattle.semantics.specs.Words.{headKind, headNumber}
-use Rattle.semantics.specs.Table as semantics
-use Rattle.semantics.specs.State.{Entry}
-use Rattle.semantics.specs.State as semantics
+use Rattle.semantics.specs.Table as rules
+use Rattle.semantics.specs.State.{State}
 use Rattle.semantics.specs.Move.{unless, both, reactAllowed, reacted}
 use Rattle.semantics.specs.declared.Verdict.{Verdict}
 use Rattle.semantics.specs.declared.Refusal.the-variants.{TooManyEntries}
-use Rattle.table.specs.Decode.{Decodes}
 use Rattle.table.specs.declared.decode.Rule.{Rule}
 use Rattle.state.specs.Working.{rowOf}
 
 -- the rule that the code holds
-abbrev pub ruleIn : Rule → semantics.Rule
+abbrev pub ruleIn : Rule → rules.Rule
 ruleIn x = record { class = x .class; atoms = take (x .count) (x .atoms) }
 
 -- the state in lent columns
-abbrev pub stateFrom : List ℕ → List ℕ → List ℕ → ℕ → ℕ → semantics.State
+abbrev pub stateFrom : List ℕ → List ℕ → List ℕ → ℕ → ℕ → State
 stateFrom os ws gs n next = record { next = next; entries = rows (rowOf os ws gs) 0 n }
 
 -- two columns of which the first n places are in use
@@ -31,5 +28,5 @@ pub record Columns (os ws : List ℕ) (n : ℕ) : Type 0 where
   pub fits : n ≤ 1024
 
 -- 7, 8, 11, 12 of a reaction
-unfoldable pub reactVerdict : ℕ → semantics.Rule → semantics.State → List ℕ → Verdict
+unfoldable pub reactVerdict : ℕ → rules.Rule → State → List ℕ → Verdict
 reactVerdict ceiling r s ps = both (reactAllowed r s ps) (unless (leb (length (reacted r 0 s ps .entries)) ceiling) TooManyEntries)

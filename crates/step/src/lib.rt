@@ -1,3 +1,5 @@
 // A single move on a working state.
+mod end;
 mod few;
+mod products;
 mod react;
