@@ -1,6 +1,16 @@
 pub mod Lists
 pub mod Tests
 pub mod Walk
+pub mod Choices
+pub mod Members
+pub mod Smallest
+pub mod Totals
+pub mod Removed
+pub mod Unrepeated
+pub mod Tabled
+pub mod Parts
+pub mod Counting
+pub mod Rising
 pub mod Ahead
 pub mod Seen
 pub mod Prefix

@@ -38,13 +38,6 @@ or-true b e = rw e
 pub or-false : {a : Bool} (b : Bool) → a ≡ false → a || b ≡ b
 or-false b e = rw e
 
-pub eqb-swap : (a b : ℕ) → eqb a b ≡ eqb b a
-eqb-swap a b = go (eqb b a) refl
-  where
-    go : (t : Bool) → eqb b a ≡ t → eqb a b ≡ t
-    go true q = eq-eqb a b (sym (eqb-true b a q))
-    go false q = ne-eqb a b (λ e. eqb-false b a q (sym e))
-
 pub or-right-true : (a : Bool) {b : Bool} → b ≡ true → a || b ≡ true
 or-right-true true e = refl
 or-right-true false e = e
@@ -54,3 +47,10 @@ pub same-test : (a b : Bool) → (a ≡ true → b ≡ true) → (b ≡ true →
 same-test true b f g = sym (f refl)
 same-test false true f g = g refl
 same-test false false f g = refl
+
+pub eqb-swap : (a b : ℕ) → eqb a b ≡ eqb b a
+eqb-swap a b = go (eqb b a) refl
+  where
+    go : (t : Bool) → eqb b a ≡ t → eqb a b ≡ t
+    go true q = eq-eqb a b (sym (eqb-true b a q))
+    go false q = ne-eqb a b (λ e. eqb-false b a q (sym e))

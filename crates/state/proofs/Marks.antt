@@ -1,7 +1,7 @@
 -- What a turn of the two passes over the member marks does to their set.
 use Prim.Native.Nat.{ℕ}
 use mathlib.Core.Path.{_≡_, refl, sym, ap, _∙_}
-use mathlib.Core.Bool.{Bool, true, false, _&&_, _||_, not, and-self, or-false}
+use mathlib.Core.Bool.{Bool, true, false, _&&_, _||_, and-self, or-false}
 use mathlib.Core.List.{List, [], _∷_}
 use lib.Dec.{eqb}
 use lib.ListN.{length, replicate}

@@ -1,6 +1,6 @@
 -- Laws of the working state: a row stored in its columns, and what its words are.
-use Prim.Native.Nat.{ℕ, _+_, _*_, _/_, _%_, _^_, _≤_, _<_}
-use mathlib.Core.Path.{_≡_, refl, sym, ap, _∙_}
+use Prim.Native.Nat.{ℕ, _+_, _*_, _/_, _%_, _≤_, _<_}
+use mathlib.Core.Path.{_≡_, _∙_}
 use mathlib.Core.List.{List, [], _∷_, _++_, map, append-assoc}
 use native.Mathlib.Nat.{zero-add}
 use native.Mathlib.Omega.{arith}
@@ -12,11 +12,11 @@ use Rattle.lists.specs.Rows.{rows, length-rows, rows-ext, rows-more, rows-take,
 use Rattle.semantics.specs.Words.{itemKind, itemWord, portOf, valueOf}
 use Rattle.semantics.specs.State as semantics
 use Rattle.semantics.specs.State.{Entry, entryOf, stateWords}
-use Rattle.state.specs.Working.{originOf, entryFrom, rowOf, entryIn, stateIn, Holds, Stored}
+use Rattle.state.specs.Working.{entryFrom, rowOf, entryIn, stateIn, Holds, Stored}
 use Rattle.state.specs.declared.State.{State}
 
 -- three columns of 1,024 places
-pub record Columns (os ws gs : List ℕ) : Type 0 where
+pub record Arrays (os ws gs : List ℕ) : Type 0 where
   pub owners : length os ≡ 1024
   pub items : length ws ≡ 1024
   pub origins : length gs ≡ 1024
@@ -26,7 +26,7 @@ module _ (os ws gs : List ℕ) (w o x g : ℕ) where
   abbrev pub stored : ℕ → Entry
   stored = rowOf (set os w o) (set ws w x) (set gs w g)
 
-  pub stored-same : Columns os ws gs → w < 1024 → stored w ≡ entryFrom o x g
+  pub stored-same : Arrays os ws gs → w < 1024 → stored w ≡ entryFrom o x g
   stored-same c h =
       let lo : w < length os = omega arith in
       let li : w < length ws = omega arith in
@@ -36,17 +36,17 @@ module _ (os ws gs : List ℕ) (w o x g : ℕ) where
   pub stored-other : (k : ℕ) → (k ≡ w → ⊥) → stored k ≡ rowOf os ws gs k
   stored-other k h = simp getD-set-other
 
-  pub stored-sized : Columns os ws gs → Columns (set os w o) (set ws w x) (set gs w g)
+  pub stored-sized : Arrays os ws gs → Arrays (set os w o) (set ws w x) (set gs w g)
   stored-sized c = record { owners = simp length-set (c .owners); items = simp length-set (c .items); origins = simp length-set (c .origins) }
 
   -- an entry stored after the last is one more
-  pub stored-more : Columns os ws gs → w < 1024 → rows stored 0 (w + 1) ≡ rows (rowOf os ws gs) 0 w ++ (entryFrom o x g ∷ [])
+  pub stored-more : Arrays os ws gs → w < 1024 → rows stored 0 (w + 1) ≡ rows (rowOf os ws gs) 0 w ++ (entryFrom o x g ∷ [])
   stored-more c h =
       let same : rows stored 0 w ≡ rows (rowOf os ws gs) 0 w = rows-ext _ _ 0 w (λ k l u. stored-other k (λ q. omega arith)) in
       rw (rows-more, same, zero-add, stored-same c h)
 
   -- .. and what follows may follow it
-  pub stored-before : Columns os ws gs → w < 1024 → {e : Entry} → entryFrom o x g ≡ e → (es : List Entry) → rows (rowOf os ws gs) 0 w ++ (e ∷ es) ≡ rows stored 0 (w + 1) ++ es
+  pub stored-before : Arrays os ws gs → w < 1024 → {e : Entry} → entryFrom o x g ≡ e → (es : List Entry) → rows (rowOf os ws gs) 0 w ++ (e ∷ es) ≡ rows stored 0 (w + 1) ++ es
   stored-before c h q es = rw (stored-more c h, q, append-assoc)
 
 -- an entry of the start has its place as its origin
@@ -59,6 +59,10 @@ from-place i o w h =
 pub holds-of : (s : State) {n next : ℕ} {es : List Entry} → s .next ≡ next → s .len ≡ n → n ≤ 1024 → rows (entryIn s) 0 n ≡ es → Holds s (record { next = next; entries = es })
 unfolding stateIn
 holds-of s t n h e = record { value = rw (t, n, e); fits = omega arith }
+
+pub count-in : (s : State) → length (stateIn s .entries) ≡ s .len
+unfolding stateIn
+count-in s = length-rows (entryIn s) 0 (s .len)
 
 -- ---- words
 
@@ -80,7 +84,7 @@ state-words s ho hi =
     rw (length-rows, os, ws)
 
 -- n and next, then the two columns, one after another
-pub stored-words : (s : State) (before middle after : List ℕ) → Columns (s .owners) (s .items) (s .origins) → s .len ≤ 1024 → 2 + 2 * s .len ≤ length before
+pub stored-words : (s : State) (before middle after : List ℕ) → Arrays (s .owners) (s .items) (s .origins) → s .len ≤ 1024 → 2 + 2 * s .len ≤ length before
     → Pasted (set (set before 0 (s .len)) 1 (s .next)) 2 (s .owners) (s .len) middle → Pasted middle (2 + s .len) (s .items) (s .len) after
     → Stored s before after (2 + 2 * s .len)
 stored-words s before middle after c h room p q =

@@ -1,4 +1,8 @@
 // The faults that a state's entries can have (4): each entry by itself, its member marks, its owners.
+use super::item::ABORT_MARK;
+use super::item::COMPENSATION;
+use super::item::MEMBER_MARK;
+use super::item::MESSAGE;
 use super::item::kind_of;
 use super::item::port_of;
 use super::item::value_of;
@@ -35,15 +39,17 @@ fn entry_ok(z: Sizes, next: u32, owner: u32, item: u32) -> bool
     let ports = z.globals as u64 + z.locals as u64 + z.merges as u64;
     let on_global = port < z.globals;
     let on_port = (port as u64) < ports;
-    (kind <= 3)
-        & (!(owner == 0) | ((kind == 0) & on_global))
-        & (!(kind == 0) | on_port)
-        & (!(kind == 1) | on_global)
-        & (!(kind == 2) | ((port == 0) & (value == 0)))
-        & (!(kind == 3) | ((port == 0) & (1 <= owner) & (owner <= value) & (value < next)))
+    (kind <= MEMBER_MARK)
+        & (!(owner == 0) | ((kind == MESSAGE) & on_global))
+        & (!(kind == MESSAGE) | on_port)
+        & (!(kind == COMPENSATION) | on_global)
+        & (!(kind == ABORT_MARK) | ((port == 0) & (value == 0)))
+        & (!(kind == MEMBER_MARK)
+            | ((port == 0) & (1 <= owner) & (owner <= value) & (value < next)))
 }
 
-fn entries_ok_each<'a>(z: Sizes, next: u32, owners: &'a [u32], items: &'a [u32]) -> bool
+// Each entry by itself.
+fn entries_ok_each(z: Sizes, next: u32, owners: &[u32], items: &[u32]) -> bool
     requires { ⌜ length (now owners) ≡ length (now items) ⌝ }
     ensures { λ r. ⌜ r ≡ all (entryOk z next) (entriesOf 0 (now (owners .entry)) (now (items .entry))) ⌝ }
 {
@@ -58,7 +64,7 @@ fn entries_ok_each<'a>(z: Sizes, next: u32, owners: &'a [u32], items: &'a [u32])
 }
 
 // One pass that keeps the set of the values met.
-fn marks_distinct<'a>(owners: &'a [u32], items: &'a [u32]) -> bool
+fn marks_distinct(owners: &[u32], items: &[u32]) -> bool
     requires { ⌜ length (now owners) ≡ length (now items) ⌝ }
     ensures { λ r. ⌜ r ≡ distinct (markValues (entriesOf 0 (now (owners .entry)) (now (items .entry)))) ⌝ }
 {
@@ -66,7 +72,7 @@ fn marks_distinct<'a>(owners: &'a [u32], items: &'a [u32]) -> bool
     let mut i = 0;
     while i < owners.len() {
         let item = items[i];
-        if kind_of(item) == 3 {
+        if kind_of(item) == MEMBER_MARK {
             let value = value_of(item);
             if idset::has(&met, value) {
                 return false;
@@ -79,7 +85,7 @@ fn marks_distinct<'a>(owners: &'a [u32], items: &'a [u32]) -> bool
 }
 
 // The transactions that own their own mark.
-fn own_marks<'a>(owners: &'a [u32], items: &'a [u32]) -> [u64; 1024]
+fn own_marks(owners: &[u32], items: &[u32]) -> [u64; 1024]
     requires { ⌜ length (now owners) ≡ length (now items) ⌝ }
     ensures { λ r. ⌜ OwnMarks r (entriesOf 0 (now (owners .entry)) (now (items .entry))) ⌝ }
 {
@@ -88,7 +94,7 @@ fn own_marks<'a>(owners: &'a [u32], items: &'a [u32]) -> [u64; 1024]
     while i < owners.len() {
         let item = items[i];
         let value = value_of(item);
-        if (kind_of(item) == 3) & (value == owners[i]) {
+        if (kind_of(item) == MEMBER_MARK) & (value == owners[i]) {
             idset::insert(&mut own, value);
         }
         i += 1;
@@ -110,7 +116,8 @@ fn owner_in(own: &[u64; 1024], owner: u32) -> bool
     idset::has(own, owner)
 }
 
-fn owners_in<'a>(own: &'a [u64; 1024], owners: &'a [u32]) -> bool
+// The second pass over the owners: each is 0 or in the set.
+fn owners_in(own: &[u64; 1024], owners: &[u32]) -> bool
     requires { ⌜ length (now own) ≡ 1024 ⌝ }
     ensures { λ r. ⌜ r ≡ all (ownerIn (now (own .entry))) (now (owners .entry)) ⌝ }
 {
@@ -125,7 +132,7 @@ fn owners_in<'a>(own: &'a [u64; 1024], owners: &'a [u32]) -> bool
 }
 
 // Every transaction that owns anything owns its own mark.
-fn owners_marked<'a>(owners: &'a [u32], items: &'a [u32]) -> bool
+fn owners_marked(owners: &[u32], items: &[u32]) -> bool
     requires { ⌜ length (now owners) ≡ length (now items) ⌝ }
     ensures { λ r. ⌜ r ≡ all (ownerOk (entriesOf 0 (now (owners .entry)) (now (items .entry)))) (entriesOf 0 (now (owners .entry)) (now (items .entry))) ⌝ }
 {

@@ -66,7 +66,7 @@ pub fn load(state: &[u32]) -> State
 }
 
 // Each entry's origin is its place: maker 0.
-fn from_columns<'a>(owners: &'a [u32], items: &'a [u32], next: u32) -> State
+fn from_columns(owners: &[u32], items: &[u32], next: u32) -> State
     requires { ⌜ (length (now owners) ≡ length (now items)) × (length (now owners) ≤ 1024) ⌝ }
     ensures { λ r. ⌜ Holds r (record { next = next; entries = entriesOf 0 (now (owners .entry)) (now (items .entry)) }) ⌝ }
 {

@@ -18,7 +18,7 @@ use Rattle.semantics.specs.declared.Verdict.the-variants.{Allowed, Denied}
 use Rattle.table.specs.Index.{Starts, Indexed, Cut, cut, starts-within, starts-cut}
 use Rattle.table.specs.Check.{CheckedAs}
 use Rattle.table.specs.declared.index.Index.{Index}
-use Rattle.table.specs.declared.check.Checked.{Checked}
+use Rattle.table.specs.declared.verdict.Checked.{Checked}
 
 -- an index of a table's rules, which is ok where the test holds
 abbrev pub IndexOf : List ℕ → Bool → Index → Type 0

@@ -6,7 +6,7 @@ use Rattle.semantics.specs.Table.{sizesOf, numbersOf}
 use Rattle.semantics.specs.Answers.{tableVerdict}
 use Rattle.semantics.specs.declared.Verdict.the-variants.{Allowed}
 use Rattle.table.specs.Index.{Starts}
-use Rattle.table.specs.declared.check.Checked.{Checked}
+use Rattle.table.specs.declared.verdict.Checked.{Checked}
 
 pub record CheckedAs (t : List ℕ) (c : Checked) : Type 0 where
   pub verdict : c .verdict ≡ tableVerdict t

@@ -1,5 +1,5 @@
 -- `check` meets its contract: the first fault counts.
-use mathlib.Core.Path.{_≡_, sym, _∙_}
+use mathlib.Core.Path.{sym, _∙_}
 use borrow.Author.Needs.{needs}
 use borrow.Author.Tests.{not-true, not-false}
 use Rattle.semantics.specs.Answers.{stateOwnVerdict}

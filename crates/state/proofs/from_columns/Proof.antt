@@ -1,16 +1,16 @@
 -- `from_columns` meets its contract: the rows made, followed by the entries ahead, are the entries.
-use Prim.Native.Nat.{ℕ, _-_, _≤_, _<_}
+use Prim.Native.Nat.{_-_, _≤_, _<_}
 use mathlib.Core.Path.{_≡_, refl, sym, _∙_}
-use mathlib.Core.List.{List, _++_, append-assoc, append-nil}
+use mathlib.Core.List.{_++_, append-nil}
 use native.Mathlib.Omega.{arith}
 use borrow.Author.Needs.{needs}
 use lib.ListN.{length}
 use Rattle.lists.specs.Ahead.{Ahead, ahead-start, ahead-next, ahead-done}
-use Rattle.lists.specs.Rows.{rows, rows-none}
+use Rattle.lists.specs.Rows.{rows}
 use Rattle.semantics.specs.State.{entriesOf}
 use Rattle.semantics.specs.Columns.{entriesFrom, entries-tails}
 use Rattle.state.specs.Working.{entryIn}
-use Rattle.state.proofs.Working.{Columns, stored-before, stored-sized, from-place, holds-of}
+use Rattle.state.proofs.Working.{Arrays, stored-before, stored-sized, from-place, holds-of}
 use Rattle.state.proofs.from_columns.Statement.{statement}
 use Rattle.state.proofs.from_columns.Tie as tie
 
@@ -20,7 +20,7 @@ Inv owners items next s₀ i₀ s i =
     × (length owners ≤ 1024)
     × (s .len ≡ length owners)
     × (s .next ≡ next)
-    × Columns (s .owners) (s .items) (s .origins)
+    × Arrays (s .owners) (s .items) (s .origins)
     × Ahead (entriesFrom owners items) (length owners) (λ es. rows (entryIn s) 0 i ++ es) i (entriesOf 0 owners items)
 
 abbrev μ : tie.MeasureT-loop

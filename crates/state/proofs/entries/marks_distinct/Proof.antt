@@ -2,7 +2,6 @@
 use Prim.Native.Nat.{_-_}
 use mathlib.Core.Path.{_≡_, sym, _∙_}
 use mathlib.Core.Logic.{⊎-elim}
-use native.Mathlib.Omega.{arith}
 use borrow.Author.Needs.{needs}
 use borrow.Author.Tests.{eq-eqb, ne-eqb}
 use lib.ListN.{length}
@@ -41,13 +40,14 @@ loop-again c =
     let kind = c .before .kind-of .ensures in
     let go = ahead-next (entries-tails _ _ (l .inv .0)) (l .inv .2) (c .before .before .before .loop-test .taken) in
     ⊎-elim
-    (λ w.
-      (l .inv .0,
+    (λ w. (
+      l .inv .0,
       rw (w .7) (w .6 .ensures .size),
       rw (w .7)
-      (go _
-      (λ es. fresh-new _ _ es (eq-eqb _ _ (sym kind ∙ w .0 .taken)) (rw (w .1 .ensures) at (sym (w .3 .ensures) ∙ w .4 .left))
-      (rw (w .1 .ensures) at (w .6 .ensures))))))
+          (go _
+          (λ es. fresh-new _ _ es (eq-eqb _ _ (sym kind ∙ w .0 .taken)) (rw (w .1 .ensures) at (sym (w .3 .ensures) ∙ w .4 .left))
+          (rw (w .1 .ensures) at (w .6 .ensures)))),
+    ))
     (λ w. (l .inv .0, rw (w .1) (l .inv .1), rw (w .1) (go _ (λ es. fresh-other _ _ es (ne-eqb _ _ (λ e. w .0 .left (kind ∙ e)))))))
     (c .if1 .came)
 

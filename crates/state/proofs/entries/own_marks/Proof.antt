@@ -33,14 +33,16 @@ loop-again c =
     let kind = c .before .before .kind-of .ensures in
     let value = c .before .before .before .value-of .ensures in
     ⊎-elim
-    (λ w.
-      (l .inv .0,
+    (λ w. (
+      l .inv .0,
       rw (w .3) (w .2 .ensures .size),
-      λ u. rw (w .3) (ahead-next t (l .inv .2 u) more _ (λ es. owns-more u _ _ es (rw (kind, value) at (w .0 .taken)) (rw value at (w .2 .ensures))))))
-    (λ w.
-      (l .inv .0,
+      λ u. rw (w .3) (ahead-next t (l .inv .2 u) more _ (λ es. owns-more u _ _ es (rw (kind, value) at (w .0 .taken)) (rw value at (w .2 .ensures)))),
+    ))
+    (λ w. (
+      l .inv .0,
       rw (w .1) (l .inv .1),
-      λ u. rw (w .1) (ahead-next t (l .inv .2 u) more _ (λ es. owns-other u _ _ es (rw (kind, value) at (w .0 .left))))))
+      λ u. rw (w .1) (ahead-next t (l .inv .2 u) more _ (λ es. owns-other u _ _ es (rw (kind, value) at (w .0 .left)))),
+    ))
     (c .if1 .came)
 
 returns : tie.Need-returns Inv μ

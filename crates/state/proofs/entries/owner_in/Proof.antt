@@ -1,5 +1,5 @@
 -- `owner_in` meets its contract: no set holds an owner of 65,536 or more.
-use mathlib.Core.Path.{_≡_, sym, _∙_}
+use mathlib.Core.Path.{sym, _∙_}
 use borrow.Author.Needs.{needs}
 use borrow.Author.Tests.{eq-eqb, ne-eqb}
 use Rattle.lists.specs.Tests.{or-true, or-false}

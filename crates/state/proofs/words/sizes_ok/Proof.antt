@@ -3,7 +3,7 @@ use native.Mathlib.Omega.{arith}
 use borrow.Author.Needs.{needs}
 use borrow.Author.Tests.{lt-leb, le-leb}
 use Rattle.lists.specs.Tests.{and-false, and-true}
-use mathlib.Core.Path.{_≡_, sym}
+use mathlib.Core.Path.{sym}
 use Rattle.semantics.specs.State.{stateSizesOk}
 use Rattle.state.proofs.words.sizes_ok.Statement.{statement}
 use Rattle.state.proofs.words.sizes_ok.Tie as tie

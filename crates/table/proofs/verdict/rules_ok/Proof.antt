@@ -1,4 +1,4 @@
--- `check::rules_ok` meets its contract: the rules so far are right.
+-- `verdict::rules_ok` meets its contract: the rules so far are right.
 use borrow.Author.Needs.{needs}
 use borrow.Author.Tests.{not-true, not-false}
 use Prim.Native.Nat.{ℕ, _-_, _≤_}
@@ -11,8 +11,8 @@ use Rattle.lists.specs.Walk.{below-next, below-false}
 use Rattle.semantics.specs.declared.Sizes.{Sizes}
 use Rattle.semantics.specs.Table.{ruleOk}
 use Rattle.table.specs.Index.{cut}
-use Rattle.table.proofs.check.rules_ok.Statement.{statement}
-use Rattle.table.proofs.check.rules_ok.Tie as tie
+use Rattle.table.proofs.verdict.rules_ok.Statement.{statement}
+use Rattle.table.proofs.verdict.rules_ok.Tie as tie
 
 -- rule r is right
 abbrev right : List ℕ → List ℕ → Sizes → ℕ → Bool

@@ -1,12 +1,12 @@
--- `check::check` meets its contract: each answer by the tests that led to it (`Whole`).
+-- `verdict::check` meets its contract: each answer by the tests that led to it (`Whole`).
 use mathlib.Core.Bool.{true, false}
 use mathlib.Core.Path.{sym, _∙_}
 use borrow.Author.Needs.{needs}
 use borrow.Author.Tests.{not-true, not-false}
 use Rattle.semantics.specs.TableLaws.{sized}
 use Rattle.table.proofs.Whole.{sizes-wrong, sizes-right}
-use Rattle.table.proofs.check.check.Statement.{statement}
-use Rattle.table.proofs.check.check.Tie as tie
+use Rattle.table.proofs.verdict.check.Statement.{statement}
+use Rattle.table.proofs.verdict.check.Tie as tie
 
 returns : tie.Need-returns
 returns c = sizes-wrong _ _ (sym (c .before .sizes-ok .ensures) ∙ not-true _ (c .if1 .taken))

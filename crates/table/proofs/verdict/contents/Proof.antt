@@ -1,4 +1,4 @@
--- `check::contents` meets its contract: the two passes together (`Whole`).
+-- `verdict::contents` meets its contract: the two passes together (`Whole`).
 use mathlib.Core.Path.{_≡_, sym, ap, _∙_}
 use native.Mathlib.Omega.{arith}
 use borrow.Author.Needs.{needs}
@@ -8,8 +8,8 @@ use Rattle.semantics.specs.declared.Sizes.{Sizes}
 use Rattle.semantics.specs.Table.{numbersOf}
 use Rattle.semantics.specs.TableLaws.{numbers-length}
 use Rattle.table.proofs.Whole.{index-of, numbers-wrong, cuts, numbers-right}
-use Rattle.table.proofs.check.contents.Statement.{statement}
-use Rattle.table.proofs.check.contents.Tie as tie
+use Rattle.table.proofs.verdict.contents.Statement.{statement}
+use Rattle.table.proofs.verdict.contents.Tie as tie
 
 index-rules-requires : tie.Need-index-rules-requires
 index-rules-requires c κs =

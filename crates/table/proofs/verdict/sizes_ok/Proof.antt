@@ -1,11 +1,11 @@
--- `check::sizes_ok` meets its contract: a table too short by its first test, another by the rest.
+-- `verdict::sizes_ok` meets its contract: a table too short by its first test, another by the rest.
 use borrow.Author.Needs.{needs}
 use mathlib.Core.Path.{sym}
 use borrow.Author.Tests.{lt-leb, le-leb}
 use Rattle.lists.specs.Tests.{and-false}
 use Rattle.semantics.specs.Table.{tableSizesOk}
-use Rattle.table.proofs.check.sizes_ok.Statement.{statement}
-use Rattle.table.proofs.check.sizes_ok.Tie as tie
+use Rattle.table.proofs.verdict.sizes_ok.Statement.{statement}
+use Rattle.table.proofs.verdict.sizes_ok.Tie as tie
 
 returns : tie.Need-returns
 unfolding tableSizesOk
