@@ -17,5 +17,3 @@ pub mod Prefix
 pub mod Least
 pub mod Rows
 pub mod Over
-pub mod Counting
-pub mod Rising
