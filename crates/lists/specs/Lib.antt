@@ -17,3 +17,4 @@ pub mod Prefix
 pub mod Least
 pub mod Rows
 pub mod Over
+pub mod Sift

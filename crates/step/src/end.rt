@@ -1,8 +1,11 @@
 // The end of a transaction, commit (release) or abort (call-off): when it is allowed, and what it leaves.
-ghost use Prim.Native.Nat.{ℕ, _≤_};
+ghost use Prim.Native.Nat.{ℕ, _%_, _^_, _≤_};
 ghost use mathlib.Core.Path.{_≡_};
+ghost use mathlib.Core.Bool.{not, cond, _||_};
 ghost use mathlib.Core.List.{List};
 ghost use lib.Dec.{eqb};
+ghost use Rattle.lists.specs.Lists.{oneIf};
+ghost use Rattle.semantics.specs.Words.{itemKind};
 ghost use Rattle.semantics.specs.Move.{ended};
 ghost use Rattle.state.specs.Working.{Holds, stateIn};
 ghost use Rattle.step.specs.Working.{stateFrom, Columns};
@@ -68,17 +71,23 @@ pub fn abort_verdict<'a>(owners: &'a [u32; 1024], items: &'a [u32; 1024], n: usi
 }
 
 // The owner of an entry that stays.
-fn owner_after(owner: u32, id: u32) -> u32 {
+fn owner_after(owner: u32, id: u32) -> u32
+    ensures { λ r. ⌜ r ≡ cond (eqb owner id) 0 owner ⌝ }
+{
     if owner == id { 0 } else { owner }
 }
 
 // The item of an entry that stays: what is freed becomes a message.
-fn item_after(owner: u32, item: u32, id: u32) -> u32 {
+fn item_after(owner: u32, item: u32, id: u32) -> u32
+    ensures { λ r. ⌜ r ≡ cond (eqb owner id) (item % 2 ^ 24) item ⌝ }
+{
     if owner == id { item % 16777216 } else { item }
 }
 
 // 1 where an entry stays, else 0.
-fn stays(owner: u32, item: u32, id: u32, kind: u32) -> usize {
+fn stays(owner: u32, item: u32, id: u32, kind: u32) -> usize
+    ensures { λ r. ⌜ r ≡ oneIf (not (eqb owner id) || eqb (itemKind item) kind) ⌝ }
+{
     if owner == id {
         if item / 16777216 == kind { 1 } else { 0 }
     } else {

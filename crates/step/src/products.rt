@@ -1,9 +1,10 @@
 // What an allowed reaction leaves: the entries without the picks, then the products.
 ghost use Prim.Native.Nat.{ℕ, _+_, _-_, _≤_, _<_};
 ghost use mathlib.Core.Path.{_≡_};
+ghost use mathlib.Core.Bool.{not};
 ghost use mathlib.Core.List.{List, map, _++_};
 ghost use lib.ListN.{length, take, drop, getD};
-ghost use Rattle.lists.specs.Lists.{without, least};
+ghost use Rattle.lists.specs.Lists.{without, least, oneIf};
 ghost use Rattle.semantics.specs.Words.{itemKind, portOf, valueOf};
 ghost use Rattle.semantics.specs.Move.{merged, valueIn, kindMade, reacted};
 ghost use Rattle.semantics.specs.declared.Verdict.the-variants.{Allowed};
@@ -27,7 +28,9 @@ fn merged_owner(owner: u32, owners: [u32; 4], k: usize, home: u32) -> u32
     if among(owner, owners, k) { home } else { owner }
 }
 
-fn one_unless(b: bool) -> usize {
+fn one_unless(b: bool) -> usize
+    ensures { λ r. ⌜ r ≡ oneIf (not b) ⌝ }
+{
     if b { 0 } else { 1 }
 }
 
