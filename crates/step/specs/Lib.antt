@@ -1,3 +1,5 @@
 pub mod Working
 pub mod End
 pub mod Products
+pub mod React
+pub mod Narrow

@@ -1,23 +1,25 @@
 // What an allowed reaction leaves: the entries without the picks, then the products.
-ghost use Prim.Native.Nat.{ℕ, _+_, _-_, _≤_, _<_};
+ghost use Prim.Native.Nat.{_+_, _-_, _≤_, _<_};
 ghost use mathlib.Core.Path.{_≡_};
-ghost use mathlib.Core.Bool.{not};
-ghost use mathlib.Core.List.{List, map, _++_};
-ghost use lib.ListN.{length, take, drop, getD};
-ghost use Rattle.lists.specs.Lists.{without, least, oneIf};
-ghost use Rattle.semantics.specs.Words.{itemKind, portOf, valueOf};
-ghost use Rattle.semantics.specs.Move.{merged, valueIn, kindMade, reacted};
+ghost use mathlib.Core.Bool.{true};
+ghost use mathlib.Core.List.{map, _++_};
+ghost use lib.ListN.{take, drop};
+ghost use Rattle.lists.specs.Lists.{without, least};
+ghost use Rattle.semantics.specs.Words.{valueOf};
+ghost use Rattle.semantics.specs.Move.{merged, kindMade, reacted};
 ghost use Rattle.semantics.specs.declared.Verdict.the-variants.{Allowed};
-ghost use Rattle.table.specs.Decode.{Decodes};
 ghost use Rattle.state.specs.Working.{Holds, stateIn};
 ghost use Rattle.step.specs.Working.{ruleIn, reactVerdict};
-ghost use Rattle.step.specs.Products.{mergedOwner, ownerOfRole, nextAfter, productsFrom, Narrow};
+ghost use Rattle.step.specs.Narrow.{narrowValue, Narrow, Ready};
+ghost use Rattle.step.specs.Products.{mergedOwner, ownerOfRole, nextAfter, valueMade, ItemMade, productsFrom};
 use crate::few::among;
 use crate::few::smallest;
 use crate::react::at_picks;
 use semantics::Atom;
 use semantics::AtomValue;
 use state::State;
+use state::item::item_of;
+use state::item::value_of;
 use table::decode::Rule;
 
 // The owner of an entry that is not picked: one of the owners found goes under the smallest of them.
@@ -72,46 +74,53 @@ fn kind_made(role: u32) -> u32
     0
 }
 
-// The value that an atom of this role makes: a begin's is the new id.
-fn value_made(atom: Atom, items: [u32; 4], next: u32) -> u32 {
+// The value of an atom's product: a begin's is the new id.
+fn value_made(atom: Atom, items: [u32; 4], next: u32) -> u32
+    requires { ⌜ narrowValue (atom .value) × (atom .role ≡ 2 → next < 65536) ⌝ }
+    ensures { λ r. ⌜ (r ≡ valueMade (map valueOf items) next atom) × (r < 65536) ⌝ }
+{
     if atom.role == 2 {
         return next;
     }
     let value = atom.value;
     match value {
         AtomValue::Constant(v) => v as u32,
-        AtomValue::Received(i) => {
-            if i < 4 {
-                items[i] % 65536
-            } else {
-                0
-            }
-        }
+        AtomValue::Received(i) => { if i < 4 { value_of(items[i]) } else { 0 } }
     }
+}
+
+fn item_made(atom: Atom, items: [u32; 4], next: u32) -> u32
+    requires { ⌜ Narrow atom × (atom .role ≡ 2 → next < 65536) ⌝ }
+    ensures { λ r. ⌜ ItemMade r (map valueOf items) next atom ⌝ }
+{
+    item_of(
+        kind_made(atom.role),
+        atom.port,
+        value_made(atom, items, next),
+    )
 }
 
 // The products follow in atom order; home owns the emits of a global rule and all of another rule.
 fn with_products(mut s: State, rule: Rule, items: [u32; 4], home: u32, maker: u32) -> State
-    requires { ⌜ (s .len + (rule .count - rule .consumes) ≤ 1024) × Decodes rule (ruleIn rule) × Narrow rule (s .next) × (maker ≤ 1024) ⌝ }
+    requires { ⌜ (s .len + (rule .count - rule .consumes) ≤ 1024) × Ready rule (s .next) maker × (rule .begins ≡ true → s .next < 65536) ⌝ }
     ensures { λ r. ⌜ Holds r (record { next = nextAfter (rule .begins) (s .next); entries = stateIn s .entries ++ productsFrom (rule .class) (s .next) home (map valueOf items) maker 0 (drop (rule .consumes) (take (rule .count) (rule .atoms))) }) ⌝ }
 {
     let atoms = rule.atoms;
     let class = rule.class;
     let from = rule.consumes;
-    let to = rule.count;
+    let made = rule.count - from;
     let next = s.next;
     let at = s.len;
-    let mut i = from;
-    while i < to {
-        let atom = atoms[i];
-        let role = atom.role;
-        let w = at + (i - from);
-        s.owners[w] = owner_made(class, role, home, next);
-        s.items[w] = kind_made(role) * 16777216 + atom.port * 65536 + value_made(atom, items, next);
-        s.origins[w] = maker * 1024 + ((i - from) as u32);
-        i += 1;
+    let mut q = 0;
+    while q < made {
+        let atom = atoms[from + q];
+        let w = at + q;
+        s.owners[w] = owner_made(class, atom.role, home, next);
+        s.items[w] = item_made(atom, items, next);
+        s.origins[w] = maker * 1024 + (q as u32);
+        q += 1;
     }
-    s.len = at + (to - from);
+    s.len = at + made;
     s.next = next_after(rule.begins, next);
     s
 }
@@ -119,7 +128,11 @@ fn with_products(mut s: State, rule: Rule, items: [u32; 4], home: u32, maker: u3
 fn owner_made(class: u32, role: u32, home: u32, next: u32) -> u32
     ensures { λ r. ⌜ r ≡ ownerOfRole class next home role ⌝ }
 {
-    if (class == 0) & (role != 1) { next } else { home }
+    if (class == 0) & (role != 1) {
+        next
+    } else {
+        home
+    }
 }
 
 fn next_after(begins: bool, next: u32) -> u32
@@ -131,12 +144,18 @@ fn next_after(begins: bool, next: u32) -> u32
 
 // The whole reaction.
 pub fn react(s: State, rule: Rule, picks: [u32; 4], maker: u32) -> State
-    requires { ⌜ (s .len ≤ 1024) × Decodes rule (ruleIn rule) × Narrow rule (s .next) × (maker ≤ 1024) × (reactVerdict 1024 (ruleIn rule) (stateIn s) (take (rule .consumes) picks) ≡ Allowed) ⌝ }
+    requires { ⌜ (s .len ≤ 1024) × Ready rule (s .next) maker × (reactVerdict 1024 (ruleIn rule) (stateIn s) (take (rule .consumes) picks) ≡ Allowed) ⌝ }
     ensures { λ r. ⌜ Holds r (reacted (ruleIn rule) maker (stateIn s) (take (rule .consumes) picks)) ⌝ }
 {
     let k = rule.consumes;
     let owners = at_picks(&s.owners, picks, k);
     let items = at_picks(&s.items, picks, k);
     let home = smallest(owners, k);
-    with_products(without_picks(s, picks, owners, k, home), rule, items, home, maker)
+    with_products(
+        without_picks(s, picks, owners, k, home),
+        rule,
+        items,
+        home,
+        maker,
+    )
 }

@@ -1,21 +1,25 @@
-// A reaction: when it is allowed, and what it leaves.
-ghost use Prim.Native.Nat.{ℕ, _+_, _≤_, _<_};
+// When a reaction is allowed. What it leaves is in `products`.
+ghost use Prim.Native.Nat.{ℕ, _≤_};
 ghost use mathlib.Core.Path.{_≡_};
 ghost use mathlib.Core.Bool.{_&&_};
 ghost use mathlib.Core.List.{List, map};
 ghost use lib.Dec.{eqb};
-ghost use lib.ListN.{length, take, getD};
+ghost use lib.ListN.{length, take};
 ghost use Rattle.lists.specs.Rows.{rows};
 ghost use Rattle.semantics.specs.State.{isMessage};
 ghost use Rattle.semantics.specs.Table.{consumed};
-ghost use Rattle.semantics.specs.Move.{entryAt, onPorts, picksOk, ownersFit};
+ghost use Rattle.semantics.specs.Move.{entryAt, onPorts, ownersFit};
 ghost use Rattle.table.specs.Decode.{Decodes};
 ghost use Rattle.state.specs.Working.{rowOf};
 ghost use Rattle.step.specs.Working.{ruleIn, stateFrom, Columns, reactVerdict};
+ghost use Rattle.step.specs.React.{ownerFits, Places, fourAt};
 use crate::few::all_differ;
 use crate::few::smallest;
 use semantics::Refusal;
 use semantics::Verdict;
+use state::item::MESSAGE;
+use state::item::kind_of;
+use state::item::port_of;
 use table::decode::Rule;
 
 // Whether a message on this port stands at place p.
@@ -27,7 +31,7 @@ fn message_on(items: &[u32; 1024], n: usize, p: usize, port: u32) -> bool
         return false;
     }
     let item = items[p];
-    (item / 16777216 == 0) & (item / 65536 % 256 == port)
+    (kind_of(item) == MESSAGE) & (port_of(item) == port)
 }
 
 // Whether the picks are messages on the ports of the consumes (takes).
@@ -50,8 +54,8 @@ fn on_ports(items: &[u32; 1024], n: usize, rule: Rule, picks: [u32; 4]) -> bool
 
 // A column at the first k picks, and 0 after them.
 pub fn at_picks(column: &[u32; 1024], picks: [u32; 4], k: usize) -> [u32; 4]
-    requires { ⌜ (k ≤ 4) × (length (now column) ≡ 1024) × ((i : ℕ) → i < k → getD picks i 0 < 1024) ⌝ }
-    ensures { λ r. ⌜ (length r ≡ 4) × (take k r ≡ map (λ p. getD (now (column .entry)) p 0) (take k picks)) ⌝ }
+    requires { ⌜ (k ≤ 4) × (length (now column) ≡ 1024) × Places 1024 (take k picks) ⌝ }
+    ensures { λ r. ⌜ r ≡ fourAt (now (column .entry)) (take k picks) ⌝ }
 {
     let mut found = [0u32; 4];
     let mut i = 0;
@@ -63,7 +67,9 @@ pub fn at_picks(column: &[u32; 1024], picks: [u32; 4], k: usize) -> [u32; 4]
 }
 
 // The owner that a rule of this class wants; home is the smallest of the owners found.
-fn owner_fits(class: u32, owner: u32, home: u32) -> bool {
+fn owner_fits(class: u32, owner: u32, home: u32) -> bool
+    ensures { λ r. ⌜ r ≡ ownerFits class home owner ⌝ }
+{
     if class == 0 {
         return owner == 0;
     }
