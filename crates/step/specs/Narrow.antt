@@ -45,9 +45,10 @@ rule-ready t h r l x d next maker n m =
     let ports = sizes-given t (table-given t h .0) .ports in
     record {
       rule = decodes-itself x (ruleAt (tableOf t) r) d;
-      narrow = rw (rule-in x (ruleAt (tableOf t) r) d) (λ a k.
-          let p = right .each a k .port-lt in
-          record { port = omega arith; value = narrow-value _ (a .value) (right .each a k .value-right) });
+      narrow = λ a k.
+          let fits = right .each a (rw (d .atoms) at k) in
+          let p = fits .port-lt in
+          record { port = omega arith; value = narrow-value _ (a .value) (fits .value-right) };
       limit = n;
       makers = m;
     }

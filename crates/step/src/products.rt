@@ -1,10 +1,10 @@
 // What an allowed reaction leaves: the entries without the picks, then the products.
 ghost use Prim.Native.Nat.{_+_, _-_, _≤_, _<_};
 ghost use mathlib.Core.Path.{_≡_};
-ghost use mathlib.Core.Bool.{true};
+ghost use mathlib.Core.Bool.{true, not};
 ghost use mathlib.Core.List.{map, _++_};
 ghost use lib.ListN.{take, drop};
-ghost use Rattle.lists.specs.Lists.{without, least};
+ghost use Rattle.lists.specs.Lists.{oneIf, without, least};
 ghost use Rattle.semantics.specs.Words.{valueOf};
 ghost use Rattle.semantics.specs.Move.{merged, kindMade, reacted};
 ghost use Rattle.semantics.specs.declared.Verdict.the-variants.{Allowed};
