@@ -22,6 +22,7 @@ use Rattle.table.specs.Decode.{Decodes}
 use Rattle.state.specs.Working.{rowOf}
 use Rattle.step.specs.Working.{ruleIn}
 use Rattle.step.specs.React.{ownerFits, Places, column}
+use Rattle.step.proofs.Decoded.{blank, consumes-within}
 
 -- ---- one pick
 
@@ -64,19 +65,23 @@ unfolding rows
 ports-rows f g i zero = refl
 ports-rows f g i (suc n) = ap (λ (b : Bool). onPort (f i) (g i) && b) (ports-rows f g (suc i) n)
 
+-- the pick at j is a message on the port of the atom at j
+abbrev pub pickFits : List ℕ → List ℕ → List ℕ → ℕ → List Atom → List ℕ → ℕ → Bool
+pickFits os ws gs n atoms picks j = onPort (getD atoms j blank .port) (entryAt (entries os ws gs n) (getD picks j 0))
+
 -- pick by pick
-pub ports-each : (a : Atom) (x : Rule) (g : ℕ → Entry) (picks : List ℕ) → Decodes x (ruleIn x) → length picks ≡ 4
-    → onPorts (consumed (ruleIn x)) (map g (take (x .consumes) picks)) ≡ all (λ j. onPort (getD (x .atoms) j a .port) (g (getD picks j 0))) (rowsFrom (λ j. j) (x .consumes) 0)
-ports-each a x g picks d l =
+pub ports-each : (os ws gs : List ℕ) (n : ℕ) (x : Rule) (picks : List ℕ) → Decodes x (ruleIn x) → length picks ≡ 4
+    → all (pickFits os ws gs n (x .atoms) picks) (rowsFrom (λ j. j) (x .consumes) 0) ≡ onPorts (consumed (ruleIn x)) (map (entryAt (entries os ws gs n)) (take (x .consumes) picks))
+ports-each os ws gs n x picks d l =
     let k = x .consumes in
-    let count : length (take (x .count) (x .atoms)) ≡ x .count = length-take-le (x .count) (x .atoms) (omega (arith, d .room, d .few)) in
-    let within : k ≤ x .count = omega (arith, d .leads .within) in
+    let g = entryAt (entries os ws gs n) in
+    let within = consumes-within x d in
     let fits : k ≤ length (x .atoms) = omega (arith, d .room, d .few) in
     let four : k ≤ length picks = omega (arith, d .leads .most) in
-    let ports : consumed (ruleIn x) ≡ rows (λ j. getD (x .atoms) j a .port) 0 k =
-    d .leads .consumed ∙ rw (take-take k (x .count) (x .atoms) within, ← rows-take a (x .atoms) k fits) (map-rows (λ a. a .port) (λ j. getD (x .atoms) j a) 0 k) in
+    let ports : consumed (ruleIn x) ≡ rows (λ j. getD (x .atoms) j blank .port) 0 k =
+    d .leads .consumed ∙ rw (take-take k (x .count) (x .atoms) within, ← rows-take blank (x .atoms) k fits) (map-rows (λ a. a .port) (λ j. getD (x .atoms) j blank) 0 k) in
     let found : map g (take k picks) ≡ rows (λ j. g (getD picks j 0)) 0 k = rw (← rows-take 0 picks k four) (map-rows g (λ j. getD picks j 0) 0 k) in
-    rw (ports, found, rows-whole (λ j. j) k) (ports-rows (λ j. getD (x .atoms) j a .port) (λ j. g (getD picks j 0)) 0 k)
+    rw (ports, found, rows-whole (λ j. j) k) (sym (ports-rows (λ j. getD (x .atoms) j blank .port) (λ j. g (getD picks j 0)) 0 k))
 
 -- ---- owners
 
