@@ -86,7 +86,7 @@ fn item_after(owner: u32, item: u32, id: u32) -> u32
 
 // 1 where an entry stays, else 0.
 fn stays(owner: u32, item: u32, id: u32, kind: u32) -> usize
-    ensures { λ r. ⌜ r ≡ oneIf (not (eqb owner id) || eqb (itemKind item) kind) ⌝ }
+    ensures { λ r. ⌜ (r ≡ oneIf (not (eqb owner id) || eqb (itemKind item) kind)) × (r ≤ 1) ⌝ }
 {
     if owner == id {
         if item / 16777216 == kind { 1 } else { 0 }
