@@ -18,3 +18,4 @@ pub mod Least
 pub mod Rows
 pub mod Over
 pub mod Sift
+pub mod Found

@@ -36,7 +36,7 @@ fn surveyed<'a>(owners: &'a [u32; 1024], items: &'a [u32; 1024], n: usize, id: u
         let port = item / 65536 % 256;
         open = open | owned;
         aborting = aborting | (owned & (kind == 2));
-        inside = inside | (owned & (kind == 0) & (globals <= port));
+        inside = inside | (owned & ((kind == 0) & (globals <= port)));
         i += 1;
     }
     Survey { open, aborting, inside }
