@@ -19,3 +19,4 @@ pub mod Rows
 pub mod Over
 pub mod Sift
 pub mod Padded
+pub mod Found

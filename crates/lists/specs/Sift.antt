@@ -9,10 +9,6 @@ use native.Mathlib.Omega.{arith}
 use Rattle.lists.specs.Lists.{keepIf, keep, oneIf, isIn, without}
 use Rattle.lists.specs.Rows.{rows, rowsFrom, rows-none, rows-ext, rows-more, rows-tails, rows-whole}
 
-pub one-most : (b : Bool) → oneIf b ≤ 1
-one-most true = omega arith
-one-most false = omega arith
-
 module _ {A : Type 0} where
   -- f of each element that stays; the first one's place is i
   abbrev pub sift : (ℕ → A → Bool) → (A → A) → ℕ → List A → List A

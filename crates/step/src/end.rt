@@ -36,7 +36,7 @@ fn surveyed<'a>(owners: &'a [u32; 1024], items: &'a [u32; 1024], n: usize, id: u
         let port = item / 65536 % 256;
         open = open | owned;
         aborting = aborting | (owned & (kind == 2));
-        inside = inside | (owned & (kind == 0) & (globals <= port));
+        inside = inside | (owned & ((kind == 0) & (globals <= port)));
         i += 1;
     }
     Survey { open, aborting, inside }
@@ -86,7 +86,7 @@ fn item_after(owner: u32, item: u32, id: u32) -> u32
 
 // 1 where an entry stays, else 0.
 fn stays(owner: u32, item: u32, id: u32, kind: u32) -> usize
-    ensures { λ r. ⌜ r ≡ oneIf (not (eqb owner id) || eqb (itemKind item) kind) ⌝ }
+    ensures { λ r. ⌜ (r ≡ oneIf (not (eqb owner id) || eqb (itemKind item) kind)) × (r ≤ 1) ⌝ }
 {
     if owner == id {
         if item / 16777216 == kind { 1 } else { 0 }

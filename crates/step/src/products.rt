@@ -31,7 +31,7 @@ fn merged_owner(owner: u32, owners: [u32; 4], k: usize, home: u32) -> u32
 }
 
 fn one_unless(b: bool) -> usize
-    ensures { λ r. ⌜ r ≡ oneIf (not b) ⌝ }
+    ensures { λ r. ⌜ (r ≡ oneIf (not b)) × (r ≤ 1) ⌝ }
 {
     if b { 0 } else { 1 }
 }
