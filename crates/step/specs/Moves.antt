@@ -12,7 +12,7 @@ use Rattle.lists.specs.Choices.{and-three}
 use Rattle.semantics.specs.Words.{headKind, headNumber}
 use Rattle.semantics.specs.Table.{Table, sizesOf, tableOf, ruleAt, consumed}
 use Rattle.semantics.specs.State as semantics
-use Rattle.semantics.specs.Move.{Move, react, commit, abort, unless, both, isZero, picksUsed, headOk, moveOk, moveOf, allowed, applied, moveVerdict}
+use Rattle.semantics.specs.Move.{Move, react, commit, abort, unless, both, isZero, picksUsed, headOk, moveOk, moveOf, reacted, allowed, applied, moveVerdict}
 use Rattle.semantics.specs.Answers.{tableVerdict}
 use Rattle.semantics.specs.declared.Refusal.{Refusal}
 use Rattle.semantics.specs.declared.Refusal.the-variants.{TooManyEntries}
@@ -107,6 +107,13 @@ pub verdict-react : (ceiling : ℕ) {t : Table} {x : Rule} {head : ℕ} {picks :
     → reactVerdict ceiling (ruleIn x) s (take (x .consumes) picks) ≡ moveVerdict ceiling t s (moveOf t (head ∷ picks))
 verdict-react ceiling {t} {x} {head} {picks} m s k =
     rw (move-react m k, rule-in x (ruleAt t (headNumber head)) (m .rule k)) (sym (react-verdict-is ceiling t s (headNumber head) (take (x .consumes) picks)))
+
+-- ---- what a reaction leaves
+
+pub applied-react : {t : Table} {x : Rule} {head : ℕ} {picks : List ℕ} (m : IsMove t x head picks) (i : ℕ) (s : semantics.State) → headKind head ≡ 0
+    → applied t i s (moveOf t (head ∷ picks)) ≡ reacted (ruleIn x) i s (take (x .consumes) picks)
+unfolding applied
+applied-react {t} {x} {head} {picks} m i s k = rw (move-react m k, rule-in x (ruleAt t (headNumber head)) (m .rule k))
 
 -- ---- from an accepted table and an allowed move to what `applied` asks
 pub applicable : (t : List ℕ) → tableVerdict t ≡ Allowed → (s : State) (x : Rule) (head : ℕ) (picks : List ℕ) (maker : ℕ)
