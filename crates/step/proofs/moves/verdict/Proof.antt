@@ -6,7 +6,7 @@ use native.Mathlib.Omega.{arith}
 use lib.ListN.{length}
 use Rattle.lists.specs.Rows.{rows, length-rows}
 use Rattle.state.specs.Working.{rowOf}
-use Rattle.step.specs.Moves.{move-commit, move-abort, verdict-react, verdict-commit, verdict-abort}
+use Rattle.step.specs.Moves.{verdict-react, verdict-commit, verdict-abort}
 use Rattle.step.proofs.moves.verdict.Statement.{statement}
 use Rattle.step.proofs.moves.verdict.Tie as tie
 
@@ -21,13 +21,13 @@ returns c t gs m g = c .react-verdict .ensures gs ∙ verdict-react _ m _ (c .be
 
 returns-2 : tie.Need-returns-2
 returns-2 c t gs m g =
-    rw (move-commit t _ _ (c .before .before .if1 .left) (c .before .if2 .taken), verdict-commit _ t _ _ (room _ _ gs _ _ (c .before .before .before .pre .1)), g)
-    (c .commit-verdict .ensures gs _)
+    let a = c .before .before .before .args in
+    rw g (c .commit-verdict .ensures gs _) ∙ verdict-commit _ t _ _ _ (room (a .owners .now) (a .items .now) gs (a .n) (a .ceiling) (c .before .before .before .pre .1)) (c .before .before .if1 .left) (c .before .if2 .taken)
 
 returns-3 : tie.Need-returns-3
 returns-3 c t gs m g =
-    rw (move-abort t _ _ (c .before .before .if1 .left) (c .before .if2 .left), verdict-abort _ t _ _ (room _ _ gs _ _ (c .before .before .before .pre .1)))
-    (c .abort-verdict .ensures gs _)
+    let a = c .before .before .before .args in
+    c .abort-verdict .ensures gs _ ∙ verdict-abort _ t _ _ _ (room (a .owners .now) (a .items .now) gs (a .n) (a .ceiling) (c .before .before .before .pre .1)) (c .before .before .if1 .left) (c .before .if2 .left)
 
 pub verdict-spec : {M : Type 1} → statement M
 verdict-spec =
