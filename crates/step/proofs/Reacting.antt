@@ -1,5 +1,5 @@
 -- A reaction by its decoded rule on columns: what its tests find, how many entries it leaves, and what it leaves.
-use Prim.Native.Nat.{ℕ, suc, _+_, _-_, _≤_, _<_}
+use Prim.Native.Nat.{ℕ, _+_, _-_, _≤_, _<_}
 use mathlib.Core.Path.{_≡_, refl, sym, ap, _∙_}
 use mathlib.Core.Bool.{Bool, true, false, _&&_, _||_, not}
 use mathlib.Core.List.{List, _++_, map}
@@ -11,13 +11,13 @@ use lib.Seq.{length-take-le}
 use Rattle.lists.specs.Lists.{distinct, least, without}
 use Rattle.lists.specs.Tests.{and-both}
 use Rattle.lists.specs.Choices.{by-bool, given-holds}
-use Rattle.lists.specs.Padded.{padded, take-padded, getD-padded, map-padded}
+use Rattle.lists.specs.Padded.{take-padded, getD-padded, map-padded}
 use Rattle.lists.specs.Rows.{length-rows}
 use Rattle.semantics.specs.Words.{valueOf}
 use Rattle.semantics.specs.Table as rules
 use Rattle.semantics.specs.Table.{consumed, productAtoms, begins}
 use Rattle.semantics.specs.State as semantics
-use Rattle.semantics.specs.Move.{unless, both, entryAt, picked, onPorts, picksOk, ownersAt, ownersFit, hasId, reactAllowed, merged, products, reacted}
+use Rattle.semantics.specs.Move.{unless, picked, onPorts, picksOk, ownersAt, ownersFit, hasId, reactAllowed, merged, products, reacted}
 use Rattle.semantics.specs.declared.Refusal.the-variants.{WrongPick, WrongOwner, NoMoreIds, TooManyEntries}
 use Rattle.semantics.specs.declared.Verdict.the-variants.{Allowed, Denied}
 use Rattle.wellformed.specs.Verdicts.{both-allowed, unless-allowed}

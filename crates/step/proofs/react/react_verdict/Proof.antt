@@ -1,15 +1,14 @@
 -- `react_verdict` meets its contract: the first fault counts, and the tests are the definition's (`Reacting`).
-use Prim.Native.Nat.{ℕ, _+_, _-_, _≤_, _<_}
-use mathlib.Core.Path.{_≡_, refl, sym, ap, _∙_}
+use Prim.Native.Nat.{ℕ, _≤_}
+use mathlib.Core.Path.{_≡_, sym, ap, _∙_}
 use mathlib.Core.Bool.{true, _&&_, not}
 use mathlib.Core.List.{List, []}
 use native.Mathlib.Omega.{arith}
 use borrow.Author.Needs.{needs}
 use borrow.Author.Tests.{not-true, not-false}
-use lib.Dec.{leb}
-use lib.ListN.{length, take}
+use lib.ListN.{take}
 use Rattle.semantics.specs.State.{State}
-use Rattle.semantics.specs.Move.{picksOk, ownersAt, ownersFit, hasId}
+use Rattle.semantics.specs.Move.{picksOk, ownersAt, ownersFit}
 use Rattle.wellformed.specs.Picks.{ReactGiven}
 use Rattle.step.specs.Working.{ruleIn, stateFrom}
 use Rattle.step.specs.React.{Places}
