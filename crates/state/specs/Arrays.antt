@@ -1,12 +1,13 @@
 -- Laws of the columns of a working state, for the proofs of code that changes it: an entry stored in them, and what the state then holds.
 use Prim.Native.Nat.{ℕ, _+_, _≤_, _<_}
-use mathlib.Core.Path.{_≡_}
+use mathlib.Core.Path.{_≡_, sym, ap, _∙_}
 use mathlib.Core.List.{List, [], _∷_, _++_, append-assoc}
 use native.Mathlib.Nat.{zero-add}
 use native.Mathlib.Omega.{arith}
 use lib.ListN.{length, set, length-set}
 use lib.Seq.{getD-set-same, getD-set-other}
 use Rattle.lists.specs.Rows.{rows, length-rows, rows-ext, rows-more}
+use Rattle.semantics.specs.State as semantics
 use Rattle.semantics.specs.State.{Entry}
 use Rattle.state.specs.Working.{entryFrom, rowOf, entryIn, stateIn, Holds}
 use Rattle.state.specs.declared.State.{State}
@@ -52,3 +53,11 @@ holds-of s t n h e = record { value = rw (t, n, e); fits = omega arith }
 pub count-in : (s : State) → length (stateIn s .entries) ≡ s .len
 unfolding stateIn
 count-in s = length-rows (entryIn s) 0 (s .len)
+
+-- what a state that holds σ has of it
+pub held-next : {s : State} {σ : semantics.State} → Holds s σ → s .next ≡ σ .next
+unfolding stateIn
+held-next h = ap (λ (x : semantics.State). x .next) (h .value)
+
+pub held-len : {s : State} {σ : semantics.State} → Holds s σ → s .len ≡ length (σ .entries)
+held-len {s} h = sym (count-in s) ∙ ap (λ (x : semantics.State). length (x .entries)) (h .value)

@@ -1,10 +1,10 @@
 -- What the parts of a decoded rule are to one another.
-use Prim.Native.Nat.{ℕ, _+_, _-_, _≤_, _<_}
+use Prim.Native.Nat.{ℕ, _-_, _≤_, _<_}
 use mathlib.Core.Path.{_≡_, ap, _∙_}
 use mathlib.Core.Bool.{true}
 use native.Mathlib.Omega.{arith}
 use borrow.Author.Tests.{eq-eqb}
-use lib.ListN.{length, getD, take, drop, length-drop}
+use lib.ListN.{length, getD, length-drop}
 use lib.Seq.{length-take-le, getD-take}
 use Rattle.lists.specs.Members.{Among, getD-among, any-intro}
 use Rattle.semantics.specs.Table.{hasRole, productAtoms}

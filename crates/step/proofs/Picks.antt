@@ -1,5 +1,5 @@
 -- The entries at the picks, in columns of which the first n places are in use.
-use Prim.Native.Nat.{ℕ, zero, suc, _+_, _≤_, _<_}
+use Prim.Native.Nat.{ℕ, zero, suc, _≤_, _<_}
 use mathlib.Core.Path.{_≡_, refl, sym, ap, _∙_}
 use mathlib.Core.Bool.{Bool, true, false, _&&_, cond}
 use mathlib.Core.List.{List, [], _∷_, map}
@@ -10,8 +10,8 @@ use lib.Dec.{eqb, ltb}
 use lib.ListN.{length, getD, take, List·getD-eq-default}
 use lib.Seq.{length-take-le, getD-take, take-take}
 use Rattle.lists.specs.Lists.{all, least}
-use Rattle.lists.specs.Members.{Among, getD-among}
-use Rattle.lists.specs.Rows.{rows, rowsFrom, rows-none, length-rows, getD-rows, rows-take, rows-whole, map-rows}
+use Rattle.lists.specs.Members.{getD-among}
+use Rattle.lists.specs.Rows.{rows, rowsFrom, length-rows, getD-rows, rows-take, rows-whole, map-rows}
 use Rattle.semantics.specs.Words.{valueOf}
 use Rattle.semantics.specs.Table.{consumed}
 use Rattle.semantics.specs.State.{Entry, isMessage}

@@ -6,16 +6,16 @@ use mathlib.Core.List.{List, _∷_}
 use native.Mathlib.Omega.{arith}
 use lib.Dec.{ltb, leb, eqb}
 use lib.ListN.{length, drop, take}
-use borrow.Author.Tests.{ltb-true, eq-eqb, ne-eqb, le-leb}
+use borrow.Author.Tests.{ltb-true, lt-ltb, le-ltb, eq-eqb, ne-eqb, le-leb}
 use Rattle.lists.specs.Lists.{all}
 use Rattle.lists.specs.Choices.{and-three}
+use Rattle.lists.specs.Tests.{and-false, and-true}
 use Rattle.semantics.specs.Words.{headKind, headNumber}
 use Rattle.semantics.specs.Table.{Table, sizesOf, tableOf, ruleAt, consumed}
 use Rattle.semantics.specs.State as semantics
-use Rattle.semantics.specs.Move.{Move, react, commit, abort, unless, both, isZero, picksUsed, headOk, moveOk, moveOf, allowed, applied, moveVerdict}
+use Rattle.semantics.specs.Move.{Move, react, commit, abort, unless, both, isZero, picksUsed, headOk, moveOk, moveOf, reacted, allowed, applied, moveVerdict}
 use Rattle.semantics.specs.Answers.{tableVerdict}
-use Rattle.semantics.specs.declared.Refusal.{Refusal}
-use Rattle.semantics.specs.declared.Refusal.the-variants.{TooManyEntries}
+use Rattle.semantics.specs.declared.Sizes.{Sizes}
 use Rattle.semantics.specs.declared.Verdict.{Verdict}
 use Rattle.semantics.specs.declared.Verdict.the-variants.{Allowed, Denied}
 use Rattle.wellformed.specs.Verdicts.{length-rules}
@@ -61,6 +61,25 @@ module _ (t : Table) (head : ℕ) (picks : List ℕ) where
     unfolding moveOk
     form-react h = rw (four, eq-eqb (headKind head) 0 h)
 
+-- in a table of words whose sizes were read
+module _ (t : List ℕ) {z : Sizes} (e : z ≡ sizesOf t) where
+  rules-read : z .rules ≡ sizesOf t .rules
+  rules-read = ap (λ (s : Sizes). s .rules) e
+
+  pub below-rules : {n : ℕ} → n < z .rules → n < sizesOf t .rules
+  below-rules h = omega (arith, rules-read)
+
+  module _ (head : ℕ) (picks : List ℕ) (four : length picks ≡ 4) (k : headKind head ≡ 0) where
+    pub form-no-rule : z .rules ≤ headNumber head → false ≡ moveOk (tableOf t) (head ∷ picks)
+    form-no-rule h =
+        let l : length (tableOf t .rules) ≤ headNumber head = omega (arith, rules-read, length-rules t) in
+        sym (and-false _ (le-ltb _ _ l)) ∙ form-react (tableOf t) head picks four k
+
+    pub form-rule : headNumber head < z .rules → all isZero (drop (length (consumed (ruleAt (tableOf t) (headNumber head)))) picks) ≡ moveOk (tableOf t) (head ∷ picks)
+    form-rule h =
+        let l : headNumber head < length (tableOf t .rules) = omega (arith, rules-read, length-rules t) in
+        sym (and-true _ (lt-ltb _ _ l)) ∙ form-react (tableOf t) head picks four k
+
 -- a reaction's head names a rule
 pub head-below : (t : List ℕ) (head : ℕ) → headOk (tableOf t) head ≡ true → headKind head ≡ 0 → headNumber head < sizesOf t .rules
 head-below t head h k =
@@ -90,23 +109,32 @@ both-end Allowed = refl
 both-end (Denied r) = refl
 
 -- an end adds no entries
-module _ (ceiling : ℕ) (t : Table) (s : semantics.State) (b : ℕ) (room : length (s .entries) ≤ ceiling) where
-  pub verdict-commit : moveVerdict ceiling t s (commit b) ≡ commitVerdict (t .sizes .globals) b s
+module _ (ceiling : ℕ) (t : Table) (s : semantics.State) (head : ℕ) (picks : List ℕ) (room : length (s .entries) ≤ ceiling) (k : headKind head ≡ 0 → ⊥) where
+  pub verdict-commit : headKind head ≡ 1 → commitVerdict (t .sizes .globals) (headNumber head) s ≡ moveVerdict ceiling t s (moveOf t (head ∷ picks))
   unfolding moveVerdict allowed commitVerdict
-  verdict-commit =
-      let few : length (applied t 0 s (commit b) .entries) ≤ ceiling = omega (arith, length-commit t 0 s b) in
-      rw (le-leb _ _ few) (both-end (allowed t s (commit b)))
+  verdict-commit e =
+      let m = commit (headNumber head) in
+      let few : length (applied t 0 s m .entries) ≤ ceiling = omega (arith, length-commit t 0 s (headNumber head)) in
+      rw (move-commit t head picks k e, le-leb _ _ few) (sym (both-end (allowed t s m)))
 
-  pub verdict-abort : moveVerdict ceiling t s (abort b) ≡ abortVerdict b s
+  pub verdict-abort : (headKind head ≡ 1 → ⊥) → abortVerdict (headNumber head) s ≡ moveVerdict ceiling t s (moveOf t (head ∷ picks))
   unfolding moveVerdict allowed abortVerdict
-  verdict-abort =
-      let few : length (applied t 0 s (abort b) .entries) ≤ ceiling = omega (arith, length-abort t 0 s b) in
-      rw (le-leb _ _ few) (both-end (allowed t s (abort b)))
+  verdict-abort e =
+      let m = abort (headNumber head) in
+      let few : length (applied t 0 s m .entries) ≤ ceiling = omega (arith, length-abort t 0 s (headNumber head)) in
+      rw (move-abort t head picks k e, le-leb _ _ few) (sym (both-end (allowed t s m)))
 
 pub verdict-react : (ceiling : ℕ) {t : Table} {x : Rule} {head : ℕ} {picks : List ℕ} (m : IsMove t x head picks) (s : semantics.State) → headKind head ≡ 0
     → reactVerdict ceiling (ruleIn x) s (take (x .consumes) picks) ≡ moveVerdict ceiling t s (moveOf t (head ∷ picks))
 verdict-react ceiling {t} {x} {head} {picks} m s k =
     rw (move-react m k, rule-in x (ruleAt t (headNumber head)) (m .rule k)) (sym (react-verdict-is ceiling t s (headNumber head) (take (x .consumes) picks)))
+
+-- ---- what a reaction leaves
+
+pub applied-react : {t : Table} {x : Rule} {head : ℕ} {picks : List ℕ} (m : IsMove t x head picks) (i : ℕ) (s : semantics.State) → headKind head ≡ 0
+    → applied t i s (moveOf t (head ∷ picks)) ≡ reacted (ruleIn x) i s (take (x .consumes) picks)
+unfolding applied
+applied-react {t} {x} {head} {picks} m i s k = rw (move-react m k, rule-in x (ruleAt t (headNumber head)) (m .rule k))
 
 -- ---- from an accepted table and an allowed move to what `applied` asks
 pub applicable : (t : List ℕ) → tableVerdict t ≡ Allowed → (s : State) (x : Rule) (head : ℕ) (picks : List ℕ) (maker : ℕ)

@@ -1,12 +1,10 @@
 -- What keeps an item and an origin within their words: ports below 256, constants and a begin's id below 65,536, makers up to 1,024.
 use Prim.Native.Nat.{ℕ, _≤_, _<_}
-use mathlib.Core.Path.{_≡_, sym}
+use mathlib.Core.Path.{_≡_}
 use mathlib.Core.List.{List}
 use native.Mathlib.Omega.{arith}
-use lib.ListN.{length}
 use Rattle.lists.specs.Members.{Among}
-use Rattle.semantics.specs.Table as rules
-use Rattle.semantics.specs.Table.{sizesOf, tableOf, ruleAt, consumed}
+use Rattle.semantics.specs.Table.{sizesOf, tableOf, ruleAt}
 use Rattle.semantics.specs.Answers.{tableVerdict}
 use Rattle.semantics.specs.declared.Atom.{Atom}
 use Rattle.semantics.specs.declared.AtomValue.{AtomValue}
@@ -16,7 +14,7 @@ use Rattle.wellformed.specs.Verdicts.{table-given, sizes-given}
 use Rattle.wellformed.specs.Rules.{ValueRight, rules-right}
 use Rattle.table.specs.declared.decode.Rule.{Rule}
 use Rattle.table.specs.Decode.{Decodes}
-use Rattle.step.specs.Working.{ruleIn, rule-in, decodes-itself}
+use Rattle.step.specs.Working.{ruleIn, decodes-itself}
 
 abbrev pub narrowValue : AtomValue → Type 0
 narrowValue (Constant v) = v < 65536

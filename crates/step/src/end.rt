@@ -21,7 +21,13 @@ pub struct Survey {
     pub inside: bool,
 }
 
-fn surveyed<'a>(owners: &'a [u32; 1024], items: &'a [u32; 1024], n: usize, id: u32, globals: u32) -> Survey
+fn surveyed<'a>(
+    owners: &'a [u32; 1024],
+    items: &'a [u32; 1024],
+    n: usize,
+    id: u32,
+    globals: u32,
+) -> Survey
     requires { ⌜ Columns (now owners) (now items) n ⌝ }
     ensures { λ r. ⌜ ((gs : List ℕ) (next : ℕ) → Surveyed r (stateFrom (now (owners .entry)) (now (items .entry)) gs n next) id globals) ⌝ }
 {
@@ -39,10 +45,20 @@ fn surveyed<'a>(owners: &'a [u32; 1024], items: &'a [u32; 1024], n: usize, id: u
         inside = inside | (owned & ((kind == 0) & (globals <= port)));
         i += 1;
     }
-    Survey { open, aborting, inside }
+    Survey {
+        open,
+        aborting,
+        inside,
+    }
 }
 
-pub fn commit_verdict<'a>(owners: &'a [u32; 1024], items: &'a [u32; 1024], n: usize, id: u32, globals: u32) -> Verdict
+pub fn commit_verdict<'a>(
+    owners: &'a [u32; 1024],
+    items: &'a [u32; 1024],
+    n: usize,
+    id: u32,
+    globals: u32,
+) -> Verdict
     requires { ⌜ Columns (now owners) (now items) n ⌝ }
     ensures { λ r. ⌜ ((gs : List ℕ) (next : ℕ) → r ≡ commitVerdict globals id (stateFrom (now (owners .entry)) (now (items .entry)) gs n next)) ⌝ }
 {
@@ -56,7 +72,12 @@ pub fn commit_verdict<'a>(owners: &'a [u32; 1024], items: &'a [u32; 1024], n: us
     Verdict::Allowed
 }
 
-pub fn abort_verdict<'a>(owners: &'a [u32; 1024], items: &'a [u32; 1024], n: usize, id: u32) -> Verdict
+pub fn abort_verdict<'a>(
+    owners: &'a [u32; 1024],
+    items: &'a [u32; 1024],
+    n: usize,
+    id: u32,
+) -> Verdict
     requires { ⌜ Columns (now owners) (now items) n ⌝ }
     ensures { λ r. ⌜ ((gs : List ℕ) (next : ℕ) → r ≡ abortVerdict id (stateFrom (now (owners .entry)) (now (items .entry)) gs n next)) ⌝ }
 {

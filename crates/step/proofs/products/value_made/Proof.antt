@@ -1,10 +1,10 @@
 -- `value_made` meets its contract: by the role, then by where the value comes from.
-use mathlib.Core.Path.{_≡_, sym, _∙_}
+use mathlib.Core.Path.{sym, _∙_}
 use mathlib.Core.List.{map}
 use native.Mathlib.Omega.{arith}
 use borrow.Author.Needs.{needs}
 use borrow.Author.Tests.{eq-eqb, ne-eqb}
-use lib.ListN.{length, length-map, List·getD-map, List·getD-eq-default}
+use lib.ListN.{length-map, List·getD-map, List·getD-eq-default}
 use Rattle.semantics.specs.Words.{valueOf}
 use Rattle.step.proofs.products.value_made.Statement.{statement}
 use Rattle.step.proofs.products.value_made.Tie as tie

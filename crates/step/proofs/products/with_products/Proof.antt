@@ -1,6 +1,5 @@
 -- `with_products` meets its contract: the products made, followed by those ahead, are the products.
 use Prim.Native.Nat.{_+_, _-_, _<_}
-use mathlib.Core.Path.{_≡_}
 use mathlib.Core.List.{_++_, map}
 use native.Mathlib.Omega.{arith}
 use borrow.Author.Needs.{needs}

@@ -32,8 +32,8 @@ loop-again c =
     let l = c .before .before .before .before .before .before .before .loop in
     let more = c .before .before .before .before .before .before .loop-test .taken in (
       compacting-turn _ _ (l .inv .0) more _ _ _ _
-      (c .one-unless .ensures .0 ∙ ap (λ b. oneIf (not b)) (c .before .among .ensures))
-      (λ h. rw (c .before .before .merged-owner .ensures, l .inv .2)),
+          (c .one-unless .ensures .0 ∙ ap (λ b. oneIf (not b)) (c .before .among .ensures))
+          (λ h. rw (c .before .before .merged-owner .ensures, l .inv .2)),
       l .inv .1,
       l .inv .2,
     )

@@ -1,10 +1,10 @@
 -- `at_picks` meets its contract: the column at the first i picks, then zeros.
-use Prim.Native.Nat.{_-_, _*_, _≤_, _<_}
-use mathlib.Core.Path.{_≡_, ap, _∙_}
+use Prim.Native.Nat.{_-_, _≤_, _<_}
+use mathlib.Core.Path.{_≡_, _∙_}
 use native.Mathlib.Omega.{arith}
 use borrow.Author.Needs.{needs}
 use lib.ListN.{length, getD, take}
-use Rattle.lists.specs.Padded.{fill-padded, length-padded}
+use Rattle.lists.specs.Padded.{fill-padded}
 use Rattle.step.specs.React.{Places, fourAt}
 use Rattle.step.proofs.Picks.{place-at}
 use Rattle.step.proofs.react.at_picks.Statement.{statement}
@@ -16,17 +16,11 @@ Inv column k picks found₀ i₀ found i = (i ≤ k) × (k ≤ 4) × (length pic
 abbrev μ : tie.MeasureT-loop
 μ column k picks found₀ i₀ found i = k - i
 
-loop-holds : tie.Need-loop-holds Inv μ
-loop-holds c = search needs
-
 -- the pick is a place
 pick : (c : tie.In-loop Inv μ) → getD (c .before .before .args .t2) (c .before .loop .i) 0 < 1024
 pick c =
     let v = c .before .loop .inv in
     place-at 1024 _ _ (v .4) (omega arith) _ (c .loop-test .taken)
-
-array-write-found : tie.Need-array-write-found Inv μ
-array-write-found c = search needs
 
 loop-again : tie.Need-loop-again Inv μ
 loop-again c =
@@ -45,5 +39,5 @@ returns c =
 pub at-picks-spec : {M : Type 1} → statement M
 at-picks-spec =
     tie.close
-    (tie.spec Inv μ loop-holds (λ c. search needs) (λ c. search needs) (λ c. search needs) (λ c. omega (arith, pick c)) pick
-    (λ c. search needs) array-write-found (λ c. search needs) (λ c. search needs) loop-again returns)
+    (tie.spec Inv μ (λ c. search needs) (λ c. search needs) (λ c. search needs) (λ c. search needs) (λ c. omega (arith, pick c)) pick
+    (λ c. search needs) (λ c. search needs) (λ c. search needs) (λ c. search needs) loop-again returns)

@@ -1,5 +1,4 @@
 -- `message_on` meets its contract: past the last entry there is none, and no message.
-use native.Mathlib.Omega.{arith}
 use borrow.Author.Needs.{needs}
 use Rattle.step.proofs.Picks.{entry-past, entry-at}
 use Rattle.step.proofs.react.message_on.Statement.{statement}
