@@ -1,8 +1,8 @@
 use mathlib.Core.Path.{sym, ap}
 use Rattle.semantics.specs.Answers.{outcomeOfCheck}
 use borrow.Author.Needs.{needs}
-use Rattle.calls.proofs.outcome_of_check.Statement.{statement}
-use Rattle.calls.proofs.outcome_of_check.Tie as tie
+use Rattle.calls.proofs.checks.outcome_of_check.Statement.{statement}
+use Rattle.calls.proofs.checks.outcome_of_check.Tie as tie
 
 returns-2 : tie.Need-returns-2
 returns-2 c = sym (ap outcomeOfCheck (c .before .verdict .given .1))

@@ -1,7 +1,7 @@
-use Rattle.calls.proofs.Checks.{table-answer}
+use Rattle.calls.proofs.Answers.{table-answer}
 use borrow.Author.Needs.{needs}
-use Rattle.calls.proofs.check_table.Statement.{statement}
-use Rattle.calls.proofs.check_table.Tie as tie
+use Rattle.calls.proofs.checks.check_table.Statement.{statement}
+use Rattle.calls.proofs.checks.check_table.Tie as tie
 
 returns : tie.Need-returns
 returns c = table-answer _ _ _ (c .before .check .ensures .verdict) (c .outcome-of-check .ensures)
