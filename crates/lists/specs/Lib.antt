@@ -1,3 +1,6 @@
 pub mod Lists
 pub mod Tests
 pub mod Walk
+pub mod Bools
+pub mod Members
+pub mod Each

@@ -1,0 +1,127 @@
+-- A type for each element of a list, and laws of all, any, keep and count, for every element type.
+use Prim.Native.Nat.{ℕ, zero, suc, _+_}
+use mathlib.Core.List.{List, [], _∷_, _++_, map}
+use mathlib.Core.Bool.{Bool, true, false, _&&_, _||_, not, true≢false, false≢true}
+use mathlib.Core.Path.{_≡_, refl, sym, ap, _∙_}
+use native.Mathlib.Omega.{arith}
+use Rattle.lists.specs.Lists.{all, any, keep, keepIf, count, oneIf, isEmpty}
+use Rattle.lists.specs.Bools.{by-bool, clash, is-false, and-l, and-r, and-intro, or-r}
+
+pub head-eq : {A : Type 0} {x y : A} {xs ys : List A} → Path (List A) (x ∷ xs) (y ∷ ys) → x ≡ y
+head-eq r = cc
+
+pub tail-eq : {A : Type 0} {x y : A} {xs ys : List A} → Path (List A) (x ∷ xs) (y ∷ ys) → xs ≡ ys
+tail-eq r = cc
+
+-- P of each element
+abbrev pub All {ℓ} : {A : Type 0} → (A → Type ℓ) → List A → Type ℓ
+All P [] = Unit
+All P (x ∷ xs) = P x × All P xs
+
+pub All-map {ℓ κ} : {A : Type 0} {P : A → Type ℓ} {Q : A → Type κ} → ((x : A) → P x → Q x) → (xs : List A) → All P xs → All Q xs
+All-map f [] h = tt
+All-map f (x ∷ xs) h = (f x (h .0), All-map f xs (h .1))
+
+pub All-two : {A : Type 0} {P Q R : A → Type 0} → ((x : A) → P x → Q x → R x) → (xs : List A) → All P xs → All Q xs → All R xs
+All-two f [] p q = tt
+All-two f (x ∷ xs) p q = (f x (p .0) (q .0), All-two f xs (p .1) (q .1))
+
+module _ {A : Type 0} where
+  pub All-append : (P : A → Type 0) (xs ys : List A) → All P xs → All P ys → All P (xs ++ ys)
+  All-append P [] ys h k = k
+  All-append P (x ∷ xs) ys h k = (h .0, All-append P xs ys (h .1) k)
+
+  pub All-left : (P : A → Type 0) (xs ys : List A) → All P (xs ++ ys) → All P xs
+  All-left P [] ys h = tt
+  All-left P (x ∷ xs) ys h = (h .0, All-left P xs ys (h .1))
+
+  pub All-right : (P : A → Type 0) (xs ys : List A) → All P (xs ++ ys) → All P ys
+  All-right P [] ys h = h
+  All-right P (x ∷ xs) ys h = All-right P xs ys (h .1)
+
+  -- a test of each element as a type for each
+  pub All-of : (p : A → Bool) (xs : List A) → all p xs ≡ true → All (λ x. p x ≡ true) xs
+  All-of p [] h = tt
+  All-of p (x ∷ xs) h = (and-l (p x) (all p xs) h, All-of p xs (and-r (p x) (all p xs) h))
+
+  pub all-of : (p : A → Bool) (xs : List A) → All (λ x. p x ≡ true) xs → all p xs ≡ true
+  all-of p [] h = refl
+  all-of p (x ∷ xs) h = and-intro (h .0) (all-of p xs (h .1))
+
+  pub All-keep : (P : A → Type 0) (p : A → Bool) (xs : List A) → All (λ x. p x ≡ true → P x) xs → All P (keep p xs)
+  All-keep P p [] h = tt
+  All-keep P p (x ∷ xs) h = go (p x) (h .0) (All-keep P p xs (h .1))
+    where
+      go : (b : Bool) → (b ≡ true → P x) → All P (keep p xs) → All P (keepIf b x (keep p xs))
+      go true k ih = (k refl, ih)
+      go false k ih = ih
+
+  -- of a test that fails for each element
+  pub any-none : (p : A → Bool) (xs : List A) → any p xs ≡ false → All (λ x. p x ≡ false) xs
+  any-none p [] h = tt
+  any-none p (x ∷ xs) h = go (p x) refl h (any-none p xs)
+    where
+      go : (b : Bool) → p x ≡ b → (b || any p xs) ≡ false → (any p xs ≡ false → All (λ x. p x ≡ false) xs) → (p x ≡ false) × All (λ x. p x ≡ false) xs
+      go true q w ih = absurd (true≢false w)
+      go false q w ih = (q, ih w)
+
+  -- ---- append
+
+  pub all-append : (p : A → Bool) (xs ys : List A) → all p xs ≡ true → all p ys ≡ true → all p (xs ++ ys) ≡ true
+  all-append p [] ys h k = k
+  all-append p (x ∷ xs) ys h k = and-intro (and-l (p x) (all p xs) h) (all-append p xs ys (and-r (p x) (all p xs) h) k)
+
+  pub keep-append : (p : A → Bool) (xs ys : List A) → keep p (xs ++ ys) ≡ keep p xs ++ keep p ys
+  keep-append p [] ys = refl
+  keep-append p (x ∷ xs) ys = go (p x) (keep-append p xs ys)
+    where
+      go : (b : Bool) → keep p (xs ++ ys) ≡ keep p xs ++ keep p ys → keepIf b x (keep p (xs ++ ys)) ≡ keepIf b x (keep p xs) ++ keep p ys
+      go true ih = λ j. x ∷ ih j
+      go false ih = ih
+
+  pub count-append : (p : A → Bool) (xs ys : List A) → count p (xs ++ ys) ≡ count p xs + count p ys
+  count-append p [] ys = omega arith
+  count-append p (x ∷ xs) ys = let h = count-append p xs ys in omega arith
+
+  -- ---- tests that agree or fail on each element
+
+  pub keep-same : (p q : A → Bool) (xs : List A) → All (λ x. p x ≡ q x) xs → keep p xs ≡ keep q xs
+  keep-same p q [] h = refl
+  keep-same p q (x ∷ xs) h = rw (h .0, keep-same p q xs (h .1))
+
+  pub keep-none : (p : A → Bool) (xs : List A) → All (λ x. p x ≡ false) xs → keep p xs ≡ []
+  keep-none p [] h = refl
+  keep-none p (x ∷ xs) h = rw (h .0, keep-none p xs (h .1))
+
+  pub count-none : (p : A → Bool) (xs : List A) → All (λ x. p x ≡ false) xs → count p xs ≡ 0
+  count-none p [] h = refl
+  count-none p (x ∷ xs) h = rw (h .0, count-none p xs (h .1))
+
+  pub any-intro : (p : A → Bool) (xs ys : List A) (x : A) → p x ≡ true → any p (xs ++ x ∷ ys) ≡ true
+  any-intro p [] ys x h = rw h
+  any-intro p (y ∷ xs) ys x h = or-r (p y) (any-intro p xs ys x h)
+
+module _ {A B : Type 0} (f : A → B) where
+  pub keep-map : (p : B → Bool) (xs : List A) → keep p (map f xs) ≡ map f (keep (λ x. p (f x)) xs)
+  keep-map p [] = refl
+  keep-map p (x ∷ xs) = go (p (f x)) (keep-map p xs)
+    where
+      go : (b : Bool) → keep p (map f xs) ≡ map f (keep (λ x. p (f x)) xs) → keepIf b (f x) (keep p (map f xs)) ≡ map f (keepIf b x (keep (λ x. p (f x)) xs))
+      go true ih = λ j. f x ∷ ih j
+      go false ih = ih
+
+  pub count-map : (p : B → Bool) (xs : List A) → count p (map f xs) ≡ count (λ x. p (f x)) xs
+  count-map p [] = refl
+  count-map p (x ∷ xs) = ap (λ (n : ℕ). oneIf (p (f x)) + n) (count-map p xs)
+
+  pub all-map : (p : B → Bool) (xs : List A) → all p (map f xs) ≡ all (λ x. p (f x)) xs
+  all-map p [] = refl
+  all-map p (x ∷ xs) = ap (λ (b : Bool). p (f x) && b) (all-map p xs)
+
+  pub any-map : (p : B → Bool) (xs : List A) → any p (map f xs) ≡ any (λ x. p (f x)) xs
+  any-map p [] = refl
+  any-map p (x ∷ xs) = ap (λ (b : Bool). p (f x) || b) (any-map p xs)
+
+  pub All-unmap : (P : B → Type 0) (xs : List A) → All (λ x. P (f x)) xs → All P (map f xs)
+  All-unmap P [] h = tt
+  All-unmap P (x ∷ xs) h = (h .0, All-unmap P xs (h .1))
