@@ -1,1 +1,5 @@
 pub mod Base
+pub mod View
+pub mod Rules
+pub mod Key
+pub mod Cells
