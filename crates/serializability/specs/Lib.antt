@@ -3,3 +3,5 @@ pub mod View
 pub mod Rules
 pub mod Key
 pub mod Cells
+pub mod Actions
+pub mod Swap
