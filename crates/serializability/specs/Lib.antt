@@ -5,3 +5,5 @@ pub mod Key
 pub mod Cells
 pub mod Actions
 pub mod Swap
+pub mod Sort
+pub mod Moves
