@@ -125,3 +125,11 @@ module _ {A B : Type 0} (f : A → B) where
   pub All-unmap : (P : B → Type 0) (xs : List A) → All (λ x. P (f x)) xs → All P (map f xs)
   All-unmap P [] h = tt
   All-unmap P (x ∷ xs) h = (h .0, All-unmap P xs (h .1))
+
+  pub all-kept : (p : B → Bool) (q : A → Bool) (xs : List A) → ((x : A) → q x ≡ true → p (f x) ≡ true) → all p (map f (keep q xs)) ≡ true
+  all-kept p q [] h = refl
+  all-kept p q (x ∷ xs) h = go (q x) (h x) (all-kept p q xs h)
+    where
+      go : (b : Bool) → (b ≡ true → p (f x) ≡ true) → all p (map f (keep q xs)) ≡ true → all p (map f (keepIf b x (keep q xs))) ≡ true
+      go true k ih = and-intro (k refl) ih
+      go false k ih = ih

@@ -7,3 +7,4 @@ pub mod Actions
 pub mod Swap
 pub mod Sort
 pub mod Moves
+pub mod Link
