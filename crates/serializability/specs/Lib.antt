@@ -8,3 +8,4 @@ pub mod Swap
 pub mod Sort
 pub mod Moves
 pub mod Link
+pub mod Marks
