@@ -9,3 +9,4 @@ pub mod Sort
 pub mod Moves
 pub mod Link
 pub mod Marks
+pub mod Fate
