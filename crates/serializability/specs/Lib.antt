@@ -10,3 +10,5 @@ pub mod Moves
 pub mod Link
 pub mod Marks
 pub mod Fate
+pub mod Statement
+pub mod First
