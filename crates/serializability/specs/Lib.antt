@@ -12,3 +12,5 @@ pub mod Marks
 pub mod Fate
 pub mod Statement
 pub mod First
+pub mod Ordered
+pub mod Follow
