@@ -1,6 +1,6 @@
 -- A type for each element of a list, and laws of all, any, keep and count, for every element type.
 use Prim.Native.Nat.{ℕ, zero, suc, _+_}
-use mathlib.Core.List.{List, [], _∷_, _++_, map}
+use mathlib.Core.List.{List, [], _∷_, _++_, map, nil≢cons}
 use mathlib.Core.Bool.{Bool, true, false, _&&_, _||_, not, true≢false, false≢true}
 use mathlib.Core.Path.{_≡_, refl, sym, ap, _∙_}
 use native.Mathlib.Omega.{arith}
@@ -64,6 +64,15 @@ module _ {A : Type 0} where
       go : (b : Bool) → p x ≡ b → (b || any p xs) ≡ false → (any p xs ≡ false → All (λ x. p x ≡ false) xs) → (p x ≡ false) × All (λ x. p x ≡ false) xs
       go true q w ih = absurd (true≢false w)
       go false q w ih = (q, ih w)
+
+  -- an element of which p holds, with its P
+  pub any-found : (P : A → Type 0) (p : A → Bool) (xs : List A) → any p xs ≡ true → All P xs → (x : A) × (p x ≡ true) × P x
+  any-found P p [] h k = absurd (false≢true h)
+  any-found P p (x ∷ xs) h k = go (p x) refl h (λ w. any-found P p xs w (k .1))
+    where
+      go : (b : Bool) → p x ≡ b → (b || any p xs) ≡ true → (any p xs ≡ true → (x : A) × (p x ≡ true) × P x) → (x : A) × (p x ≡ true) × P x
+      go true q w ih = (x, q, k .0)
+      go false q w ih = ih w
 
   -- ---- append
 
@@ -133,3 +142,11 @@ module _ {A B : Type 0} (f : A → B) where
       go : (b : Bool) → (b ≡ true → p (f x) ≡ true) → all p (map f (keep q xs)) ≡ true → all p (map f (keepIf b x (keep q xs))) ≡ true
       go true k ih = and-intro (k refl) ih
       go false k ih = ih
+
+  -- a place in a mapped list is one in the list
+  pub map-split : (zs : List A) (xs ys : List B) (y : B) → map f zs ≡ xs ++ y ∷ ys
+      → (us : List A) × (u : A) × (vs : List A) × (zs ≡ us ++ u ∷ vs) × (map f us ≡ xs) × (f u ≡ y) × (map f vs ≡ ys)
+  map-split [] [] ys y h = absurd (nil≢cons h)
+  map-split [] (x ∷ xs) ys y h = absurd (nil≢cons h)
+  map-split (z ∷ zs) [] ys y h = ([], z, zs, refl, refl, head-eq h, tail-eq h)
+  map-split (z ∷ zs) (x ∷ xs) ys y h = let r = map-split zs xs ys y (tail-eq h) in (z ∷ r .0, r .1, r .2, (λ j. z ∷ r .3 j), (λ j. head-eq h j ∷ r .4 j), r .5, r .6)

@@ -38,6 +38,7 @@ pub record LogStep (t : Table) (i : ℕ) (F : Seen) (a : Deed) (xs : List Deed) 
   pub tick : begun t (a .move) ≡ true → a .touched ≡ F .next ∷ []
   pub key : a .key ≡ keyOf (isEnd (a .move)) i (a .touched) xs
   pub marked : Marked t F a
+  pub first : begun t (a .move) ≡ true → a .members ≡ firstOf (a .place) ∷ []
 
 abbrev pub LogRuns : Table → ℕ → Seen → List Deed → Seen → Type 0
 LogRuns t i F [] G = F ≡ G

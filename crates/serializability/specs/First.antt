@@ -21,7 +21,7 @@ use Rattle.serializability.specs.Statement.{Accepted}
 use Rattle.serializability.specs.Base.{isInO, look}
 use Rattle.serializability.specs.View.{Uniq, look-kept, look-isIn}
 use Rattle.serializability.specs.Rules.{Shape, plain, begin, inner, Sound, owners, touchedBy, touched-plain, touched-begin, touched-inner}
-use Rattle.serializability.specs.Key.{Deed, touched, handled, deedAt, deeds, keyOf}
+use Rattle.serializability.specs.Key.{Deed, begun, touched, handled, deedAt, deeds, keyOf}
 use Rattle.serializability.specs.Actions.{Seen, strip, received, actionBy, astep, Ok}
 use Rattle.serializability.specs.Moves.{react-passes, after-allowed}
 use Rattle.serializability.specs.Link.{view, view-look, view-some, Mark, Good, Sim, sim, all-found}
@@ -120,6 +120,16 @@ marked-of t sd i k s (react r ps) u g K h = marked-react t sd i k s r ps u g K (
 marked-of t sd i k s (commit b) u g K h = λ z. absurd (true≢false z)
 marked-of t sd i k s (abort b) u g K h = λ z. absurd (true≢false z)
 
+pub first-of : (t : Table) → Sound t → (i : ℕ) (s : State) (m : Move) → begun t m ≡ true → membersOf t i s m ≡ firstOf i ∷ []
+first-of t sd i s (react r ps) h = go (sd r)
+  where
+    go : Shape (ruleAt t r) → membersOf t i s (react r ps) ≡ firstOf i ∷ []
+    go (plain c b n) = absurd (clash h b)
+    go (begin c b n m rest q w k) = rw (b, n)
+    go (inner c b n k) = absurd (clash h b)
+first-of t sd i s (commit b) h = absurd (false≢true h)
+first-of t sd i s (abort b) h = absurd (false≢true h)
+
 -- ---- the whole log
 
 pub log-runs : (t : Table) → Sound t → (i : ℕ) (s : State) (ms : List Move) (e : State) → Uniq (s .entries) → Good i (view s) → Accepted t i s ms e
@@ -134,5 +144,5 @@ log-runs t sd i s (m ∷ ms) e u g h =
     let c : view (after t (suc i) s m) ≡ astep t (view s) a = ap view (sym q) ∙ S .same-cells in
     let r = log-runs t sd (suc i) (after t (suc i) s m) ms e (subst (λ (x : State). Uniq (x .entries)) q (S .uniq))
     (subst (λ (F : Seen). Good (suc i) F) (sym c) (good-next t sd i (view s) a g (S .ok) refl (S .tick))) (subst (λ (x : State). Accepted t (suc i) x ms e) q (h .1)) in
-    ((record { ok = S .ok; place = refl; tick = S .tick; key = refl; marked = marked-of t sd i k s m u g (S .ok) (h .0) },
+    ((record { ok = S .ok; place = refl; tick = S .tick; key = refl; marked = marked-of t sd i k s m u g (S .ok) (h .0); first = first-of t sd i s m },
     subst (λ (F : Seen). LogRuns t (suc i) F (deeds t (suc i) (after t (suc i) s m) ms) (view e)) c (r .0)), r .1)

@@ -14,3 +14,6 @@ pub mod Statement
 pub mod First
 pub mod Ordered
 pub mod Follow
+pub mod Blocks
+pub mod OneBlock
+pub mod Begun

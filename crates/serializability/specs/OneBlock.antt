@@ -1,0 +1,114 @@
+-- Each begin and each reaction made in transactions shares a member with exactly one commit or abort of the log, which stands after it; and each member
+-- that a commit or abort ends was begun by a move before it.
+use mathlib.Core.Path.{_≡_, refl, sym, ap, subst, _∙_}
+use mathlib.Core.Bool.{Bool, true, false, cond, not, _&&_, _||_, true≢false, false≢true}
+use mathlib.Core.Logic.{_⊎_, inl, inr}
+use mathlib.Core.Option.{Option, none, some}
+use mathlib.Core.List.{List, [], _∷_, _++_, map, append-assoc}
+use Prim.Native.Nat.{ℕ, zero, suc, _+_, _≤_, _<_}
+use native.Mathlib.Omega.{arith}
+use lib.Dec.{eqb, ltb}
+use borrow.Author.Tests.{eqb-true, eqb-false, eq-eqb, ne-eqb, ltb-true}
+use lib.ListN.{length}
+use Rattle.lists.specs.Lists.{any, isEmpty, isIn, count, oneIf, least}
+use Rattle.lists.specs.Bools.{by-bool, clash, is-false, and-l, and-r, and-intro, or-r, not-true}
+use Rattle.lists.specs.Each.{All, All-map, any-found, count-append, count-none, count-map, any-intro, any-map}
+use Rattle.semantics.specs.Table.{Table, Rule, ruleAt, begins, productAtoms}
+use Rattle.semantics.specs.State.{Origin, Entry}
+use Rattle.semantics.specs.Move.{Move, react, commit, abort, kindMade, merged, toGlobal, valueIn}
+use Rattle.semantics.specs.Serial.{Act, isEnd, isInner, sameOrigin, belongsTo}
+use Rattle.semantics.specs.declared.Atom.{Atom}
+use Rattle.serializability.specs.Statement.{isBegin, endsMemberOf}
+use Rattle.serializability.specs.Base.{isInO, isInO-head, look, some-inj, none-some, look-origin, look-all, same-eq, omap, omap-some}
+use Rattle.serializability.specs.View.{look-map}
+use Rattle.serializability.specs.Rules.{Shape, plain, begin, inner, Sound, make, make-kinds, kinds-plain, kinds-inner, kinds-rest, kind-weaken}
+use Rattle.serializability.specs.Key.{Deed, begun, actOf, ender, keyOf, ender-ge, key-full}
+use Rattle.serializability.specs.Cells.{Source, apply-inv}
+use Rattle.serializability.specs.Actions.{Seen, strip, received, left, actionBy, actionOf, astep, Ok, in-one, one-in}
+use Rattle.serializability.specs.Link.{Good}
+use Rattle.serializability.specs.Marks.{MarkAt, mark-gone, firstOf}
+use Rattle.serializability.specs.Fate.{LogStep, LogRuns, NoneOpen, next-good, key-bound}
+use Rattle.serializability.specs.Follow.{seenAfter, none-stay, none-after, log-rest, place-length, end-tests, ender-not}
+use Rattle.serializability.specs.Blocks.{shares, end-member, empty-nil, same-block}
+
+-- ---- one place of a log
+
+module _ (t : Table) (G : Seen) where
+  pub place-none : (ys : List Deed) (j : ℕ) (F : Seen) (k : ℕ) → LogRuns t j F ys G → k < j → count (λ a. eqb k (a .place)) ys ≡ 0
+  place-none [] j F k r l = refl
+  place-none (y ∷ ys) j F k r l = let w = r .0 .place in rw (ne-eqb k (y .place) (λ q. omega arith), place-none ys (suc j) (astep t F y) k (r .1) (omega arith))
+
+  pub place-once : (ys : List Deed) (j : ℕ) (F : Seen) (k : ℕ) → LogRuns t j F ys G → j ≤ k → k < j + length ys → count (λ a. eqb k (a .place)) ys ≡ 1
+  place-once [] j F k r l h = absurd (omega arith)
+  place-once (y ∷ ys) j F k r l h = by-bool (eqb k (y .place))
+      (λ q. let w = r .0 .place in let z = eqb-true k (y .place) q in rw (q, place-none ys (suc j) (astep t F y) k (r .1) (omega arith)))
+      (λ q. let w = r .0 .place in let z = eqb-false k (y .place) q in rw (q, place-once ys (suc j) (astep t F y) k (r .1) (omega arith) (omega arith)))
+
+-- an end removes its members' marks
+pub removed : (t : Table) (F : Seen) (b : Deed) → Ok t F b → isEnd (b .move) ≡ true → (o : Origin) → isInO o (b .members) ≡ true → astep t F b .cell o ≡ none
+unfolding astep
+removed t F b k en o h =
+    let m = end-member t F b k en o h in
+    mark-gone t (F .cell) b (k .es) (received F b) o (m .0) (b .move) (k .tests) en (rw (m .3) (one-in (b .touched) (end-tests t b (k .es) en (k .tests) .2))) (m .1) (m .2)
+
+module _ (t : Table) (sd : Sound t) (G : Seen) where
+  -- x shares no member with an end before it
+  pub ended-before : (i : ℕ) (F : Seen) (b : Deed) (zs ys : List Deed) (x : Deed) → Good i F → LogRuns t i F (b ∷ zs ++ x ∷ ys) G → isEnd (x .move) ≡ false → endsMemberOf (actOf x) (actOf b) ≡ false
+  ended-before i F b zs ys x g r nx = is-false (endsMemberOf (actOf x) (actOf b)) (λ h.
+      let en = and-l (isEnd (b .move)) (belongsTo (actOf b) (actOf x)) h in
+      let sh = and-r (isInner (actOf x)) (shares x b) (and-r (isEnd (b .move)) (belongsTo (actOf b) (actOf x)) h) in
+      go en (any-found (λ o. MarkAt (astep t (seenAfter t (astep t F b) zs) x .cell) o (least (x .touched))) (λ o. any (sameOrigin o) (b .members)) (x .members) sh (rest .0 .marked nx .0)))
+    where
+      rest : LogRuns t (suc i + length zs) (seenAfter t (astep t F b) zs) (x ∷ ys) G
+      rest = log-rest t sd (suc i) (astep t F b) G zs (x ∷ ys) (next-good t sd G i F b (zs ++ x ∷ ys) g (r .0)) (r .1) (suc i + length zs) refl .0
+
+      gone : (o : Origin) → isEnd (b .move) ≡ true → isInO o (b .members) ≡ true → astep t (seenAfter t (astep t F b) zs) x .cell o ≡ none
+      gone o en h = none-stay t (seenAfter t (astep t F b) zs) x (rest .0 .ok) o
+          (none-after t (suc i) (astep t F b) G zs (x ∷ ys) (r .1) o (removed t F b (r .0 .ok) en o h) (let m = end-member t F b (r .0 .ok) en o h in let w = g .makers o (m .0) (m .1) in omega arith))
+          (let m = end-member t F b (r .0 .ok) en o h in let w = g .makers o (m .0) (m .1) in let p = rest .0 .place in omega arith)
+
+      go : isEnd (b .move) ≡ true → (o : Origin) × (any (sameOrigin o) (b .members) ≡ true) × (MarkAt (astep t (seenAfter t (astep t F b) zs) x .cell) o (least (x .touched))) → ⊥
+      go en (o, z, (e, p, k, w)) = none-some (sym (gone o en z) ∙ p)
+
+  pub none-before : (xs : List Deed) (i : ℕ) (F : Seen) (x : Deed) (ys : List Deed) → Good i F → LogRuns t i F (xs ++ x ∷ ys) G → isEnd (x .move) ≡ false → All (λ b. endsMemberOf (actOf x) (actOf b) ≡ false) xs
+  none-before [] i F x ys g r nx = tt
+  none-before (b ∷ xs) i F x ys g r nx = (ended-before i F b xs ys x g r nx, none-before xs (suc i) (astep t F b) x ys (next-good t sd G i F b (xs ++ x ∷ ys) g (r .0)) (r .1) nx)
+
+  -- the commit or abort after x with which it shares a member is the one at the place of its key
+  pub after-key : (i : ℕ) (F : Seen) (x : Deed) (zs : List Deed) (ys : List Deed) → Good i F → LogRuns t i F (x ∷ zs ++ ys) G → isEnd (x .move) ≡ false → isEmpty (x .touched) ≡ false
+      → All (λ a. endsMemberOf (actOf x) (actOf a) ≡ eqb (x .key) (a .place)) ys
+  after-key i F x zs [] g r nx ne = tt
+  after-key i F x zs (a ∷ ys) g r nx ne = (
+    by-bool (isEnd (a .move))
+        (λ en. rw (en, nx, r .0 .marked nx .1 ∙ ne) (sym (same-block t sd G i F x zs ys a g r nx ne en)))
+        (λ en. rw en (sym (ne-eqb (x .key) (a .place) (λ w. ender-not t sd G a ys en zs (suc i) (astep t F x) (r .1) (least (x .touched)) (sym (r .0 .key ∙ key-full (isEnd (x .move)) i (x .touched) (zs ++ a ∷ ys) nx ne) ∙ w))))),
+    after-key i F x (zs ++ a ∷ []) ys g (subst (λ (l : List Deed). LogRuns t i F (x ∷ l) G) (sym (append-assoc zs (a ∷ []) ys)) r) nx ne,
+  )
+
+  pub count-same : {A : Type 0} (p q : A → Bool) (xs : List A) → All (λ x. p x ≡ q x) xs → count p xs ≡ count q xs
+  count-same p q [] h = refl
+  count-same p q (x ∷ xs) h = rw (h .0, count-same p q xs (h .1))
+
+  pub one-after : (i : ℕ) (F : Seen) (x : Deed) (ys : List Deed) → Good i F → LogRuns t i F (x ∷ ys) G → NoneOpen G → isEnd (x .move) ≡ false → isEmpty (x .touched) ≡ false → count (λ a. endsMemberOf (actOf x) (actOf a)) ys ≡ 1
+  one-after i F x ys g r n nx ne =
+      count-same (λ a. endsMemberOf (actOf x) (actOf a)) (λ a. eqb (x .key) (a .place)) ys (after-key i F x [] ys g r nx ne)
+      ∙ place-once t G ys (suc i) (astep t F x) (x .key) (r .1)
+      (let y = r .0 .key ∙ key-full (isEnd (x .move)) i (x .touched) ys nx ne in let z = ender-ge (suc i) ys (least (x .touched)) in omega arith)
+      (let w = key-bound t sd G i F (x ∷ ys) g r n .0 in omega arith)
+
+  pub one-block-of : (xs : List Deed) (F : Seen) (x : Deed) (ys : List Deed) → Good 0 F → LogRuns t 0 F (xs ++ x ∷ ys) G → NoneOpen G → isInner (actOf x) ≡ true
+      → (count (λ a. endsMemberOf (actOf x) (actOf a)) (xs ++ x ∷ ys) ≡ 1) × (count (λ a. endsMemberOf (actOf x) (actOf a)) ys ≡ 1)
+  one-block-of xs F x ys g r n h =
+      let nx = not-true (isEnd (x .move)) (and-l (not (isEnd (x .move))) (not (isEmpty (x .members))) h) in
+      let rest = log-rest t sd 0 F G xs (x ∷ ys) g r (0 + length xs) refl in
+      let ne = sym (rest .0 .0 .marked nx .1) ∙ not-true (isEmpty (x .members)) (and-r (not (isEnd (x .move))) (not (isEmpty (x .members))) h) in
+      let one = one-after (0 + length xs) (seenAfter t F xs) x ys (rest .1) (rest .0) n nx ne in
+      (total xs ys (none-before xs 0 F x ys g r nx) nx one, one)
+    where
+      total : (xs ys : List Deed) → All (λ b. endsMemberOf (actOf x) (actOf b) ≡ false) xs → isEnd (x .move) ≡ false → count (λ a. endsMemberOf (actOf x) (actOf a)) ys ≡ 1 → count (λ a. endsMemberOf (actOf x) (actOf a)) (xs ++ x ∷ ys) ≡ 1
+      total xs ys b nx one =
+          let z : endsMemberOf (actOf x) (actOf x) ≡ false = ap (λ (c : Bool). c && belongsTo (actOf x) (actOf x)) nx in
+          let k = ap oneIf z in
+          let u = count-none (λ a. endsMemberOf (actOf x) (actOf a)) xs b in
+          let w = count-append (λ a. endsMemberOf (actOf x) (actOf a)) xs (x ∷ ys) in
+          omega arith
