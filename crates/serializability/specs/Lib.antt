@@ -17,3 +17,4 @@ pub mod Follow
 pub mod Blocks
 pub mod OneBlock
 pub mod Begun
+pub mod Named
