@@ -18,3 +18,5 @@ pub mod Blocks
 pub mod OneBlock
 pub mod Begun
 pub mod Named
+pub mod Rename
+pub mod ReplayReact
