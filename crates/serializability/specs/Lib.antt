@@ -20,3 +20,4 @@ pub mod Begun
 pub mod Named
 pub mod Rename
 pub mod ReplayReact
+pub mod ReplayEnd
