@@ -21,3 +21,4 @@ pub mod Named
 pub mod Rename
 pub mod ReplayReact
 pub mod ReplayEnd
+pub mod Replay
