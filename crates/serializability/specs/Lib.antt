@@ -22,3 +22,4 @@ pub mod Rename
 pub mod ReplayReact
 pub mod ReplayEnd
 pub mod Replay
+pub mod Bare
