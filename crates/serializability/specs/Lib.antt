@@ -23,3 +23,5 @@ pub mod ReplayReact
 pub mod ReplayEnd
 pub mod Replay
 pub mod Bare
+pub mod Tidy
+pub mod SameEnd
