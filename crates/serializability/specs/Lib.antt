@@ -25,3 +25,4 @@ pub mod Replay
 pub mod Bare
 pub mod Tidy
 pub mod SameEnd
+pub mod Decoded

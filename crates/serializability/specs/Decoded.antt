@@ -1,0 +1,266 @@
+-- Demand 3 on decoded moves: of every log accepted from a state without open transactions, and ending in one.
+use mathlib.Core.Path.{_≡_, refl, sym, ap, subst, _∙_}
+use mathlib.Core.Bool.{Bool, true, false, cond, not, _&&_, _||_, true≢false, false≢true}
+use mathlib.Core.Logic.{_⊎_, inl, inr}
+use mathlib.Core.Option.{Option, none, some}
+use mathlib.Core.List.{List, [], _∷_, _++_, map, map-append}
+use Prim.Native.Nat.{ℕ, zero, suc, _+_, _≤_, _<_}
+use native.Mathlib.Omega.{arith}
+use lib.Dec.{eqb}
+use borrow.Author.Tests.{eqb-true, eq-eqb}
+use lib.ListN.{length, getD, length-map}
+use Rattle.lists.specs.Lists.{all, any, keep, count, upFrom}
+use Rattle.lists.specs.Bools.{by-bool, is-false, and-l, and-r, and-intro, or-l-false, or-r-false, not-false}
+use Rattle.lists.specs.Each.{All, count-map, any-map, map-split}
+use Rattle.semantics.specs.Table.{Table}
+use Rattle.semantics.specs.State.{Origin, Entry, State, isMessage, owned}
+use Rattle.semantics.specs.Move.{Move, react, commit, abort, allowed, applied}
+use Rattle.semantics.specs.Serial.{Act, anyOpen, sameOrigin, after, acts, isEnd, isInner, belongsTo, ordered, again, replayed, serial}
+use Rattle.semantics.specs.declared.Verdict.the-variants.{Allowed}
+use Rattle.serializability.specs.Statement.{Accepted, orderOf, placesOf, stateBefore, SameMove, noMove, isBegin, endsMemberOf, isGlobal, Serial}
+use Rattle.serializability.specs.Base.{omap, look, same-eq, look-origin, look-all}
+use Rattle.serializability.specs.View.{Uniq}
+use Rattle.serializability.specs.Rules.{Sound}
+use Rattle.serializability.specs.Key.{Deed, begun, actOf, deeds, acts-deeds, deeds-length, deeds-places}
+use Rattle.serializability.specs.Actions.{Seen, strip}
+use Rattle.serializability.specs.Moves.{after-allowed}
+use Rattle.serializability.specs.Link.{view, view-some, Good}
+use Rattle.serializability.specs.Fate.{LogRuns, runs, NoneOpen, pairs}
+use Rattle.serializability.specs.First.{log-runs}
+use Rattle.serializability.specs.Sort.{Runs, isort, sort-runs, count-isort, All-isort}
+use Rattle.serializability.specs.Ordered.{block-there, outer-order}
+use Rattle.serializability.specs.Blocks.{order-sorted}
+use Rattle.serializability.specs.OneBlock.{one-block-of}
+use Rattle.serializability.specs.Begun.{begunIn, begun-before-of}
+use Rattle.serializability.specs.Named.{Named}
+use Rattle.serializability.specs.Rename.{rename, Live, Rel}
+use Rattle.serializability.specs.Replay.{Goes, Ends, replay-runs, Placed, all-placed, same-moves}
+use Rattle.serializability.specs.Bare.{bare, bareS, allowed-same, applied-same}
+use Rattle.serializability.specs.Tidy.{Tidy, tidy-end}
+use Rattle.serializability.specs.SameEnd.{end-closed, messages-same}
+
+-- ---- the start
+
+-- the entries of a start have their places for origins
+abbrev pub Numbered : ℕ → List Entry → Type 0
+Numbered q [] = Unit
+Numbered q (e ∷ es) = (e .origin ≡ record { maker = 0; index = q }) × Numbered (suc q) es
+
+pub record Start (s : State) : Type 0 where
+  pub positive : 1 ≤ s .next
+  pub numbered : Numbered 0 (s .entries)
+  pub messages : all isMessage (s .entries) ≡ true
+  pub closed : anyOpen s ≡ false
+
+pub look-numbered : (q : ℕ) (l : List Entry) (o : Origin) → Numbered q l → o .index < q → look o l ≡ none
+look-numbered q [] o n h = refl
+look-numbered q (e ∷ l) o n h = rw (is-false (sameOrigin o (e .origin)) (λ w. let z : o .index ≡ q = ap (λ (x : Origin). x .index) (same-eq o (e .origin) w ∙ n .0) in omega arith)) (look-numbered (suc q) l o (n .1) (omega arith))
+
+pub uniq-numbered : (q : ℕ) (l : List Entry) → Numbered q l → Uniq l
+uniq-numbered q [] n = tt
+uniq-numbered q (e ∷ l) n = (look-numbered (suc q) l (e .origin) (n .1) (let z : e .origin .index ≡ q = ap (λ (x : Origin). x .index) (n .0) in omega arith), uniq-numbered (suc q) l (n .1))
+
+pub maker-numbered : (q : ℕ) (l : List Entry) → Numbered q l → all (λ e. eqb (e .origin .maker) 0) l ≡ true
+maker-numbered q [] n = refl
+maker-numbered q (e ∷ l) n = and-intro (eq-eqb (e .origin .maker) 0 (ap (λ (x : Origin). x .maker) (n .0))) (maker-numbered (suc q) l (n .1))
+
+pub all-closed : (l : List Entry) → any (λ e. not (owned 0 e)) l ≡ false → all (owned 0) l ≡ true
+all-closed [] h = refl
+all-closed (e ∷ l) h = and-intro (not-false (owned 0 e) (or-l-false (not (owned 0 e)) (any (λ e. not (owned 0 e)) l) h)) (all-closed l (or-r-false (not (owned 0 e)) (any (λ e. not (owned 0 e)) l) h))
+
+pub closed-view : (s : State) → anyOpen s ≡ false → NoneOpen (view s)
+unfolding NoneOpen
+closed-view s h o e k = let v = view-some s o e k in ap (λ (x : Entry). x .owner) (sym (v .2)) ∙ eqb-true (v .0 .owner) 0 (look-all (owned 0) o (s .entries) (all-closed (s .entries) h) (v .1))
+
+module _ (s : State) (S : Start s) where
+  pub kind-start : (o : Origin) (e : Entry) → view s .cell o ≡ some e → e .kind ≡ 0
+  kind-start o e k = let v = view-some s o e k in ap (λ (x : Entry). x .kind) (sym (v .2)) ∙ eqb-true (v .0 .kind) 0 (look-all isMessage o (s .entries) (S .messages) (v .1))
+
+  pub good-start : Good 0 (view s)
+  unfolding view NoneOpen
+  good-start = record {
+    pos = S .positive;
+    makers = λ o e k. let v = view-some s o e k in
+        let w : v .0 .origin .maker ≡ 0 = eqb-true (v .0 .origin .maker) 0 (look-all (λ e. eqb (e .origin .maker) 0) o (s .entries) (maker-numbered 0 (s .entries) (S .numbered)) (v .1)) in
+        let x : v .0 .origin .maker ≡ o .maker = ap (λ (x : Origin). x .maker) (look-origin o (s .entries) (v .1)) in omega arith;
+    below = λ o e k. let w : e .owner ≡ 0 = closed-view s (S .closed) o e k in let p = S .positive in omega arith;
+    marks = λ o e k z. absurd (z (closed-view s (S .closed) o e k));
+  }
+
+  pub named-start : Named s
+  named-start = record {
+    marks = λ o d h k. let w = eqb-true (d .kind) 0 (look-all isMessage o (s .entries) (S .messages) h) in absurd (omega arith);
+    own = λ o d h z. absurd (z (eqb-true (d .owner) 0 (look-all (owned 0) o (s .entries) (all-closed (s .entries) (S .closed)) h)));
+  }
+
+  pub rel-start : Rel s (view s) (λ v. v)
+  unfolding view
+  rel-start = record {
+    uniq = uniq-numbered 0 (s .entries) (S .numbered);
+    named = named-start;
+    next-is = refl;
+    cells = λ o. id-rename (look o (map strip (s .entries)));
+    zero-is = refl;
+    pos = S .positive;
+    inj = λ v w l m h. h;
+    below = λ v l. low v l;
+  }
+    where
+      id-rename : (x : Option Entry) → x ≡ omap (rename (λ v. v)) x
+      id-rename none = refl
+      id-rename (some e) = refl
+
+      low : (v : ℕ) → Live (view s) v → v < view s .next
+      low v (inl z) = let w = good-start .pos in omega arith
+      low v (inr (o, e, h, w)) = let x = good-start .below o e h in omega arith
+
+-- ---- the serial log is a run, with its own places for makers
+
+pub goes-accepted : (t : Table) (xs : List Act) (i : ℕ) (s c c′ : State) → bareS s ≡ bareS c → Goes t c xs c′ → (e : State) × Accepted t i s (replayed t c xs) e × (bareS e ≡ bareS c′)
+unfolding replayed
+goes-accepted t [] i s c c′ b h = (s, refl, b ∙ ap bareS h)
+goes-accepted t (a ∷ xs) i s c c′ b h =
+    let m = again c a (a .move) in
+    let n = applied-same t (suc i) (suc (a .place)) s c m b ∙ ap bareS (sym (after-allowed t (suc (a .place)) c m (h .0))) in
+    let r = goes-accepted t xs (suc i) (applied t (suc i) s m) (after t (suc (a .place)) c m) c′ n (h .1) in
+    (r .0, (allowed-same t s c m b ∙ h .0, r .1), r .2)
+
+pub replayed-length : (t : Table) (c : State) (xs : List Act) → length (replayed t c xs) ≡ length xs
+unfolding replayed
+replayed-length t c [] = refl
+replayed-length t c (a ∷ xs) = ap suc (replayed-length t (after t (suc (a .place)) c (again c a (a .move))) xs)
+
+pub count-bare : (p : Entry → Bool) → ((x : Entry) → p (bare x) ≡ p x) → (l : List Entry) → count p (map bare l) ≡ count p l
+count-bare p h [] = refl
+count-bare p h (x ∷ l) = rw (h x, count-bare p h l)
+
+pub begin-same : (t : Table) (m : Move) → begun t m ≡ isBegin t m
+begin-same t (react r ps) = refl
+begin-same t (commit b) = refl
+begin-same t (abort b) = refl
+
+-- ---- the theorem
+
+module _ (t : Table) (sd : Sound t) (s : State) (S : Start s) (ms : List Move) (e : State) (run : Accepted t 0 s ms e) (cl : anyOpen e ≡ false) where
+  pub ds : List Deed
+  ds = deeds t 0 s ms
+
+  pub g : Good 0 (view s)
+  g = good-start s S
+
+  pub ran : LogRuns t 0 (view s) ds (view e) × Uniq (e .entries)
+  unfolding ds
+  ran = log-runs t sd 0 s ms e (uniq-numbered 0 (s .entries) (S .numbered)) g run
+
+  pub shut : NoneOpen (view e)
+  shut = closed-view e cl
+
+  pub acts-are : acts t 0 s ms ≡ map actOf ds
+  unfolding ds
+  acts-are = acts-deeds t 0 s ms
+
+  pub order-is : orderOf t s ms ≡ map actOf (isort ds)
+  order-is = ap (ordered []) acts-are ∙ order-sorted t sd (view e) ds (view s) g (ran .0) shut
+
+  pub serial-is : serial t s ms ≡ replayed t s (map actOf (isort ds))
+  unfolding serial
+  serial-is = ap (replayed t s) order-is
+
+  pub places-are : placesOf t s ms ≡ map (λ a. a .place) (isort ds)
+  places-are = ap (map (λ a. a .place)) order-is ∙ places (isort ds)
+    where
+      places : (xs : List Deed) → map (λ a. a .place) (map actOf xs) ≡ map (λ a. a .place) xs
+      places [] = refl
+      places (x ∷ xs) = λ j. x .place ∷ places xs j
+
+  pub placed-log : All (Placed t s ms) ds
+  unfolding ds
+  placed-log = all-placed t s ms
+
+  pub again-runs : Ends t s (isort ds) (view e)
+  again-runs = replay-runs t sd (isort ds) s (view s) (view e) (λ v. v) (rel-start s S)
+      (sort-runs t (view e) ds (view s) (pairs t sd (view e) 0 (view s) ds g (ran .0)) (runs t 0 (view s) ds (view e) (ran .0)))
+
+  pub accepted : (z : State) × Accepted t 0 s (replayed t s (map actOf (isort ds))) z × (bareS z ≡ bareS (again-runs .state))
+  accepted = goes-accepted t (map actOf (isort ds)) 0 s s (again-runs .state) refl (again-runs .goes)
+
+  pub tidy : Tidy (view e .cell)
+  unfolding Tidy
+  tidy = tidy-end t sd 0 (view s) (view e) ds (ran .0) (λ o x h z. kind-start s S o x h)
+
+  pub sorted-length : length (isort ds) ≡ length ms
+  unfolding ds
+  sorted-length = go
+    where
+      go : length (isort (deeds t 0 s ms)) ≡ length ms
+      go = counts (isort (deeds t 0 s ms)) ∙ count-isort (λ _. true) (deeds t 0 s ms) ∙ sym (counts (deeds t 0 s ms)) ∙ deeds-length t 0 s ms
+        where
+          counts : (xs : List Deed) → length xs ≡ count (λ _. true) xs
+          counts [] = refl
+          counts (x ∷ xs) = let h = counts xs in omega arith
+
+  pub once : (p : ℕ → Bool) → count p (placesOf t s ms) ≡ count p (upFrom 0 (length ms))
+  unfolding ds
+  once p = ap (count p) places-are ∙ count-map (λ a. a .place) p (isort (deeds t 0 s ms)) ∙ count-isort (λ a. p (a .place)) (deeds t 0 s ms) ∙ sym (count-map (λ a. a .place) p (deeds t 0 s ms)) ∙ ap (count p) (deeds-places t 0 s ms)
+
+  pub one-block : (xs ys : List Act) (x : Act) → acts t 0 s ms ≡ xs ++ x ∷ ys → isInner x ≡ true → (count (endsMemberOf x) (acts t 0 s ms) ≡ 1) × (count (endsMemberOf x) ys ≡ 1)
+  one-block xs ys x q h = go (map-split actOf ds xs ys x (sym acts-are ∙ q))
+    where
+      go : (us : List Deed) × (u : Deed) × (vs : List Deed) × (ds ≡ us ++ u ∷ vs) × (map actOf us ≡ xs) × (actOf u ≡ x) × (map actOf vs ≡ ys) → (count (endsMemberOf x) (acts t 0 s ms) ≡ 1) × (count (endsMemberOf x) ys ≡ 1)
+      go (us, u, vs, p, a, b, c) =
+          let r = one-block-of t sd (view e) us (view s) u vs g (subst (λ (l : List Deed). LogRuns t 0 (view s) l (view e)) p (ran .0)) shut (rw b h) in (
+            ap (λ (y : Act). count (endsMemberOf y) (acts t 0 s ms)) (sym b) ∙ ap (count (endsMemberOf (actOf u))) acts-are ∙ count-map actOf (endsMemberOf (actOf u)) ds ∙ ap (count (λ a. endsMemberOf (actOf u) (actOf a))) p ∙ r .0,
+            ap (λ (y : Act). count (endsMemberOf y) ys) (sym b) ∙ ap (count (endsMemberOf (actOf u))) (sym c) ∙ count-map actOf (endsMemberOf (actOf u)) vs ∙ r .1,
+          )
+
+  pub begun-before : (xs ys : List Act) (a : Act) → acts t 0 s ms ≡ xs ++ a ∷ ys → isEnd (a .move) ≡ true
+      → (o : Origin) → any (sameOrigin o) (a .members) ≡ true → any (λ x. isBegin t (x .move) && any (sameOrigin o) (x .members)) xs ≡ true
+  begun-before xs ys a q h o m = go (map-split actOf ds xs ys a (sym acts-are ∙ q))
+    where
+      same : (us : List Deed) → any (λ x. isBegin t (x .move) && any (sameOrigin o) (x .members)) (map actOf us) ≡ begunIn t o us
+      same [] = refl
+      same (u ∷ us) = rw (begin-same t (u .move), same us)
+
+      go : (us : List Deed) × (u : Deed) × (vs : List Deed) × (ds ≡ us ++ u ∷ vs) × (map actOf us ≡ xs) × (actOf u ≡ a) × (map actOf vs ≡ ys) → any (λ x. isBegin t (x .move) && any (sameOrigin o) (x .members)) xs ≡ true
+      go (us, u, vs, p, x, b, c) =
+          ap (any (λ x. isBegin t (x .move) && any (sameOrigin o) (x .members))) (sym x) ∙ same us
+          ∙ begun-before-of t sd us (view s) (view e) u vs g (λ o c k z. let w = kind-start s S o c k in omega arith) (subst (λ (l : List Deed). LogRuns t 0 (view s) l (view e)) p (ran .0))
+          (subst (λ (y : Act). isEnd (y .move) ≡ true) (sym b) h) o (subst (λ (y : Act). any (sameOrigin o) (y .members) ≡ true) (sym b) m)
+
+  pub same-at : (j : ℕ) → j < length ms
+      → SameMove (stateBefore t (upFrom 0 (length ms)) s ms (getD (placesOf t s ms) j 0)) (stateBefore t (placesOf t s ms) s (serial t s ms) j) (getD ms (getD (placesOf t s ms) j 0) noMove) (getD (serial t s ms) j noMove)
+  same-at j h =
+      subst (λ (ps : List ℕ). SameMove (stateBefore t (upFrom 0 (length ms)) s ms (getD ps j 0)) (stateBefore t ps s (serial t s ms) j) (getD ms (getD ps j 0) noMove) (getD (serial t s ms) j noMove)) (sym places-are)
+      (subst (λ (l : List Move). SameMove (stateBefore t (upFrom 0 (length ms)) s ms (getD (map (λ a. a .place) (isort ds)) j 0)) (stateBefore t (map (λ a. a .place) (isort ds)) s l j) (getD ms (getD (map (λ a. a .place) (isort ds)) j 0) noMove) (getD l j noMove)) (sym serial-is)
+      (same-moves t s ms (isort ds) s (again-runs .agains) placed j (let w = sorted-length in omega arith)))
+    where
+      placed : All (Placed t s ms) (isort ds)
+      placed = All-isort (Placed t s ms) ds placed-log
+
+  pub closed-end : anyOpen (accepted .0) ≡ false
+  closed-end =
+      let p : Entry → Bool = λ e. not (owned 0 e) in
+      sym (any-map bare p (accepted .0 .entries)) ∙ ap (λ (x : State). any p (x .entries)) (accepted .2) ∙ any-map bare p (again-runs .state .entries)
+      ∙ end-closed (again-runs .state) e (again-runs .names) (again-runs .rel) shut (ran .1)
+
+  pub same-count : (k p v : ℕ) → count (isGlobal k p v) (accepted .0 .entries) ≡ count (isGlobal k p v) (e .entries)
+  same-count k p v =
+      sym (count-bare (isGlobal k p v) (λ x. refl) (accepted .0 .entries)) ∙ ap (λ (x : State). count (isGlobal k p v) (x .entries)) (accepted .2)
+      ∙ count-bare (isGlobal k p v) (λ x. refl) (again-runs .state .entries)
+      ∙ messages-same (again-runs .state) e (again-runs .names) (again-runs .rel) shut (ran .1) tidy (isGlobal k p v)
+
+  pub serial-decoded : Serial t s ms e
+  unfolding serial
+  serial-decoded = record {
+    once = once;
+    size = ap length serial-is ∙ replayed-length t s (map actOf (isort ds)) ∙ length-map (isort ds) actOf ∙ sorted-length;
+    same = same-at;
+    blocks = λ xs ys a q h. subst (λ (l : List Act). (before : List Act) × (behind : List Act) × (ordered [] l ≡ before ++ (keep (belongsTo a) xs ++ a ∷ behind))) (sym q) (block-there xs ys a h);
+    one-block = one-block;
+    begun-before = begun-before;
+    others = outer-order [] (acts t 0 s ms);
+    end = accepted .0;
+    accepted = subst (λ (l : List Move). Accepted t 0 s l (accepted .0)) (sym serial-is) (accepted .1);
+    closed = closed-end;
+    same-messages = same-count;
+  }
