@@ -26,3 +26,4 @@ pub mod Bare
 pub mod Tidy
 pub mod SameEnd
 pub mod Decoded
+pub mod TableWords
