@@ -27,3 +27,5 @@ pub mod Tidy
 pub mod SameEnd
 pub mod Decoded
 pub mod TableWords
+pub mod StateWords
+pub mod LogWords
