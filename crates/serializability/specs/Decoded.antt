@@ -142,7 +142,7 @@ begin-same t (abort b) = refl
 -- ---- the theorem
 
 module _ (t : Table) (sd : Sound t) (s : State) (S : Start s) (ms : List Move) (e : State) (run : Accepted t 0 s ms e) (cl : anyOpen e ≡ false) where
-  pub ds : List Deed
+  unfoldable pub ds : List Deed
   ds = deeds t 0 s ms
 
   pub g : Good 0 (view s)

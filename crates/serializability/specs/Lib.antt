@@ -29,3 +29,5 @@ pub mod Decoded
 pub mod TableWords
 pub mod StateWords
 pub mod LogWords
+pub mod RunWords
+pub mod Demand3
