@@ -13,7 +13,7 @@ use Rattle.semantics.specs.Answers.{tableVerdict, stateOwnVerdict, state
 use Rattle.semantics.specs.declared.Answer.{Answer}
 
 -- G=2, L=1, M=1, R=4, A=12.
-pub twoLot : List ℕ
+unfoldable pub twoLot : List ℕ
 twoLot =
     2 ∷ 1 ∷ 1 ∷ 4 ∷ 12
     ∷ 0 ∷ 0 ∷ 0 ∷ 0 ∷ 1 ∷ 1 ∷ 2 ∷ 2 ∷ 2 ∷ 2 ∷ 3 ∷ 3
@@ -24,7 +24,7 @@ twoLot =
     ∷ []
 
 -- Start: n=2, N=1, owners 0 0, items 7 9.
-pub start : List ℕ
+unfoldable pub start : List ℕ
 start = 2 ∷ 1 ∷ 0 ∷ 0 ∷ 7 ∷ 9 ∷ []
 
 -- ---- moves and logs as 01 writes them
@@ -52,16 +52,16 @@ headsFrom (m ∷ ms) = take 1 m ++ headsFrom ms
 abbrev pub logOf : List (List ℕ) → List ℕ
 logOf ms = length ms ∷ headsFrom ms ++ picksFrom ms
 
-pub logA : List (List ℕ)
+unfoldable pub logA : List (List ℕ)
 logA = rule1 0 0 ∷ rule1 0 0 ∷ rule1 1 1 ∷ rule1 1 3 ∷ rule2 2 4 5 ∷ release 1 ∷ []
 
-pub logC : List (List ℕ)
+unfoldable pub logC : List (List ℕ)
 logC = rule1 0 0 ∷ rule1 0 0 ∷ rule1 1 1 ∷ rule1 3 3 ∷ callOff 2 ∷ []
 
-pub logD : List (List ℕ)
+unfoldable pub logD : List (List ℕ)
 logD = rule1 0 0 ∷ rule1 0 0 ∷ rule1 3 1 ∷ rule1 3 3 ∷ callOff 2 ∷ callOff 1 ∷ []
 
-pub serialD : List (List ℕ)
+unfoldable pub serialD : List (List ℕ)
 serialD = rule1 0 1 ∷ rule1 3 2 ∷ callOff 1 ∷ rule1 0 0 ∷ rule1 3 2 ∷ callOff 2 ∷ []
 
 -- ---- the table

@@ -31,3 +31,4 @@ pub mod StateWords
 pub mod LogWords
 pub mod RunWords
 pub mod Demand3
+pub mod Instances
