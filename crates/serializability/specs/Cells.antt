@@ -121,21 +121,32 @@ not-in bs cs e z ap′ h = go (or-cases (eqb (e .owner) 0) (isIn (e .owner) bs) 
     go (inl k) = subst (λ (v : ℕ). isIn v cs ≡ false) (sym (eqb-true (e .owner) 0 k)) z
     go (inr k) = is-false (isIn (e .owner) cs) (λ j. ap′ (e .owner) j k)
 
--- ---- two actions on different transactions commute, the results of one of them staying in its own
+-- ---- two actions on different transactions commute
 
-module _ (f : Cells) (A B : Action) (bs cs : List ℕ) (i j : ℕ) (LA : Local A bs i) (IA : Inner A bs) (LB : Local B cs j)
-    (zb : isIn 0 bs ≡ false) (zc : isIn 0 cs ≡ false) (ap′ : (v : ℕ) → isIn v bs ≡ true → isIn v cs ≡ true → ⊥) (lt : i < j) where
+module _ (f : Cells) (A B : Action) (bs cs : List ℕ) (i j : ℕ) (LA : Local A bs i) (LB : Local B cs j)
+    (zb : isIn 0 bs ≡ false) (zc : isIn 0 cs ≡ false) (apart : (v : ℕ) → isIn v bs ≡ true → isIn v cs ≡ true → ⊥) (differ : i ≡ j → ⊥) where
+  pub not-theirs : (e : Entry) → isIn (e .owner) bs ≡ true → isIn (e .owner) cs ≡ false
+  not-theirs e k = is-false (isIn (e .owner) cs) (λ l. apart (e .owner) k l)
+
+  -- what B leaves, A leaves alone, and the other way
+  pub skips-A : (e : Entry) → mine cs e ≡ true → A .change e ≡ some e
+  skips-A e k = LA .other e (not-in cs bs e zb apart k)
+
+  pub skips-B : (e : Entry) → mine bs e ≡ true → B .change e ≡ some e
+  skips-B e k = LB .other e (not-in bs cs e zc (λ v k l. apart v l k) k)
+
   pub swap-change : (e : Entry) → bindO (B .change) (A .change e) ≡ bindO (A .change) (B .change e)
   swap-change e = by-bool (isIn (e .owner) bs)
-      (λ k. let r = IA .total e k in
-      let w = LB .other e (is-false (isIn (e .owner) cs) (λ l. ap′ (e .owner) k l)) in
-      let u = LB .other (r .0) (is-false (isIn (r .0 .owner) cs) (λ l. ap′ (r .0 .owner) (r .2) l)) in
-      rw (w, r .1, u))
-      (λ k. let w = LA .other e k in by-bool (isIn (e .owner) cs) (λ l. inB k l w (B .change e) refl) (λ l. let u = LB .other e l in rw (w, u, w)))
+      (λ k. inA k (LB .other e (not-theirs e k)) (A .change e) refl)
+      (λ k. let w = LA .other e k in by-bool (isIn (e .owner) cs) (λ l. inB l w (B .change e) refl) (λ l. let u = LB .other e l in rw (w, u, w)))
     where
-      inB : isIn (e .owner) bs ≡ false → isIn (e .owner) cs ≡ true → A .change e ≡ some e → (x : Option Entry) → B .change e ≡ x → bindO (B .change) (A .change e) ≡ bindO (A .change) (B .change e)
-      inB k l w none q = rw (w, q)
-      inB k l w (some e′) q = rw (w, q, LA .other e′ (not-in cs bs e′ zb ap′ (LB .result e e′ l q)))
+      inA : isIn (e .owner) bs ≡ true → B .change e ≡ some e → (x : Option Entry) → A .change e ≡ x → bindO (B .change) (A .change e) ≡ bindO (A .change) (B .change e)
+      inA k w none q = rw (w, q)
+      inA k w (some e′) q = rw (w, q, skips-B e′ (LA .result e e′ k q))
+
+      inB : isIn (e .owner) cs ≡ true → A .change e ≡ some e → (x : Option Entry) → B .change e ≡ x → bindO (B .change) (A .change e) ≡ bindO (A .change) (B .change e)
+      inB l w none q = rw (w, q)
+      inB l w (some e′) q = rw (w, q, skips-A e′ (LB .result e e′ l q))
 
   pub swap-cells : ((o : Origin) → o .maker ≡ suc i → f o ≡ none) → ((o : Origin) → o .maker ≡ suc j → f o ≡ none)
       → ((o : Origin) → A .gone o ≡ true → (e : Entry) × (f o ≡ some e)) → ((o : Origin) → B .gone o ≡ true → (e : Entry) × (f o ≡ some e))
@@ -144,13 +155,13 @@ module _ (f : Cells) (A B : Action) (bs cs : List ℕ) (i j : ℕ) (LA : Local A
       (λ o e h. let n = fa o (LA .made o e h .0) in (
         n,
         is-false (B .gone o) (λ k. none-some (sym n ∙ gb o k .1)),
-        LB .other e (is-false (isIn (e .owner) cs) (λ k. ap′ (e .owner) (IA .inside o e h) k)),
-        is-none (look o (B .new)) (λ d k. let p = LA .made o e h .0 in let q = LB .made o d k .0 in omega arith),
+        skips-B e (LA .made o e h .1),
+        is-none (look o (B .new)) (λ d k. let p = LA .made o e h .0 in let q = LB .made o d k .0 in differ (omega arith)),
       ))
       (λ o e h. let n = fb o (LB .made o e h .0) in (
         n,
         is-false (A .gone o) (λ k. none-some (sym n ∙ ga o k .1)),
-        LA .other e (not-in cs bs e zb ap′ (LB .made o e h .1)),
-        is-none (look o (A .new)) (λ d k. let p = LB .made o e h .0 in let q = LA .made o d k .0 in omega arith),
+        skips-A e (LB .made o e h .1),
+        is-none (look o (A .new)) (λ d k. let p = LB .made o e h .0 in let q = LA .made o d k .0 in differ (omega arith)),
       ))
       swap-change

@@ -4,6 +4,7 @@ pub mod Rules
 pub mod Key
 pub mod Cells
 pub mod Actions
+pub mod Commute
 pub mod Swap
 pub mod Sort
 pub mod Moves

@@ -23,7 +23,7 @@ use Rattle.serializability.specs.Rules.{Shape, plain, begin, inner, Soun
 use Rattle.serializability.specs.Key.{Deed, begun, touched, handled, deedAt}
 use Rattle.serializability.specs.Cells.{Cells, apply, mine}
 use Rattle.serializability.specs.Actions.{Seen, strip, cellValue, received, left, endAction, actionBy, astep, markOf, AllMarks, mayLeave, Ok, mine-in, mine-zero, later}
-use Rattle.serializability.specs.Swap.{values-found}
+use Rattle.serializability.specs.Commute.{values-found}
 use Rattle.serializability.specs.Moves.{productsOf, look-reacted, uniq-reacted, ofKind, look-ended, uniq-ended, ReactPasses, react-passes, commit-passes, abort-passes}
 
 unfoldable pub view : State → Seen

@@ -24,7 +24,7 @@ use Rattle.serializability.specs.Rules.{Shape, plain, begin, inner, Soun
 use Rattle.serializability.specs.Key.{Deed, begun}
 use Rattle.serializability.specs.Cells.{apply, Source, apply-inv}
 use Rattle.serializability.specs.Actions.{Seen, strip, received, reactAction, actionBy, astep, later, Tests, Ok, product-of}
-use Rattle.serializability.specs.Swap.{values-found}
+use Rattle.serializability.specs.Commute.{values-found}
 use Rattle.serializability.specs.Moves.{productsOf, look-reacted, uniq-reacted, ReactPasses}
 use Rattle.serializability.specs.Link.{view, view-cell, cell-eq}
 use Rattle.serializability.specs.Marks.{From, came, owner-live}
