@@ -13,11 +13,11 @@ use Rattle.lists.specs.Lists.{all, any, keep, count, upFrom}
 use Rattle.lists.specs.Bools.{by-bool, is-false, and-l, and-r, and-intro, or-l-false, or-r-false, not-false}
 use Rattle.lists.specs.Each.{All, count-map, any-map, map-split}
 use Rattle.semantics.specs.Table.{Table}
-use Rattle.semantics.specs.State.{Origin, Entry, State, isMessage, owned}
+use Rattle.semantics.specs.State.{Origin, Entry, State, isMessage, owned, stateWords}
 use Rattle.semantics.specs.Move.{Move, react, commit, abort, allowed, applied}
-use Rattle.semantics.specs.Serial.{Act, anyOpen, sameOrigin, after, acts, isEnd, isInner, belongsTo, ordered, again, replayed, serial}
+use Rattle.semantics.specs.Serial.{Act, anyOpen, sameOrigin, after, acts, isEnd, isInner, belongsTo, ordered, again, replayed, serial, along}
 use Rattle.semantics.specs.declared.Verdict.the-variants.{Allowed}
-use Rattle.serializability.specs.Statement.{Accepted, orderOf, placesOf, stateBefore, SameMove, noMove, isBegin, endsMemberOf, isGlobal, Serial}
+use Rattle.serializability.specs.Statement.{Accepted, orderOf, placesOf, stateBefore, SameMove, hasOrigin, noMove, isBegin, endsMemberOf, isGlobal, Serial}
 use Rattle.serializability.specs.Base.{omap, look, same-eq, look-origin, look-all}
 use Rattle.serializability.specs.View.{Uniq}
 use Rattle.serializability.specs.Rules.{Sound}
@@ -34,7 +34,8 @@ use Rattle.serializability.specs.OneBlock.{one-block-of}
 use Rattle.serializability.specs.Begun.{begunIn, begun-before-of}
 use Rattle.serializability.specs.Named.{Named}
 use Rattle.serializability.specs.Rename.{rename, Live, Rel}
-use Rattle.serializability.specs.Replay.{Goes, Ends, replay-runs, Placed, all-placed, same-moves}
+use Rattle.serializability.specs.Replay.{Goes, Ends, replay-runs, Placed, all-placed, same-moves, serial-uniq}
+use Rattle.serializability.specs.States.{origin-once, log-uniq, along-same, words-same}
 use Rattle.serializability.specs.Bare.{bare, bareS, allowed-same, applied-same}
 use Rattle.serializability.specs.Tidy.{Tidy, tidy-end}
 use Rattle.serializability.specs.SameEnd.{end-closed, messages-same}
@@ -237,6 +238,25 @@ module _ (t : Table) (sd : Sound t) (s : State) (S : Start s) (ms : List Move) (
       placed : All (Placed t s ms) (isort ds)
       placed = All-isort (Placed t s ms) ds placed-log
 
+  pub origins-at : (j : ℕ) → j < length ms → (o : Origin)
+      → (count (hasOrigin o) (stateBefore t (upFrom 0 (length ms)) s ms j .entries) ≤ 1) × (count (hasOrigin o) (stateBefore t (placesOf t s ms) s (serial t s ms) j .entries) ≤ 1)
+  origins-at j h o = (
+    origin-once o (stateBefore t (upFrom 0 (length ms)) s ms j .entries) (log-uniq t sd 0 s ms e (uniq-numbered 0 (s .entries) (S .numbered)) g run j),
+    subst (λ (ps : List ℕ). count (hasOrigin o) (stateBefore t ps s (serial t s ms) j .entries) ≤ 1) (sym places-are)
+        (subst (λ (l : List Move). count (hasOrigin o) (stateBefore t (map (λ a. a .place) (isort ds)) s l j .entries) ≤ 1) (sym serial-is)
+        (origin-once o (stateBefore t (map (λ a. a .place) (isort ds)) s (replayed t s (map actOf (isort ds))) j .entries) (serial-uniq t (isort ds) s (again-runs .agains) j (let w = sorted-length in omega arith)))),
+  )
+
+  pub serial-size : length (serial t s ms) ≡ length ms
+  serial-size = ap length serial-is ∙ replayed-length t s (map actOf (isort ds)) ∙ length-map (isort ds) actOf ∙ sorted-length
+
+  pub states-at : (j : ℕ) → j ≤ length ms → stateWords (stateBefore t (placesOf t s ms) s (serial t s ms) j) ≡ stateWords (getD (along t 0 s (serial t s ms)) j s)
+  states-at j h = words-same (stateBefore t (placesOf t s ms) s (serial t s ms) j) (getD (along t 0 s (serial t s ms)) j s)
+      (along-same t (placesOf t s ms) (serial t s ms) 0 s s s lengths refl j (let w = serial-size in omega arith))
+    where
+      lengths : length (placesOf t s ms) ≡ length (serial t s ms)
+      lengths = ap length places-are ∙ length-map (isort ds) (λ a. a .place) ∙ sorted-length ∙ sym serial-size
+
   pub closed-end : anyOpen (accepted .0) ≡ false
   closed-end =
       let p : Entry → Bool = λ e. not (owned 0 e) in
@@ -253,8 +273,10 @@ module _ (t : Table) (sd : Sound t) (s : State) (S : Start s) (ms : List Move) (
   unfolding serial
   serial-decoded = record {
     once = once;
-    size = ap length serial-is ∙ replayed-length t s (map actOf (isort ds)) ∙ length-map (isort ds) actOf ∙ sorted-length;
+    size = serial-size;
     same = same-at;
+    origins = origins-at;
+    states = states-at;
     blocks = λ xs ys a q h. subst (λ (l : List Act). (before : List Act) × (behind : List Act) × (ordered [] l ≡ before ++ (keep (belongsTo a) xs ++ a ∷ behind))) (sym q) (block-there xs ys a h);
     one-block = one-block;
     begun-before = begun-before;

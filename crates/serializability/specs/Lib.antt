@@ -24,6 +24,7 @@ pub mod ReplayReact
 pub mod ReplayEnd
 pub mod Replay
 pub mod Bare
+pub mod States
 pub mod Tidy
 pub mod SameEnd
 pub mod Decoded

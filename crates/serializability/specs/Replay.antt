@@ -17,6 +17,7 @@ use Rattle.semantics.specs.Serial.{Act, originsOf, marksIn, sameOrigin, valueAt
 use Rattle.semantics.specs.declared.Verdict.the-variants.{Allowed}
 use Rattle.serializability.specs.Statement.{stateBefore, SameMembers, SameMove, reaction, committed, aborted, noMove}
 use Rattle.serializability.specs.Base.{isInO}
+use Rattle.serializability.specs.View.{Uniq}
 use Rattle.serializability.specs.Rules.{Sound}
 use Rattle.serializability.specs.Key.{Deed, touched, handled, deedAt, deeds, keyOf, picksBy, actOf}
 use Rattle.serializability.specs.Actions.{Seen, actionBy, astep, EndTests, Ok}
@@ -106,7 +107,7 @@ Goes t c (a ∷ xs) e = (allowed t c (again c a (a .move)) ≡ Allowed) × Goes 
 
 abbrev pub Agains : Table → State → List Deed → Type 0
 Agains t c [] = Unit
-Agains t c (a ∷ xs) = Again c (a .picks) (a .move) (again c (actOf a) (a .move)) × Agains t (after t (suc (a .place)) c (again c (actOf a) (a .move))) xs
+Agains t c (a ∷ xs) = Uniq (c .entries) × Again c (a .picks) (a .move) (again c (actOf a) (a .move)) × Agains t (after t (suc (a .place)) c (again c (actOf a) (a .move))) xs
 
 pub record Ends (t : Table) (c : State) (xs : List Deed) (G : Seen) : Type 0 where
   pub state : State
@@ -122,7 +123,7 @@ replay-runs t sd (a ∷ xs) c F G ρ rel h =
     let m = again c (actOf a) (a .move) in
     let q : applied t (suc (a .place)) c m ≡ after t (suc (a .place)) c m = sym (after-allowed t (suc (a .place)) c m (n .allows)) in
     let e = replay-runs t sd xs (after t (suc (a .place)) c m) (astep t F a) G (n .names) (subst (λ (x : State). Rel x (astep t F a) (n .names)) q (n .rel)) (h .1) in
-    record { state = e .state; names = e .names; goes = (n .allows, e .goes); agains = (n .again, e .agains); rel = e .rel }
+    record { state = e .state; names = e .names; goes = (n .allows, e .goes); agains = (rel .uniq, n .again, e .agains); rel = e .rel }
 
 -- ---- the j-th move
 
@@ -153,5 +154,11 @@ unfolding replayed stateBefore
 same-moves t s ms [] c A P j h = absurd (not-suc-le-zero h)
 same-moves t s ms (a ∷ ds) c A P zero h =
     subst (λ (m : Move). SameMove (stateBefore t (upFrom 0 (length ms)) s ms (a .place)) c m (again c (actOf a) (a .move))) (P .0 .0)
-    (again-same (stateBefore t (upFrom 0 (length ms)) s ms (a .place)) c (a .picks) (A .0) (P .0 .1))
-same-moves t s ms (a ∷ ds) c A P (suc j) h = same-moves t s ms ds (after t (suc (a .place)) c (again c (actOf a) (a .move))) (A .1) (P .1) j (omega arith)
+    (again-same (stateBefore t (upFrom 0 (length ms)) s ms (a .place)) c (a .picks) (A .1) (P .0 .1))
+same-moves t s ms (a ∷ ds) c A P (suc j) h = same-moves t s ms ds (after t (suc (a .place)) c (again c (actOf a) (a .move))) (A .2) (P .1) j (omega arith)
+
+pub serial-uniq : (t : Table) (ds : List Deed) (c : State) → Agains t c ds → (j : ℕ) → j < length ds → Uniq (stateBefore t (map (λ a. a .place) ds) c (replayed t c (map actOf ds)) j .entries)
+unfolding replayed stateBefore
+serial-uniq t [] c A j h = absurd (not-suc-le-zero h)
+serial-uniq t (a ∷ ds) c A zero h = A .0
+serial-uniq t (a ∷ ds) c A (suc j) h = serial-uniq t ds (after t (suc (a .place)) c (again c (actOf a) (a .move))) (A .2) j (omega arith)

@@ -51,6 +51,9 @@ pub data SameMove (s s′ : State) : Move → Move → Type 0 where
   committed : (b b′ : ℕ) → SameMembers s s′ b b′ → SameMove s s′ (commit b) (commit b′)
   aborted : (b b′ : ℕ) → SameMembers s s′ b b′ → SameMove s s′ (abort b) (abort b′)
 
+abbrev pub hasOrigin : Origin → Entry → Bool
+hasOrigin o e = sameOrigin o (e .origin)
+
 -- stands past the last move
 abbrev pub noMove : Move
 noMove = react 0 []
@@ -78,6 +81,11 @@ pub record Serial (t : Table) (s : State) (ms : List Move) (e : State) : Type 0 
   pub same : (j : ℕ) → j < length ms
       → SameMove (stateBefore t (upFrom 0 (length ms)) s ms (getD (placesOf t s ms) j 0)) (stateBefore t (placesOf t s ms) s (serial t s ms) j)
       (getD ms (getD (placesOf t s ms) j 0) noMove) (getD (serial t s ms) j noMove)
+  -- (Origins tell entries apart: in none of these states have two entries the same one. And they change nothing: the second states are those along the
+  -- serial log.)
+  pub origins : (j : ℕ) → j < length ms → (o : Origin)
+      → (count (hasOrigin o) (stateBefore t (upFrom 0 (length ms)) s ms j .entries) ≤ 1) × (count (hasOrigin o) (stateBefore t (placesOf t s ms) s (serial t s ms) j .entries) ≤ 1)
+  pub states : (j : ℕ) → j ≤ length ms → stateWords (stateBefore t (placesOf t s ms) s (serial t s ms) j) ≡ stateWords (getD (along t 0 s (serial t s ms)) j s)
   -- 2. Blocks: directly before a commit or abort a stand the begins of the members that it ends and the reactions made in their transactions, in
   -- log order, with no other move between;
   pub blocks : (xs ys : List Act) (a : Act) → acts t 0 s ms ≡ xs ++ a ∷ ys → isEnd (a .move) ≡ true
