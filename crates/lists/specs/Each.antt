@@ -4,7 +4,7 @@ use mathlib.Core.List.{List, [], _∷_, _++_, map, nil≢cons}
 use mathlib.Core.Bool.{Bool, true, false, _&&_, _||_, not, true≢false, false≢true}
 use mathlib.Core.Path.{_≡_, refl, sym, ap, _∙_}
 use native.Mathlib.Omega.{arith}
-use Rattle.lists.specs.Lists.{all, any, keep, keepIf, count, oneIf, isEmpty}
+use Rattle.lists.specs.Lists.{all, any, isIn, keep, keepIf, count, oneIf, isEmpty, without}
 use Rattle.lists.specs.Bools.{by-bool, clash, is-false, and-l, and-r, and-intro, or-r}
 
 pub head-eq : {A : Type 0} {x y : A} {xs ys : List A} → Path (List A) (x ∷ xs) (y ∷ ys) → x ≡ y
@@ -109,6 +109,30 @@ module _ {A : Type 0} where
   pub any-intro : (p : A → Bool) (xs ys : List A) (x : A) → p x ≡ true → any p (xs ++ x ∷ ys) ≡ true
   any-intro p [] ys x h = rw h
   any-intro p (y ∷ xs) ys x h = or-r (p y) (any-intro p xs ys x h)
+
+  pub count-zero : (p : A → Bool) (xs : List A) → count p xs ≡ 0 → All (λ x. p x ≡ false) xs
+  count-zero p [] h = tt
+  count-zero p (x ∷ xs) h = go (p x) refl h (count-zero p xs)
+    where
+      go : (b : Bool) → p x ≡ b → oneIf b + count p xs ≡ 0 → (count p xs ≡ 0 → All (λ x. p x ≡ false) xs) → (p x ≡ false) × All (λ x. p x ≡ false) xs
+      go true q w ih = absurd (omega arith)
+      go false q w ih = (q, ih (omega arith))
+
+  pub count-same : (p q : A → Bool) (xs : List A) → All (λ x. p x ≡ q x) xs → count p xs ≡ count q xs
+  count-same p q [] h = refl
+  count-same p q (x ∷ xs) h = rw (h .0, count-same p q xs (h .1))
+
+  pub empty-nil : (xs : List A) → isEmpty xs ≡ true → xs ≡ []
+  empty-nil [] h = refl
+  empty-nil (x ∷ xs) h = absurd (false≢true h)
+
+  pub all-without : (p : A → Bool) (ps : List ℕ) (k : ℕ) (l : List A) → all p l ≡ true → all p (without ps k l) ≡ true
+  all-without p ps k [] h = refl
+  all-without p ps k (x ∷ l) h = go (not (isIn k ps)) (all-without p ps (suc k) l (and-r (p x) (all p l) h))
+    where
+      go : (b : Bool) → all p (without ps (suc k) l) ≡ true → all p (keepIf b x (without ps (suc k) l)) ≡ true
+      go true ih = and-intro (and-l (p x) (all p l) h) ih
+      go false ih = ih
 
 module _ {A B : Type 0} (f : A → B) where
   pub keep-map : (p : B → Bool) (xs : List A) → keep p (map f xs) ≡ map f (keep (λ x. p (f x)) xs)

@@ -4,3 +4,4 @@ pub mod Walk
 pub mod Bools
 pub mod Members
 pub mod Each
+pub mod UpFrom

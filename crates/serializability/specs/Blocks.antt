@@ -11,7 +11,7 @@ use borrow.Author.Tests.{eqb-true, eq-eqb, ne-eqb}
 use lib.ListN.{length, length-append}
 use Rattle.lists.specs.Lists.{any, isEmpty, isIn, keep, keepIf, count, least}
 use Rattle.lists.specs.Bools.{by-bool, clash, is-false, same-test, and-l, and-r, or-r}
-use Rattle.lists.specs.Each.{All, All-map, any-found, keep-append, keep-same, keep-none, keep-map, count-append, count-none, count-map, map-split}
+use Rattle.lists.specs.Each.{All, All-map, empty-nil, any-found, keep-append, keep-same, keep-none, keep-map, count-append, count-none, count-map, map-split}
 use Rattle.semantics.specs.Table.{Table}
 use Rattle.semantics.specs.State.{Origin, Entry}
 use Rattle.semantics.specs.Move.{Move, react, commit, abort}
@@ -45,10 +45,6 @@ end-member t F a k en o h =
     let T = end-tests t a (k .es) en (k .tests) in
     let q = found-at (F .cell) (markOf (least (a .touched))) o (a .picks) (k .es) (k .found) (T .0) (subst (λ (l : List Origin). isInO o l ≡ true) (T .3) h) in
     (q .0, q .1, eqb-true (q .0 .kind) 3 (and-l (eqb (q .0 .kind) 3) (eqb (q .0 .owner) (least (a .touched))) (q .2)), eqb-true (q .0 .owner) (least (a .touched)) (and-r (eqb (q .0 .kind) 3) (eqb (q .0 .owner) (least (a .touched))) (q .2)))
-
-pub empty-nil : {A : Type 0} (xs : List A) → isEmpty xs ≡ true → xs ≡ []
-empty-nil [] h = refl
-empty-nil (x ∷ xs) h = absurd (false≢true h)
 
 module _ (t : Table) (sd : Sound t) (G : Seen) where
   module _ (i : ℕ) (F : Seen) (x : Deed) (zs ys : List Deed) (a : Deed) (g : Good i F) (r : LogRuns t i F (x ∷ zs ++ a ∷ ys) G) where

@@ -13,10 +13,10 @@ use lib.Seq.{drop-append-add, take-at, drop-at, take-take}
 use Rattle.lists.specs.Lists.{all, upFrom}
 use Rattle.lists.specs.Bools.{and-l, and-r, and-intro}
 use Rattle.lists.specs.Each.{All}
+use Rattle.lists.specs.UpFrom.{length-up, map-up, map-shift}
 use Rattle.semantics.specs.Words.{headKind, headNumber, headWord}
 use Rattle.semantics.specs.Table.{Table, ruleAt, consumed}
 use Rattle.semantics.specs.Move.{Move, react, commit, abort, isZero, picksUsed, headOk, moveOk, moveOf}
-use Rattle.serializability.specs.TableWords.{length-up}
 use Rattle.semantics.specs.Log.{moveCount, logSizesOk, moveAt, movesOf, headOf, fourPicks, allPicks, logWords}
 
 abbrev pub moveWords : Move → List ℕ
@@ -78,14 +78,6 @@ words-back t (commit b) (l, h) = let k = head-kind 1 b (omega arith) in let q = 
 words-back t (abort b) (l, h) = let k = head-kind 2 b (omega arith) in let q = head-number 2 b (omega arith) in rw (k, q)
 
 -- ---- the columns of a log
-
-pub map-up : {A : Type 0} (f g : ℕ → A) (n i : ℕ) → ((x : ℕ) → x < i + n → f x ≡ g x) → map f (upFrom i n) ≡ map g (upFrom i n)
-map-up f g zero i h = refl
-map-up f g (suc n) i h = λ j. h i (omega arith) j ∷ map-up f g n (suc i) (λ x l. h x (omega arith)) j
-
-pub map-shift : {A : Type 0} (f : ℕ → A) (n i : ℕ) → map f (upFrom (suc i) n) ≡ map (λ x. f (suc x)) (upFrom i n)
-map-shift f zero i = refl
-map-shift f (suc n) i = λ j. f (suc i) ∷ map-shift f n (suc i) j
 
 -- the words of the move at place i, from the two columns
 abbrev pub fromColumns : List Move → ℕ → List ℕ

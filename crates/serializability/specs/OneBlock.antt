@@ -12,7 +12,7 @@ use borrow.Author.Tests.{eqb-true, eqb-false, eq-eqb, ne-eqb, ltb-true}
 use lib.ListN.{length}
 use Rattle.lists.specs.Lists.{any, isEmpty, isIn, count, oneIf, least}
 use Rattle.lists.specs.Bools.{by-bool, clash, is-false, and-l, and-r, and-intro, or-r, not-true}
-use Rattle.lists.specs.Each.{All, All-map, any-found, count-append, count-none, count-map, any-intro, any-map}
+use Rattle.lists.specs.Each.{All, All-map, any-found, count-same, count-append, count-none, count-map, any-intro, any-map}
 use Rattle.semantics.specs.Table.{Table, Rule, ruleAt, begins, productAtoms}
 use Rattle.semantics.specs.State.{Origin, Entry}
 use Rattle.semantics.specs.Move.{Move, react, commit, abort, kindMade, merged, toGlobal, valueIn}
@@ -29,7 +29,7 @@ use Rattle.serializability.specs.Link.{Good}
 use Rattle.serializability.specs.Marks.{MarkAt, mark-gone, firstOf}
 use Rattle.serializability.specs.Fate.{LogStep, LogRuns, NoneOpen, next-good, key-bound}
 use Rattle.serializability.specs.Follow.{seenAfter, none-stay, none-after, log-rest, place-length, end-tests, ender-not}
-use Rattle.serializability.specs.Blocks.{shares, end-member, empty-nil, same-block}
+use Rattle.serializability.specs.Blocks.{shares, end-member, same-block}
 
 -- ---- one place of a log
 
@@ -84,10 +84,6 @@ module _ (t : Table) (sd : Sound t) (G : Seen) where
         (λ en. rw en (sym (ne-eqb (x .key) (a .place) (λ w. ender-not t sd G a ys en zs (suc i) (astep t F x) (r .1) (least (x .touched)) (sym (r .0 .key ∙ key-full (isEnd (x .move)) i (x .touched) (zs ++ a ∷ ys) nx ne) ∙ w))))),
     after-key i F x (zs ++ a ∷ []) ys g (subst (λ (l : List Deed). LogRuns t i F (x ∷ l) G) (sym (append-assoc zs (a ∷ []) ys)) r) nx ne,
   )
-
-  pub count-same : {A : Type 0} (p q : A → Bool) (xs : List A) → All (λ x. p x ≡ q x) xs → count p xs ≡ count q xs
-  count-same p q [] h = refl
-  count-same p q (x ∷ xs) h = rw (h .0, count-same p q xs (h .1))
 
   pub one-after : (i : ℕ) (F : Seen) (x : Deed) (ys : List Deed) → Good i F → LogRuns t i F (x ∷ ys) G → NoneOpen G → isEnd (x .move) ≡ false → isEmpty (x .touched) ≡ false → count (λ a. endsMemberOf (actOf x) (actOf a)) ys ≡ 1
   one-after i F x ys g r n nx ne =

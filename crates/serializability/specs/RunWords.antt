@@ -10,7 +10,7 @@ use lib.ListN.{length, getD, take, drop, length-map}
 use Rattle.lists.specs.Lists.{all, any, keep, keepIf, isIn, least, without}
 use Rattle.lists.specs.Bools.{by-bool, and-l, and-r, and-intro}
 use Rattle.lists.specs.Members.{least-in, all-use, all-intro}
-use Rattle.lists.specs.Each.{All, All-map, all-append, any-found, All-of}
+use Rattle.lists.specs.Each.{All, All-map, all-append, all-without, any-found, All-of}
 use Rattle.semantics.specs.Words.{headKind, headNumber}
 use Rattle.semantics.specs.Table.{Table, Rule, ruleAt, consumed, productAtoms, begins}
 use Rattle.semantics.specs.State.{Entry, State, isMessage, isCompensation, owned}
@@ -95,14 +95,6 @@ owners-small s (p ∷ ps) h = and-intro (at-all isId (s .entries) p refl h) (own
 pub least-small : (os : List ℕ) → all (λ o. leb o 65535) os ≡ true → least os ≤ 65535
 least-small [] h = omega arith
 least-small (o ∷ os) h = leb-true (least (o ∷ os)) 65535 (all-use (λ o. leb o 65535) (o ∷ os) (least (o ∷ os)) h (least-in o os))
-
-pub all-without : {A : Type 0} (p : A → Bool) (ps : List ℕ) (k : ℕ) (l : List A) → all p l ≡ true → all p (without ps k l) ≡ true
-all-without p ps k [] h = refl
-all-without p ps k (x ∷ l) h = go (not (isIn k ps)) (all-without p ps (suc k) l (and-r (p x) (all p l) h))
-  where
-    go : (b : Bool) → all p (without ps (suc k) l) ≡ true → all p (keepIf b x (without ps (suc k) l)) ≡ true
-    go true ih = and-intro (and-l (p x) (all p l) h) ih
-    go false ih = ih
 
 pub merged-small : (os : List ℕ) (l : List Entry) → least os ≤ 65535 → all isId l ≡ true → all isId (map (merged os) l) ≡ true
 merged-small os [] n h = refl

@@ -12,7 +12,8 @@ use lib.ListN.{length, getD, length-map, List·getD-eq-default}
 use Rattle.lists.specs.Lists.{given, all, any, isEmpty, count, oneIf, keep, keepIf, risesFrom, allBelow, upFrom}
 use Rattle.lists.specs.Bools.{by-bool, clash, is-false, and-l, and-r, and-intro, or-cases, or-r, or-l-false, or-r-false, not-true}
 use Rattle.lists.specs.Walk.{below-each}
-use Rattle.lists.specs.Each.{All, All-map, All-two, All-of, all-of, All-keep, All-unmap, any-none, any-found, count-none, keep-map, any-map, count-map}
+use Rattle.lists.specs.Each.{All, All-map, All-two, All-of, all-of, All-keep, All-unmap, any-none, any-found, count-none, count-zero, keep-map, any-map, count-map}
+use Rattle.lists.specs.UpFrom.{length-up, getD-up, rises-all}
 use Rattle.semantics.specs.Words.{atomRole, portOf}
 use Rattle.semantics.specs.Table.{sizesOf, numbersOf, atomWordsOf, ruleWords, classOf, sizesWithin, tableSizesOk, numbersOk, isRole, Shape, modeOk, consumeOk, emitOk, markOk, beginOk, innerOk, compensateOk, atomOk, shapeOf, ruleOk, rulesOk, tableContentsOk, atomOf, Rule, ruleOf, Table, tableOf, noRule, ruleAt, hasRole, consumed, productAtoms, begins, emits, portCount}
 use Rattle.semantics.specs.Move.{unless}
@@ -71,20 +72,6 @@ rule-facts z ws h =
 
 -- ---- rising roles
 
-pub rises-all : (m : ℕ) (ws : List ℕ) → risesFrom m atomRole ws ≡ true → All (λ w. m ≤ atomRole w) ws
-rises-all m [] h = tt
-rises-all m (w ∷ ws) h =
-    let l = leb-true m (atomRole w) (and-l (leb m (atomRole w)) (risesFrom (atomRole w) atomRole ws) h) in
-    (l, All-map {P = λ v. atomRole w ≤ atomRole v} {Q = λ v. m ≤ atomRole v} (λ v k. omega arith) ws (rises-all (atomRole w) ws (and-r (leb m (atomRole w)) (risesFrom (atomRole w) atomRole ws) h)))
-
-pub count-zero : {A : Type 0} (p : A → Bool) (xs : List A) → count p xs ≡ 0 → All (λ x. p x ≡ false) xs
-count-zero p [] h = tt
-count-zero p (x ∷ xs) h = go (p x) refl h (count-zero p xs)
-  where
-    go : (b : Bool) → p x ≡ b → oneIf b + count p xs ≡ 0 → (count p xs ≡ 0 → All (λ x. p x ≡ false) xs) → (p x ≡ false) × All (λ x. p x ≡ false) xs
-    go true q w ih = absurd (omega arith)
-    go false q w ih = (q, ih (omega arith))
-
 abbrev pub makes : ℕ → Bool
 makes w = not (isRole 0 w)
 
@@ -111,9 +98,9 @@ begin-first m (w ∷ ws) h a e c = go (λ a′. begin-first (atomRole w) ws up a
     go ih true p y q = ih (later-one (let z = eqb-true (atomRole w) 0 p in ne-eqb (atomRole w) 2 (λ v. omega arith)))
     go ih false p true q = (w, keep makes ws, refl, eqb-true (atomRole w) 2 q, All-keep (λ v. leb 3 (atomRole v) ≡ true) makes ws
         (All-two {P = λ v. atomRole w ≤ atomRole v} {Q = λ v. isRole 2 v ≡ false} {R = λ v. makes v ≡ true → leb 3 (atomRole v) ≡ true}
-        (λ v l n k. let x = eqb-true (atomRole w) 2 q in let y = eqb-false (atomRole v) 2 n in le-leb 3 (atomRole v) (omega arith)) ws (rises-all (atomRole w) ws up) (count-zero (isRole 2) ws (let z = ap oneIf q in omega arith))))
+        (λ v l n k. let x = eqb-true (atomRole w) 2 q in let y = eqb-false (atomRole v) 2 n in le-leb 3 (atomRole v) (omega arith)) ws (rises-all atomRole (atomRole w) ws up) (count-zero (isRole 2) ws (let z = ap oneIf q in omega arith))))
     go ih false p false q =
-        let x = any-found (λ v. atomRole w ≤ atomRole v) (isRole 2) ws (later-one q) (rises-all (atomRole w) ws up) in
+        let x = any-found (λ v. atomRole w ≤ atomRole v) (isRole 2) ws (later-one q) (rises-all atomRole (atomRole w) ws up) in
         let k0 = eqb-false (atomRole w) 0 p in let k1 = eqb-false (atomRole w) 1 (or-l-false (isRole 1 w) (any (isRole 1) ws) e) in let k2 = eqb-false (atomRole w) 2 q in
         let y = eqb-true (atomRole (x .0)) 2 (x .1) in let z = x .2 in absurd (omega arith)
 
@@ -198,15 +185,6 @@ module _ (z : Sizes) (ws : List ℕ) (f : RuleFacts z ws) where
           (products-are ∙ ap (map atomOf) (q .2)) (q .3) (all-of (λ a. leb 3 (a .role)) (map atomOf (q .1)) (All-unmap atomOf (λ a. leb 3 (a .role) ≡ true) (q .1) (q .4)))
 
 -- ---- the rules of a table
-
-pub getD-up : {A : Type 0} (f : ℕ → A) (d : A) (n i r : ℕ) → r < n → getD (map f (upFrom i n)) r d ≡ f (i + r)
-getD-up f d zero i r h = absurd (omega arith)
-getD-up f d (suc n) i zero h = ap f (sym (add-zero i))
-getD-up f d (suc n) i (suc r) h = getD-up f d n (suc i) r (omega arith) ∙ ap f (omega arith)
-
-pub length-up : (n i : ℕ) → length (upFrom i n) ≡ n
-length-up zero i = refl
-length-up (suc n) i = ap suc (length-up n (suc i))
 
 module _ (T : List ℕ) (ok : tableVerdict T ≡ Allowed) where
   abbrev pub z : Sizes
