@@ -1,11 +1,11 @@
 -- A type for each element of a list, and laws of all, any, keep and count, for every element type.
-use Prim.Native.Nat.{ℕ, zero, suc, _+_}
+use Prim.Native.Nat.{ℕ, suc, _+_}
 use mathlib.Core.List.{List, [], _∷_, _++_, map, nil≢cons}
 use mathlib.Core.Bool.{Bool, true, false, _&&_, _||_, not, true≢false, false≢true}
-use mathlib.Core.Path.{_≡_, refl, sym, ap, _∙_}
+use mathlib.Core.Path.{_≡_, refl, ap}
 use native.Mathlib.Omega.{arith}
 use Rattle.lists.specs.Lists.{all, any, isIn, keep, keepIf, count, oneIf, isEmpty, without}
-use Rattle.lists.specs.Bools.{by-bool, clash, is-false, and-l, and-r, and-intro, or-r}
+use Rattle.lists.specs.Bools.{and-l, and-r, and-intro, or-r}
 
 pub head-eq : {A : Type 0} {x y : A} {xs ys : List A} → Path (List A) (x ∷ xs) (y ∷ ys) → x ≡ y
 head-eq r = cc

@@ -1,18 +1,17 @@
 -- Origins change nothing: from states that are equal but for the origins a move is allowed alike, and leaves states that are equal but for the origins.
-use mathlib.Core.Path.{_≡_, refl, sym, ap, subst, _∙_}
+use mathlib.Core.Path.{_≡_, refl, sym, ap, _∙_}
 use mathlib.Core.Bool.{Bool, true, false, cond, not, _&&_, _||_}
 use mathlib.Core.List.{List, [], _∷_, _++_, map, map-append}
-use Prim.Native.Nat.{ℕ, zero, suc, _+_}
+use Prim.Native.Nat.{ℕ, suc, _+_}
 use lib.Dec.{eqb, ltb}
-use lib.ListN.{length, length-map, List·getD-map}
+use lib.ListN.{List·getD-map}
 use Rattle.lists.specs.Lists.{all, any, keep, keepIf, isIn, distinct, without}
 use Rattle.lists.specs.Each.{keep-map, all-map, any-map}
 use Rattle.semantics.specs.Table.{Table, Rule, ruleAt, consumed, productAtoms, begins}
-use Rattle.semantics.specs.State.{Origin, Entry, State, isMessage, isCompensation, isAbortMark, owned}
-use Rattle.semantics.specs.Move.{Move, react, commit, abort, unless, both, nothing, entryAt, picked, onPorts, picksOk, ownersAt, ownersFit, hasId, reactAllowed, merged, ownerMade, valueIn, kindMade, made, products, reacted, isOpen, entriesIn, mayCommit, mayAbort, toGlobal, freed, ended, allowed, applied}
+use Rattle.semantics.specs.State.{Entry, State, isMessage, isCompensation, isAbortMark, owned}
+use Rattle.semantics.specs.Move.{Move, react, commit, abort, unless, both, nothing, picked, onPorts, ownersAt, ownersFit, hasId, reactAllowed, merged, ownerMade, valueIn, kindMade, products, reacted, isOpen, entriesIn, mayCommit, mayAbort, toGlobal, freed, ended, allowed, applied}
 use Rattle.semantics.specs.declared.Atom.{Atom}
 use Rattle.semantics.specs.declared.Refusal.the-variants.{WrongPick, WrongOwner, NoTransaction, EndNotAllowed, NoMoreIds}
-use Rattle.semantics.specs.declared.Verdict.{Verdict}
 use Rattle.serializability.specs.Rules.{owners, values}
 
 abbrev pub bare : Entry → Entry

@@ -1,19 +1,19 @@
 -- Each member that a commit or abort ends was begun by a move before it: where a member mark comes from.
 use mathlib.Core.Path.{_≡_, refl, sym, ap, subst, _∙_}
-use mathlib.Core.Bool.{Bool, true, false, cond, not, _&&_, _||_, true≢false, false≢true}
+use mathlib.Core.Bool.{Bool, true, false, cond, _&&_}
 use mathlib.Core.Logic.{_⊎_, inl, inr}
-use mathlib.Core.Option.{Option, none, some}
-use mathlib.Core.List.{List, [], _∷_, _++_, map}
-use Prim.Native.Nat.{ℕ, zero, suc, _+_, _≤_, _<_}
+use mathlib.Core.Option.{none, some}
+use mathlib.Core.List.{List, [], _∷_, _++_}
+use Prim.Native.Nat.{ℕ, suc, _+_}
 use native.Mathlib.Omega.{arith}
 use lib.Dec.{eqb, ltb}
 use borrow.Author.Tests.{ltb-true}
 use lib.ListN.{length}
 use Rattle.lists.specs.Lists.{all, any}
-use Rattle.lists.specs.Bools.{and-intro, or-r}
+use Rattle.lists.specs.Bools.{or-r}
 use Rattle.semantics.specs.Table.{Table, Rule, ruleAt, begins, productAtoms}
 use Rattle.semantics.specs.State.{Origin, Entry, owned}
-use Rattle.semantics.specs.Move.{Move, react, commit, abort, kindMade, merged, toGlobal}
+use Rattle.semantics.specs.Move.{Move, react, commit, abort, toGlobal}
 use Rattle.semantics.specs.Serial.{isEnd, sameOrigin}
 use Rattle.semantics.specs.declared.Atom.{Atom}
 use Rattle.serializability.specs.Base.{isInO, isInO-head, look, some-inj, none-some, look-all, same-eq, omap-some}
@@ -22,9 +22,9 @@ use Rattle.serializability.specs.Rules.{Shape, plain, begin, inner, Soun
 use Rattle.serializability.specs.Key.{Deed, begun}
 use Rattle.serializability.specs.Cells.{Cells, Source, apply-inv}
 use Rattle.serializability.specs.Actions.{Seen, strip, received, left, actionBy, actionOf, astep}
-use Rattle.serializability.specs.Marks.{firstOf, MarkAt}
+use Rattle.serializability.specs.Marks.{firstOf}
 use Rattle.serializability.specs.Link.{Good}
-use Rattle.serializability.specs.Fate.{LogStep, LogRuns, next-good}
+use Rattle.serializability.specs.Fate.{LogRuns}
 use Rattle.serializability.specs.Follow.{seenAfter, log-rest}
 use Rattle.serializability.specs.Blocks.{end-member}
 

@@ -1,31 +1,30 @@
 -- The serial order is the stable sort by key: a move has the key of a commit or abort if and only if they share a member.
 use mathlib.Core.Path.{_≡_, refl, sym, ap, subst, _∙_}
-use mathlib.Core.Bool.{Bool, true, false, cond, not, _&&_, _||_, true≢false, false≢true}
-use mathlib.Core.Option.{Option, none, some}
+use mathlib.Core.Bool.{Bool, true, false, cond, not, _&&_, true≢false, false≢true}
+use mathlib.Core.Option.{some}
 use mathlib.Core.List.{List, [], _∷_, _++_, map, append-assoc, map-append}
-use Prim.Native.Nat.{ℕ, zero, suc, _+_, _≤_, _<_}
-use native.Mathlib.Nat.{add-zero}
+use Prim.Native.Nat.{ℕ, suc, _+_, _≤_, _<_}
 use native.Mathlib.Omega.{arith}
 use lib.Dec.{eqb}
 use borrow.Author.Tests.{eqb-true, eq-eqb, ne-eqb}
 use lib.ListN.{length, length-append}
-use Rattle.lists.specs.Lists.{any, isEmpty, isIn, keep, keepIf, count, least}
-use Rattle.lists.specs.Bools.{by-bool, clash, is-false, same-test, and-l, and-r, or-r}
-use Rattle.lists.specs.Each.{All, All-map, empty-nil, any-found, keep-append, keep-same, keep-none, keep-map, count-append, count-none, count-map, map-split}
+use Rattle.lists.specs.Lists.{any, isEmpty, keep, keepIf, least}
+use Rattle.lists.specs.Bools.{by-bool, same-test, and-l, and-r}
+use Rattle.lists.specs.Each.{All, All-map, empty-nil, any-found, keep-append, keep-same, keep-none, keep-map}
 use Rattle.semantics.specs.Table.{Table}
 use Rattle.semantics.specs.State.{Origin, Entry}
 use Rattle.semantics.specs.Move.{Move, react, commit, abort}
 use Rattle.semantics.specs.Serial.{Act, isEnd, isInner, sameOrigin, belongsTo, block, ordered}
-use Rattle.serializability.specs.Base.{isInO, none-some, some-inj, found-at}
+use Rattle.serializability.specs.Base.{isInO, found-at}
 use Rattle.serializability.specs.Rules.{Sound}
 use Rattle.serializability.specs.Key.{Deed, actOf, ender, keyOf, ender-ge, key-full}
 use Rattle.serializability.specs.Cells.{Cells}
-use Rattle.serializability.specs.Actions.{Seen, received, astep, markOf, EndTests, AllMarks, Whole, Ok, in-one}
+use Rattle.serializability.specs.Actions.{Seen, astep, markOf, AllMarks, Whole, Ok}
 use Rattle.serializability.specs.Link.{Good}
-use Rattle.serializability.specs.Marks.{MarkAt, mark-gone}
-use Rattle.serializability.specs.Fate.{LogStep, LogRuns, NoneOpen, next-good, places, key-bound}
+use Rattle.serializability.specs.Marks.{MarkAt}
+use Rattle.serializability.specs.Fate.{LogRuns, NoneOpen, next-good, places, key-bound}
 use Rattle.serializability.specs.Sort.{isort, keyIs, arrange, arrange-isort}
-use Rattle.serializability.specs.Follow.{seenAfter, none-after, log-rest, place-length, end-tests, ender-not, follow, Follows}
+use Rattle.serializability.specs.Follow.{seenAfter, log-rest, place-length, end-tests, ender-not, follow, Follows}
 
 -- x and a have a member in common
 abbrev pub shares : Deed → Deed → Bool

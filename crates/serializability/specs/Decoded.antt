@@ -1,33 +1,32 @@
 -- Demand 3 on decoded moves: of every log accepted from a state without open transactions, and ending in one.
 use mathlib.Core.Path.{_≡_, refl, sym, ap, subst, _∙_}
-use mathlib.Core.Bool.{Bool, true, false, cond, not, _&&_, _||_, true≢false, false≢true}
-use mathlib.Core.Logic.{_⊎_, inl, inr}
+use mathlib.Core.Bool.{Bool, true, false, not, _&&_}
+use mathlib.Core.Logic.{inl, inr}
 use mathlib.Core.Option.{Option, none, some}
-use mathlib.Core.List.{List, [], _∷_, _++_, map, map-append}
-use Prim.Native.Nat.{ℕ, zero, suc, _+_, _≤_, _<_}
+use mathlib.Core.List.{List, [], _∷_, _++_, map}
+use Prim.Native.Nat.{ℕ, suc, _+_, _≤_, _<_}
 use native.Mathlib.Omega.{arith}
 use lib.Dec.{eqb}
 use borrow.Author.Tests.{eqb-true, eq-eqb}
 use lib.ListN.{length, getD, length-map}
 use Rattle.lists.specs.Lists.{all, any, keep, count, upFrom}
-use Rattle.lists.specs.Bools.{by-bool, is-false, and-l, and-r, and-intro, or-l-false, or-r-false, not-false}
+use Rattle.lists.specs.Bools.{is-false, and-intro, or-l-false, or-r-false, not-false}
 use Rattle.lists.specs.Each.{All, count-map, any-map, map-split}
 use Rattle.semantics.specs.Table.{Table}
 use Rattle.semantics.specs.State.{Origin, Entry, State, isMessage, owned, stateWords}
-use Rattle.semantics.specs.Move.{Move, react, commit, abort, allowed, applied}
+use Rattle.semantics.specs.Move.{Move, react, commit, abort, applied}
 use Rattle.semantics.specs.Serial.{Act, anyOpen, sameOrigin, after, acts, isEnd, isInner, belongsTo, ordered, again, replayed, serial, along}
-use Rattle.semantics.specs.declared.Verdict.the-variants.{Allowed}
 use Rattle.serializability.specs.Statement.{Accepted, orderOf, placesOf, stateBefore, SameMove, hasOrigin, noMove, isBegin, endsMemberOf, isGlobal, Serial}
 use Rattle.serializability.specs.Base.{omap, look, same-eq, look-origin, look-all}
 use Rattle.serializability.specs.View.{Uniq}
 use Rattle.serializability.specs.Rules.{Sound}
 use Rattle.serializability.specs.Key.{Deed, begun, actOf, deeds, acts-deeds, deeds-length, deeds-places}
-use Rattle.serializability.specs.Actions.{Seen, strip}
+use Rattle.serializability.specs.Actions.{strip}
 use Rattle.serializability.specs.Moves.{after-allowed}
 use Rattle.serializability.specs.Link.{view, view-some, Good}
 use Rattle.serializability.specs.Fate.{LogRuns, runs, NoneOpen, pairs}
 use Rattle.serializability.specs.First.{log-runs}
-use Rattle.serializability.specs.Sort.{Runs, isort, sort-runs, count-isort, All-isort}
+use Rattle.serializability.specs.Sort.{isort, sort-runs, count-isort, All-isort}
 use Rattle.serializability.specs.Ordered.{block-there, outer-order}
 use Rattle.serializability.specs.Blocks.{order-sorted}
 use Rattle.serializability.specs.OneBlock.{one-block-of}

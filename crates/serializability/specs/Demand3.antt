@@ -1,31 +1,31 @@
 -- Demand 3: every accepted log has a serial log, as Statement.antt says.
 use mathlib.Core.Path.{_≡_, refl, sym, ap, subst, _∙_}
-use mathlib.Core.Bool.{Bool, true, false, cond, not, _&&_, _||_}
-use mathlib.Core.List.{List, [], _∷_, _++_, map}
-use Prim.Native.Nat.{ℕ, zero, suc, _+_, _*_, _≤_, _<_}
+use mathlib.Core.Bool.{Bool, true, false, cond}
+use mathlib.Core.List.{List, [], _∷_}
+use Prim.Native.Nat.{ℕ, suc, _+_, _*_, _≤_}
 use native.Mathlib.Omega.{arith}
-use lib.Dec.{eqb, leb}
-use borrow.Author.Tests.{eq-eqb, le-leb, eqb-true}
+use lib.Dec.{leb}
+use borrow.Author.Tests.{le-leb, eqb-true}
 use lib.ListN.{length, length-map}
-use Rattle.lists.specs.Lists.{all, any}
-use Rattle.lists.specs.Bools.{and-l, and-r, and-intro, by-bool}
+use Rattle.lists.specs.Lists.{all}
+use Rattle.lists.specs.Bools.{and-l, and-r, and-intro}
 use Rattle.lists.specs.Each.{All, All-map, All-unmap}
-use Rattle.semantics.specs.Table.{Table, ruleAt, consumed, tableOf}
+use Rattle.semantics.specs.Table.{Table, tableOf}
 use Rattle.semantics.specs.State.{Entry, State, owned, stateOf, stateWords}
-use Rattle.semantics.specs.Move.{Move, unless, both, moveOk, moveOf}
+use Rattle.semantics.specs.Move.{Move, unless, moveOk, moveOf}
 use Rattle.semantics.specs.Log.{moveCount, movesOf, logSizesOk, logWords, ended, run}
-use Rattle.semantics.specs.Serial.{Act, beginsEmit, anyOpen, acts, ordered, replayed, serial, along, fits, serialFits, after}
-use Rattle.semantics.specs.Answers.{stateVerdict, hasWords, unlessDenied, logVerdict, runOf, ranResult, runResult, serialOf, serialFitsOf, serialAfter, serialResult, write, refuse}
-use Rattle.semantics.specs.declared.Refusal.the-variants.{TransactionOpen, SerialTooManyEntries}
+use Rattle.semantics.specs.Serial.{beginsEmit, anyOpen, serial, along, fits, serialFits, after}
+use Rattle.semantics.specs.Answers.{stateVerdict, unlessDenied, logVerdict, runOf, ranResult, runResult, serialOf, serialFitsOf, serialResult, write, refuse}
+use Rattle.semantics.specs.declared.Refusal.the-variants.{SerialTooManyEntries}
 use Rattle.semantics.specs.declared.Verdict.the-variants.{Allowed}
-use Rattle.serializability.specs.Statement.{Accepted, orderOf, Serial, movesIn, roomAlong, Serializable, Demand3}
+use Rattle.serializability.specs.Statement.{Accepted, orderOf, Serial, movesIn, roomAlong, Demand3}
 use Rattle.serializability.specs.Rules.{Sound}
 use Rattle.serializability.specs.Key.{actOf, deeds}
 use Rattle.serializability.specs.Sort.{isort, All-isort}
 use Rattle.serializability.specs.Decoded.{Start, all-closed, ds, order-is, serial-decoded}
 use Rattle.serializability.specs.TableWords.{table-sound, rules-64, rule-count, four-consumes}
 use Rattle.serializability.specs.StateWords.{table-ok, state-start}
-use Rattle.serializability.specs.LogWords.{moveWords, Holdable, log-length, log-ok, moves-back, moves-count, count-1024}
+use Rattle.serializability.specs.LogWords.{Holdable, log-length, log-ok, moves-back, moves-count, count-1024}
 use Rattle.serializability.specs.RunWords.{isId, RuleIn, run-accepted, accepted-run, all-holdable, decoded-rule, replayed-rules}
 
 pub closed-ids : (l : List Entry) → all (owned 0) l ≡ true → all isId l ≡ true

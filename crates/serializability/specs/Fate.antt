@@ -1,10 +1,10 @@
 -- Which move ends a transaction: two moves of a log that touch the same transaction have the same key, so that a later move of smaller key may go first.
 use mathlib.Core.Path.{_≡_, refl, sym, ap, subst, _∙_}
-use mathlib.Core.Bool.{Bool, true, false, cond, not, _&&_, _||_, true≢false, false≢true}
+use mathlib.Core.Bool.{Bool, true, false, cond}
 use mathlib.Core.Logic.{_⊎_, inl, inr}
-use mathlib.Core.Option.{Option, none, some}
-use mathlib.Core.List.{List, [], _∷_, _++_, map}
-use Prim.Native.Nat.{ℕ, zero, suc, _+_, _≤_, _<_}
+use mathlib.Core.Option.{some}
+use mathlib.Core.List.{List, [], _∷_}
+use Prim.Native.Nat.{ℕ, suc, _+_, _≤_, _<_}
 use native.Mathlib.Omega.{arith}
 use lib.Dec.{eqb}
 use borrow.Author.Tests.{eqb-true}
@@ -15,13 +15,12 @@ use Rattle.lists.specs.Members.{isIn-one, least-some, least-pos}
 use Rattle.lists.specs.Each.{All, All-map, All-two}
 use Rattle.semantics.specs.Table.{Table}
 use Rattle.semantics.specs.State.{Origin, Entry}
-use Rattle.semantics.specs.Move.{Move, react, commit, abort}
 use Rattle.semantics.specs.Serial.{isEnd}
-use Rattle.serializability.specs.Base.{isInO, look, none-some, found-at}
+use Rattle.serializability.specs.Base.{isInO, found-at}
 use Rattle.serializability.specs.Rules.{Sound}
 use Rattle.serializability.specs.Key.{Deed, begun, ender, keyOf, ender-ge, key-in, KeyCases, key-cases}
 use Rattle.serializability.specs.Cells.{Source, apply-inv, mine, frame-from}
-use Rattle.serializability.specs.Actions.{Seen, received, actionBy, actionOf, astep, Ok, later, act-local}
+use Rattle.serializability.specs.Actions.{Seen, received, actionOf, astep, Ok, later, act-local}
 use Rattle.serializability.specs.Link.{Mark, Good}
 use Rattle.serializability.specs.Marks.{From, came, touched-live, MarkAt, mark-stay, firstOf, mark-made}
 use Rattle.serializability.specs.Swap.{Swap}

@@ -1,32 +1,31 @@
 -- The first log: a run that is accepted is a run on cells, and its moves have their members' marks.
 use mathlib.Core.Path.{_≡_, refl, sym, ap, subst, _∙_}
-use mathlib.Core.Bool.{Bool, true, false, cond, not, _&&_, _||_, true≢false, false≢true}
+use mathlib.Core.Bool.{Bool, true, false, _&&_, true≢false, false≢true}
 use mathlib.Core.Logic.{_⊎_, inl, inr}
-use mathlib.Core.Option.{Option, none, some}
-use mathlib.Core.List.{List, [], _∷_, _++_, map}
-use Prim.Native.Nat.{ℕ, zero, suc, _+_, _≤_, _<_}
-use native.Mathlib.Omega.{arith}
+use mathlib.Core.Option.{some}
+use mathlib.Core.List.{List, [], _∷_}
+use Prim.Native.Nat.{ℕ, suc}
 use lib.Dec.{eqb}
 use borrow.Author.Tests.{eqb-true, eq-eqb}
 use Rattle.lists.specs.Lists.{isEmpty, isIn, keep, count, least}
 use Rattle.lists.specs.Bools.{by-bool, clash, and-l, and-r, and-intro}
-use Rattle.lists.specs.Members.{least-in, least-full}
+use Rattle.lists.specs.Members.{least-full}
 use Rattle.lists.specs.Each.{All, All-map, All-keep, All-unmap}
 use Rattle.semantics.specs.Table.{Table, Rule, ruleAt, hasRole, consumed, begins}
 use Rattle.semantics.specs.State.{Origin, Entry, State, isMemberMark}
 use Rattle.semantics.specs.Move.{Move, react, commit, abort, picked, onPorts, ownersAt, allowed, applied}
-use Rattle.semantics.specs.Serial.{originsOf, marksIn, reactMembers, membersOf, after, isEnd}
+use Rattle.semantics.specs.Serial.{originsOf, marksIn, membersOf, after, isEnd}
 use Rattle.semantics.specs.declared.Verdict.the-variants.{Allowed}
 use Rattle.serializability.specs.Statement.{Accepted}
 use Rattle.serializability.specs.Base.{isInO, look}
 use Rattle.serializability.specs.View.{Uniq, look-kept, look-isIn}
-use Rattle.serializability.specs.Rules.{Shape, plain, begin, inner, Sound, owners, touchedBy, touched-plain, touched-begin, touched-inner}
-use Rattle.serializability.specs.Key.{Deed, begun, touched, handled, deedAt, deeds, keyOf}
-use Rattle.serializability.specs.Actions.{Seen, strip, received, actionBy, astep, Ok}
+use Rattle.serializability.specs.Rules.{Shape, plain, begin, inner, Sound, owners, touched-plain, touched-begin, touched-inner}
+use Rattle.serializability.specs.Key.{Deed, begun, touched, deedAt, deeds, keyOf}
+use Rattle.serializability.specs.Actions.{Seen, strip, received, astep, Ok}
 use Rattle.serializability.specs.Moves.{react-passes, after-allowed}
-use Rattle.serializability.specs.Link.{view, view-look, view-some, Mark, Good, Sim, sim, all-found}
+use Rattle.serializability.specs.Link.{view, view-look, view-some, Good, sim, all-found}
 use Rattle.serializability.specs.Marks.{MarkAt, mark-stay, firstOf, mark-made, touched-live}
-use Rattle.serializability.specs.Fate.{Marked, LogStep, LogRuns, good-next}
+use Rattle.serializability.specs.Fate.{Marked, LogRuns, good-next}
 
 pub ports-some : (ts : List ℕ) (es : List Entry) → isEmpty ts ≡ false → onPorts ts es ≡ true → isEmpty (owners es) ≡ false
 ports-some [] es n h = absurd (true≢false n)

@@ -1,10 +1,10 @@
 -- Following a member mark through a log: the key of a move is the place of the commit or abort that removes its members' marks.
 use mathlib.Core.Path.{_≡_, refl, sym, ap, subst, _∙_}
-use mathlib.Core.Bool.{Bool, true, false, cond, not, _&&_, _||_, true≢false, false≢true}
-use mathlib.Core.Logic.{_⊎_, inl, inr}
-use mathlib.Core.Option.{Option, none, some}
-use mathlib.Core.List.{List, [], _∷_, _++_, map}
-use Prim.Native.Nat.{ℕ, zero, suc, _+_, _≤_, _<_}
+use mathlib.Core.Bool.{Bool, true, false, cond, false≢true}
+use mathlib.Core.Logic.{inl, inr}
+use mathlib.Core.Option.{none, some}
+use mathlib.Core.List.{List, [], _∷_, _++_}
+use Prim.Native.Nat.{ℕ, suc, _+_, _≤_}
 use native.Mathlib.Omega.{arith}
 use lib.ListN.{length}
 use Rattle.lists.specs.Lists.{isIn, least}
@@ -13,14 +13,14 @@ use Rattle.semantics.specs.Table.{Table}
 use Rattle.semantics.specs.State.{Origin, Entry}
 use Rattle.semantics.specs.Move.{Move, react, commit, abort}
 use Rattle.semantics.specs.Serial.{isEnd}
-use Rattle.serializability.specs.Base.{look, some-inj, none-some, is-none}
+use Rattle.serializability.specs.Base.{some-inj, none-some, is-none}
 use Rattle.serializability.specs.Rules.{Sound}
 use Rattle.serializability.specs.Key.{Deed, ender, ender-ge}
 use Rattle.serializability.specs.Cells.{Source, apply, apply-inv}
 use Rattle.serializability.specs.Actions.{Seen, received, actionBy, actionOf, astep, EndTests, Tests, Ok, one-in, in-one, act-local}
 use Rattle.serializability.specs.Link.{Good}
 use Rattle.serializability.specs.Marks.{MarkAt, mark-stay, mark-gone}
-use Rattle.serializability.specs.Fate.{LogStep, LogRuns, next-good}
+use Rattle.serializability.specs.Fate.{LogRuns, next-good}
 
 abbrev pub seenAfter : Table → Seen → List Deed → Seen
 seenAfter t F [] = F

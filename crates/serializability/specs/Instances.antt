@@ -1,7 +1,7 @@
 -- The theorem holds of something: 01's cases (a), (d) and (h) meet all that it asks.
 use Prim.Native.Nat.{ℕ}
-use mathlib.Core.List.{List, [], _∷_, map}
-use mathlib.Core.Path.{_≡_, refl}
+use mathlib.Core.List.{List, []}
+use mathlib.Core.Path.{refl}
 use Rattle.semantics.specs.Table.{tableSizesOk, numbersOk, atomOk, ruleOk, rulesOk, tableContentsOk, ruleOf, tableOf}
 use Rattle.semantics.specs.State.{State, stateOf, stateSizesOk, entryOk, entriesOk}
 use Rattle.semantics.specs.Move.{moveOk, moveOf, reacted, allowed, applied, step, stepWords}

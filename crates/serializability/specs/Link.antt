@@ -1,28 +1,28 @@
 -- An allowed move of a log is allowed on the state's cells, and leaves the cells that it leaves.
 use mathlib.Core.Path.{_≡_, refl, sym, ap, subst, _∙_, fun-ext}
-use mathlib.Core.Bool.{Bool, true, false, cond, not, _&&_, _||_, true≢false, false≢true}
+use mathlib.Core.Bool.{Bool, true, false, cond, _&&_, false≢true}
 use mathlib.Core.Option.{Option, none, some}
-use mathlib.Core.List.{List, [], _∷_, _++_, map}
-use Prim.Native.Nat.{ℕ, zero, suc, _+_, _≤_, _<_}
+use mathlib.Core.List.{List, [], _∷_, map}
+use Prim.Native.Nat.{ℕ, suc, _≤_, _<_}
 use native.Mathlib.Omega.{arith}
 use lib.Dec.{eqb, ltb}
-use borrow.Author.Tests.{eqb-true, eqb-false, eq-eqb, ne-eqb, ltb-true}
+use borrow.Author.Tests.{eqb-true, eq-eqb, ne-eqb, ltb-true}
 use lib.ListN.{length}
 use Rattle.lists.specs.Lists.{all, any, isEmpty, isIn, keep, least}
-use Rattle.lists.specs.Bools.{by-bool, clash, is-false, and-l, and-r, and-intro, or-cases}
+use Rattle.lists.specs.Bools.{and-l, and-r, and-intro}
 use Rattle.lists.specs.Members.{isIn-head, isIn-cons, isIn-one}
 use Rattle.lists.specs.Each.{All, All-map, All-keep, all-kept}
 use Rattle.semantics.specs.Table.{Table, Rule, ruleAt, consumed, productAtoms, begins}
 use Rattle.semantics.specs.State.{Origin, Entry, State, isMessage, isAbortMark, isMemberMark, owned}
-use Rattle.semantics.specs.Move.{Move, react, commit, abort, isZero, entryAt, picked, onPorts, ownersAt, ownersFit, merged, reacted, toGlobal, isOpen, entriesIn, mayCommit, mayAbort, ended, allowed, applied}
-use Rattle.semantics.specs.Serial.{originsOf, marksIn, isEnd}
+use Rattle.semantics.specs.Move.{Move, react, commit, abort, isZero, entryAt, picked, onPorts, ownersFit, merged, reacted, toGlobal, isOpen, entriesIn, mayCommit, mayAbort, ended, allowed, applied}
+use Rattle.semantics.specs.Serial.{originsOf}
 use Rattle.semantics.specs.declared.Verdict.the-variants.{Allowed}
 use Rattle.serializability.specs.Base.{orElse, orElse-none, omap, bindO, isInO, look, none-some, look-all, is-none, omap-some}
-use Rattle.serializability.specs.View.{look-map, Uniq, look-head, look-deeper, look-at, uniq-keep, ports-head, ports-tail, ports-messages, ports-range, picks-distinct, look-any, any-look, look-kept, kept-look, look-isIn}
-use Rattle.serializability.specs.Rules.{Shape, plain, begin, inner, Sound, owners, values, touchedBy, zeros, global-fit, touched-plain, touched-begin, touched-inner, touched-least, touched-positive, touched-merge, make}
-use Rattle.serializability.specs.Key.{Deed, begun, touched, handled, deedAt}
+use Rattle.serializability.specs.View.{look-map, Uniq, look-head, look-deeper, look-at, uniq-keep, ports-head, ports-tail, ports-messages, ports-range, picks-distinct, any-look, look-kept, kept-look, look-isIn}
+use Rattle.serializability.specs.Rules.{Shape, plain, begin, inner, Sound, owners, values, touchedBy, global-fit, touched-begin, touched-inner, touched-least, touched-positive, touched-merge, make}
+use Rattle.serializability.specs.Key.{begun, touched, handled, deedAt}
 use Rattle.serializability.specs.Cells.{Cells, apply, mine}
-use Rattle.serializability.specs.Actions.{Seen, strip, cellValue, received, left, endAction, actionBy, astep, markOf, AllMarks, mayLeave, Ok, mine-in, mine-zero, later}
+use Rattle.serializability.specs.Actions.{Seen, strip, cellValue, left, endAction, actionBy, astep, markOf, AllMarks, mayLeave, Ok, mine-in, mine-zero, later}
 use Rattle.serializability.specs.Commute.{values-found}
 use Rattle.serializability.specs.Moves.{productsOf, look-reacted, uniq-reacted, ofKind, look-ended, uniq-ended, ReactPasses, react-passes, commit-passes, abort-passes}
 

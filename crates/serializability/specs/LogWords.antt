@@ -1,22 +1,20 @@
 -- The words of a log hold its moves: decoding gives them back.
-use mathlib.Core.Path.{_≡_, refl, sym, ap, subst, _∙_}
-use mathlib.Core.Bool.{Bool, true, false, cond, not, _&&_, _||_, false≢true}
-use mathlib.Core.List.{List, [], _∷_, _++_, map, map-map}
-use Prim.Native.Nat.{ℕ, zero, suc, _+_, _*_, _/_, _%_, _^_, min, _≤_, _<_}
+use mathlib.Core.Path.{_≡_, refl, ap, _∙_}
+use mathlib.Core.Bool.{true, _&&_}
+use mathlib.Core.List.{List, [], _∷_, _++_, map}
+use Prim.Native.Nat.{ℕ, zero, suc, _+_, _*_, _^_, _≤_, _<_}
 use native.Mathlib.Omega.{arith}
 use native.Mathlib.Numerals.{one-add}
-use native.Mathlib.Nat.{add-assoc}
-use lib.Dec.{eqb, leb, ltb}
-use borrow.Author.Tests.{eq-eqb, ne-eqb, lt-ltb, le-leb, leb-true, eqb-true}
-use lib.ListN.{length, getD, take, drop, replicate, length-map, length-append, length-take, length-replicate, List·getD-append}
-use lib.Seq.{drop-append-add, take-at, drop-at, take-take}
+use lib.Dec.{eqb, leb}
+use borrow.Author.Tests.{eq-eqb, lt-ltb, le-leb, leb-true}
+use lib.ListN.{length, getD, take, drop, replicate, length-map, length-append, length-take, List·getD-append}
+use lib.Seq.{drop-append-add, take-at, take-take}
 use Rattle.lists.specs.Lists.{all, upFrom}
 use Rattle.lists.specs.Bools.{and-l, and-r, and-intro}
-use Rattle.lists.specs.Each.{All}
 use Rattle.lists.specs.UpFrom.{length-up, map-up, map-shift}
 use Rattle.semantics.specs.Words.{headKind, headNumber, headWord}
 use Rattle.semantics.specs.Table.{Table, ruleAt, consumed}
-use Rattle.semantics.specs.Move.{Move, react, commit, abort, isZero, picksUsed, headOk, moveOk, moveOf}
+use Rattle.semantics.specs.Move.{Move, react, commit, abort, isZero, moveOk, moveOf}
 use Rattle.semantics.specs.Log.{moveCount, logSizesOk, moveAt, movesOf, headOf, fourPicks, allPicks, logWords}
 
 abbrev pub moveWords : Move → List ℕ

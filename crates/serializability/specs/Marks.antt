@@ -1,28 +1,28 @@
 -- What a move does to owners and member marks: where an owner comes from, and that a mark stays at its origin, under the merged transaction.
 use mathlib.Core.Path.{_≡_, refl, sym, ap, subst, _∙_}
-use mathlib.Core.Bool.{Bool, true, false, cond, not, _&&_, _||_, true≢false, false≢true}
+use mathlib.Core.Bool.{Bool, true, false, cond, true≢false, false≢true}
 use mathlib.Core.Logic.{_⊎_, inl, inr}
-use mathlib.Core.Option.{Option, none, some}
-use mathlib.Core.List.{List, [], _∷_, _++_, map, nil≢cons, cons≢nil}
-use Prim.Native.Nat.{ℕ, zero, suc, _+_, _≤_, _<_}
+use mathlib.Core.Option.{none, some}
+use mathlib.Core.List.{List, [], _∷_, map, nil≢cons}
+use Prim.Native.Nat.{ℕ, suc, _<_}
 use native.Mathlib.Omega.{arith}
 use lib.Dec.{eqb}
 use borrow.Author.Tests.{eqb-true, eq-eqb, ne-eqb}
 use Rattle.lists.specs.Lists.{all, isEmpty, isIn, least}
 use Rattle.lists.specs.Bools.{by-bool, clash, is-false, and-l, and-r}
-use Rattle.lists.specs.Members.{isIn-head, isIn-cases, isIn-one}
+use Rattle.lists.specs.Members.{isIn-cases}
 use Rattle.lists.specs.Each.{head-eq, tail-eq}
 use Rattle.semantics.specs.Table.{Table, Rule, ruleAt, consumed, productAtoms, begins}
 use Rattle.semantics.specs.State.{Origin, Entry, isMessage, isMemberMark, owned}
-use Rattle.semantics.specs.Move.{Move, react, commit, abort, merged, valueIn, kindMade, toGlobal}
+use Rattle.semantics.specs.Move.{Move, react, commit, abort, merged, valueIn, kindMade}
 use Rattle.semantics.specs.Serial.{isEnd}
 use Rattle.semantics.specs.declared.Atom.{Atom}
-use Rattle.serializability.specs.Base.{orElse, bindO, isInO, look, some-inj, none-some, is-none, found-at, same-refl}
+use Rattle.serializability.specs.Base.{orElse, bindO, isInO, look, some-inj, none-some, found-at, same-refl}
 use Rattle.serializability.specs.View.{ports-messages}
-use Rattle.serializability.specs.Rules.{Shape, plain, begin, inner, Sound, owners, touchedBy, touched-plain, touched-inner, make}
+use Rattle.serializability.specs.Rules.{Shape, plain, begin, inner, Sound, owners, touched-plain, touched-inner, make}
 use Rattle.serializability.specs.Key.{Deed, begun}
-use Rattle.serializability.specs.Cells.{Cells, apply, Source, apply-inv}
-use Rattle.serializability.specs.Actions.{Seen, strip, received, left, endAction, actionBy, actionOf, astep, markOf, EndTests, Tests, Ok, product-of, left-result, in-one, end-local}
+use Rattle.serializability.specs.Cells.{Cells, apply, Source}
+use Rattle.serializability.specs.Actions.{Seen, strip, left, endAction, actionBy, markOf, EndTests, Tests, Ok, product-of, left-result, in-one, end-local}
 use Rattle.serializability.specs.Link.{Mark}
 
 -- ---- where an owner comes from

@@ -1,20 +1,20 @@
 -- What an allowed move leaves, as a function of the origin; and what it is to be allowed.
 use mathlib.Core.Path.{_≡_, refl, sym, ap, subst, _∙_}
-use mathlib.Core.Bool.{Bool, true, false, cond, not, _&&_, _||_, true≢false, false≢true}
+use mathlib.Core.Bool.{Bool, true, false, cond, not, _&&_, _||_}
 use mathlib.Core.Option.{Option, none, some}
 use mathlib.Core.List.{List, [], _∷_, _++_, map}
-use Prim.Native.Nat.{ℕ, zero, suc, _+_, _≤_, _<_}
+use Prim.Native.Nat.{ℕ, suc, _+_, _<_}
 use native.Mathlib.Omega.{arith}
-use lib.Dec.{eqb, ltb}
+use lib.Dec.{eqb}
 use borrow.Author.Tests.{eqb-true, eq-eqb}
 use lib.ListN.{length}
-use Rattle.lists.specs.Lists.{all, any, distinct, least, without, keep}
-use Rattle.lists.specs.Bools.{is-false, and-l, and-r, and-intro}
+use Rattle.lists.specs.Lists.{distinct, least, without, keep}
+use Rattle.lists.specs.Bools.{is-false, and-l, and-r}
 use Rattle.lists.specs.Each.{All}
-use Rattle.semantics.specs.Table.{Table, Rule, ruleAt, consumed, productAtoms, begins}
-use Rattle.semantics.specs.State.{Origin, Entry, State, isMessage, isCompensation, owned}
-use Rattle.semantics.specs.Move.{Move, react, commit, abort, unless, both, picked, onPorts, picksOk, ownersAt, ownersFit, hasId, merged, reactAllowed, reacted, isOpen, entriesIn, mayCommit, mayAbort, toGlobal, freed, ended, allowed, applied, Stepped, to, refused, steppedBy, step}
-use Rattle.semantics.specs.Serial.{originsOf, sameOrigin, stateOr, after}
+use Rattle.semantics.specs.Table.{Table, Rule, ruleAt, consumed, productAtoms}
+use Rattle.semantics.specs.State.{Origin, Entry, State, owned}
+use Rattle.semantics.specs.Move.{Move, react, commit, abort, unless, both, picked, onPorts, picksOk, ownersAt, ownersFit, hasId, merged, reacted, isOpen, mayCommit, mayAbort, toGlobal, freed, ended, allowed, applied, step}
+use Rattle.semantics.specs.Serial.{originsOf, sameOrigin, after}
 use Rattle.semantics.specs.declared.Atom.{Atom}
 use Rattle.semantics.specs.declared.Refusal.{Refusal}
 use Rattle.semantics.specs.declared.Verdict.{Verdict}

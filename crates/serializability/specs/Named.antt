@@ -1,29 +1,28 @@
 -- In every state of a log a transaction's id is the smallest of its members' ids.
 use mathlib.Core.Path.{_≡_, refl, sym, ap, subst, _∙_}
-use mathlib.Core.Bool.{Bool, true, false, cond, not, _&&_, _||_, true≢false, false≢true}
+use mathlib.Core.Bool.{Bool, true, false, cond, false≢true}
 use mathlib.Core.Logic.{_⊎_, inl, inr}
 use mathlib.Core.Option.{Option, none, some}
-use mathlib.Core.List.{List, [], _∷_, _++_, map}
-use Prim.Native.Nat.{ℕ, zero, suc, _+_, _≤_, _<_}
+use mathlib.Core.List.{List, [], _∷_, map}
+use Prim.Native.Nat.{ℕ, _≤_, _<_}
 use native.Mathlib.Omega.{arith}
 use lib.Dec.{eqb, ltb}
-use borrow.Author.Tests.{eqb-true, eqb-false, eq-eqb, ne-eqb, ltb-true}
+use borrow.Author.Tests.{eqb-true, eqb-false, eq-eqb, ne-eqb}
 use lib.ListN.{length}
 use Rattle.lists.specs.Lists.{all, isIn, least, keep}
-use Rattle.lists.specs.Bools.{by-bool, clash, is-false, and-l, and-r}
+use Rattle.lists.specs.Bools.{by-bool, clash, is-false}
 use Rattle.lists.specs.Members.{isIn-head, isIn-cons, isIn-cases, least-pos, least-le, least-is}
 use Rattle.lists.specs.Each.{All}
-use Rattle.semantics.specs.Table.{Table, Rule, ruleAt, consumed, productAtoms, begins}
+use Rattle.semantics.specs.Table.{Rule, consumed, productAtoms, begins}
 use Rattle.semantics.specs.State.{Origin, Entry, State, isMessage, isMemberMark, owned, markValues}
-use Rattle.semantics.specs.Move.{Move, react, commit, abort, picked, ownersAt, merged, valueIn, kindMade, reacted, toGlobal, entriesIn, ended, allowed, applied}
+use Rattle.semantics.specs.Move.{picked, ownersAt, merged, valueIn, kindMade, reacted, toGlobal, entriesIn, ended}
 use Rattle.semantics.specs.Serial.{originsOf, sameOrigin}
 use Rattle.semantics.specs.declared.Atom.{Atom}
-use Rattle.semantics.specs.declared.Verdict.the-variants.{Allowed}
 use Rattle.serializability.specs.Base.{orElse, omap, bindO, isInO, look, some-inj, none-some, look-all, found-at, same-refl}
 use Rattle.serializability.specs.View.{Uniq, look-head, look-deeper, uniq-keep, look-kept, kept-look, ports-messages, ports-range, picks-found}
-use Rattle.serializability.specs.Rules.{Shape, plain, begin, inner, Sound, owners, values, touchedBy, touched-plain, touched-begin, touched-inner, make, make-all, make-kinds, kinds-plain, kinds-inner, kinds-rest, kind-weaken, merged-in, merged-other}
+use Rattle.serializability.specs.Rules.{Shape, plain, begin, inner, values, touchedBy, touched-plain, touched-inner, make, make-all, make-kinds, kinds-plain, kinds-inner, kinds-rest, kind-weaken, merged-in, merged-other}
 use Rattle.serializability.specs.Actions.{left}
-use Rattle.serializability.specs.Moves.{productsOf, look-reacted, ofKind, look-ended, ReactPasses, react-passes}
+use Rattle.serializability.specs.Moves.{productsOf, look-reacted, ofKind, look-ended, ReactPasses}
 use Rattle.serializability.specs.Marks.{owner-live}
 use Rattle.serializability.specs.Begun.{no-marks}
 

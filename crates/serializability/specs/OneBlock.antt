@@ -1,34 +1,29 @@
 -- Each begin and each reaction made in transactions shares a member with exactly one commit or abort of the log, which stands after it; and each member
 -- that a commit or abort ends was begun by a move before it.
 use mathlib.Core.Path.{_≡_, refl, sym, ap, subst, _∙_}
-use mathlib.Core.Bool.{Bool, true, false, cond, not, _&&_, _||_, true≢false, false≢true}
-use mathlib.Core.Logic.{_⊎_, inl, inr}
-use mathlib.Core.Option.{Option, none, some}
-use mathlib.Core.List.{List, [], _∷_, _++_, map, append-assoc}
-use Prim.Native.Nat.{ℕ, zero, suc, _+_, _≤_, _<_}
+use mathlib.Core.Bool.{Bool, true, false, not, _&&_}
+use mathlib.Core.Option.{none}
+use mathlib.Core.List.{List, [], _∷_, _++_, append-assoc}
+use Prim.Native.Nat.{ℕ, suc, _+_, _≤_, _<_}
 use native.Mathlib.Omega.{arith}
-use lib.Dec.{eqb, ltb}
-use borrow.Author.Tests.{eqb-true, eqb-false, eq-eqb, ne-eqb, ltb-true}
+use lib.Dec.{eqb}
+use borrow.Author.Tests.{eqb-true, eqb-false, ne-eqb}
 use lib.ListN.{length}
-use Rattle.lists.specs.Lists.{any, isEmpty, isIn, count, oneIf, least}
-use Rattle.lists.specs.Bools.{by-bool, clash, is-false, and-l, and-r, and-intro, or-r, not-true}
-use Rattle.lists.specs.Each.{All, All-map, any-found, count-same, count-append, count-none, count-map, any-intro, any-map}
-use Rattle.semantics.specs.Table.{Table, Rule, ruleAt, begins, productAtoms}
-use Rattle.semantics.specs.State.{Origin, Entry}
-use Rattle.semantics.specs.Move.{Move, react, commit, abort, kindMade, merged, toGlobal, valueIn}
-use Rattle.semantics.specs.Serial.{Act, isEnd, isInner, sameOrigin, belongsTo}
-use Rattle.semantics.specs.declared.Atom.{Atom}
-use Rattle.serializability.specs.Statement.{isBegin, endsMemberOf}
-use Rattle.serializability.specs.Base.{isInO, isInO-head, look, some-inj, none-some, look-origin, look-all, same-eq, omap, omap-some}
-use Rattle.serializability.specs.View.{look-map}
-use Rattle.serializability.specs.Rules.{Shape, plain, begin, inner, Sound, make, make-kinds, kinds-plain, kinds-inner, kinds-rest, kind-weaken}
-use Rattle.serializability.specs.Key.{Deed, begun, actOf, ender, keyOf, ender-ge, key-full}
-use Rattle.serializability.specs.Cells.{Source, apply-inv}
-use Rattle.serializability.specs.Actions.{Seen, strip, received, left, actionBy, actionOf, astep, Ok, in-one, one-in}
+use Rattle.lists.specs.Lists.{any, isEmpty, count, oneIf, least}
+use Rattle.lists.specs.Bools.{by-bool, is-false, and-l, and-r, not-true}
+use Rattle.lists.specs.Each.{All, any-found, count-same, count-append, count-none}
+use Rattle.semantics.specs.Table.{Table}
+use Rattle.semantics.specs.State.{Origin}
+use Rattle.semantics.specs.Serial.{isEnd, isInner, sameOrigin, belongsTo}
+use Rattle.serializability.specs.Statement.{endsMemberOf}
+use Rattle.serializability.specs.Base.{isInO, none-some}
+use Rattle.serializability.specs.Rules.{Sound}
+use Rattle.serializability.specs.Key.{Deed, actOf, ender-ge, key-full}
+use Rattle.serializability.specs.Actions.{Seen, received, astep, Ok, one-in}
 use Rattle.serializability.specs.Link.{Good}
-use Rattle.serializability.specs.Marks.{MarkAt, mark-gone, firstOf}
-use Rattle.serializability.specs.Fate.{LogStep, LogRuns, NoneOpen, next-good, key-bound}
-use Rattle.serializability.specs.Follow.{seenAfter, none-stay, none-after, log-rest, place-length, end-tests, ender-not}
+use Rattle.serializability.specs.Marks.{MarkAt, mark-gone}
+use Rattle.serializability.specs.Fate.{LogRuns, NoneOpen, next-good, key-bound}
+use Rattle.serializability.specs.Follow.{seenAfter, none-stay, none-after, log-rest, end-tests, ender-not}
 use Rattle.serializability.specs.Blocks.{shares, end-member, same-block}
 
 -- ---- one place of a log

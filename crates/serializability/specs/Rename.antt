@@ -1,23 +1,23 @@
 -- Cells under other ids: a list of entries with the same cells as a view, its owners renamed.
-use mathlib.Core.Path.{_≡_, refl, sym, ap, subst, _∙_}
-use mathlib.Core.Bool.{Bool, true, false, cond, not, _&&_, _||_, true≢false, false≢true}
-use mathlib.Core.Logic.{_⊎_, inl, inr}
+use mathlib.Core.Path.{_≡_, refl, sym, ap, _∙_}
+use mathlib.Core.Bool.{Bool, true, false, cond, _&&_}
+use mathlib.Core.Logic.{_⊎_, inl}
 use mathlib.Core.Option.{Option, none, some}
-use mathlib.Core.List.{List, [], _∷_, _++_, map}
-use Prim.Native.Nat.{ℕ, zero, suc, _+_, _≤_, _<_}
+use mathlib.Core.List.{List, [], _∷_, map}
+use Prim.Native.Nat.{ℕ, suc, _≤_, _<_}
 use native.Mathlib.Omega.{arith}
 use lib.Dec.{eqb, ltb}
-use borrow.Author.Tests.{eqb-true, eq-eqb, ne-eqb, ltb-true, lt-ltb}
+use borrow.Author.Tests.{eqb-true, eq-eqb, ltb-true, lt-ltb}
 use lib.ListN.{length}
 use Rattle.lists.specs.Lists.{all, isIn, least}
-use Rattle.lists.specs.Bools.{by-bool, and-l, and-r, and-intro}
+use Rattle.lists.specs.Bools.{and-l, and-r, and-intro}
 use Rattle.lists.specs.Members.{least-some, all-intro, all-use, isIn-unmap}
 use Rattle.lists.specs.Each.{All, head-eq, tail-eq}
 use Rattle.semantics.specs.State.{Origin, Entry, State, isMessage}
 use Rattle.semantics.specs.Move.{isZero, entryAt, onPorts, ownersFit, valueIn, kindMade}
 use Rattle.semantics.specs.Serial.{originsOf, placeOf}
 use Rattle.semantics.specs.declared.Atom.{Atom}
-use Rattle.serializability.specs.Base.{orElse, omap, bindO, look, some-inj, look-origin, omap-some}
+use Rattle.serializability.specs.Base.{orElse, omap, bindO, look, look-origin, omap-some}
 use Rattle.serializability.specs.View.{Uniq, place-found}
 use Rattle.serializability.specs.Rules.{owners, values, zeros, make}
 use Rattle.serializability.specs.Actions.{Seen, strip}

@@ -1,26 +1,23 @@
 -- The serial log: moves that are allowed on the cells one after another are accepted, each again on the entries of the same origins.
 use mathlib.Core.Path.{_≡_, refl, sym, ap, subst, _∙_}
-use mathlib.Core.Bool.{Bool, true, false, false≢true}
-use mathlib.Core.Logic.{_⊎_, inl, inr}
-use mathlib.Core.Option.{Option, none, some}
-use mathlib.Core.List.{List, [], _∷_, _++_, map}
-use Prim.Native.Nat.{ℕ, zero, suc, _+_, _≤_, _<_}
+use mathlib.Core.List.{List, [], _∷_, map}
+use Prim.Native.Nat.{ℕ, zero, suc, _+_, _<_}
 use native.Mathlib.Nat.{not-suc-le-zero}
 use native.Mathlib.Omega.{arith}
 use lib.ListN.{length, getD}
-use Rattle.lists.specs.Lists.{any, least, upFrom}
+use Rattle.lists.specs.Lists.{least, upFrom}
 use Rattle.lists.specs.Each.{All, All-map}
-use Rattle.semantics.specs.Table.{Table, ruleAt}
-use Rattle.semantics.specs.State.{Origin, Entry, State, markValues}
-use Rattle.semantics.specs.Move.{Move, react, commit, abort, picked, entriesIn, unless, both, reacted, ended, allowed, applied}
-use Rattle.semantics.specs.Serial.{Act, originsOf, marksIn, sameOrigin, valueAt, after, again, replayed, isEnd}
+use Rattle.semantics.specs.Table.{Table}
+use Rattle.semantics.specs.State.{Origin, State, markValues}
+use Rattle.semantics.specs.Move.{Move, react, commit, abort, picked, entriesIn, allowed, applied}
+use Rattle.semantics.specs.Serial.{Act, originsOf, marksIn, after, again, replayed}
 use Rattle.semantics.specs.declared.Verdict.the-variants.{Allowed}
-use Rattle.serializability.specs.Statement.{stateBefore, SameMembers, SameMove, reaction, committed, aborted, noMove}
+use Rattle.serializability.specs.Statement.{stateBefore, SameMove, reaction, committed, aborted, noMove}
 use Rattle.serializability.specs.Base.{isInO}
 use Rattle.serializability.specs.View.{Uniq}
 use Rattle.serializability.specs.Rules.{Sound}
-use Rattle.serializability.specs.Key.{Deed, touched, handled, deedAt, deeds, keyOf, picksBy, actOf}
-use Rattle.serializability.specs.Actions.{Seen, actionBy, astep, EndTests, Ok}
+use Rattle.serializability.specs.Key.{Deed, touched, handled, deeds, actOf}
+use Rattle.serializability.specs.Actions.{Seen, actionBy, astep, Ok}
 use Rattle.serializability.specs.Moves.{react-allowed, after-allowed}
 use Rattle.serializability.specs.Named.{smallest}
 use Rattle.serializability.specs.Rename.{Rel}

@@ -1,29 +1,29 @@
 -- A commit or abort that is allowed on the cells is allowed in a list with the same cells under other ids, under the smallest of its members' ids there.
 use mathlib.Core.Path.{_≡_, refl, sym, ap, subst, _∙_}
-use mathlib.Core.Bool.{Bool, true, false, cond, not, _&&_, _||_, true≢false, false≢true}
+use mathlib.Core.Bool.{Bool, true, false, cond, _||_, false≢true}
 use mathlib.Core.Logic.{_⊎_, inl, inr}
 use mathlib.Core.Option.{Option, none, some}
-use mathlib.Core.List.{List, [], _∷_, _++_, map}
-use Prim.Native.Nat.{ℕ, zero, suc, _+_, _≤_, _<_}
+use mathlib.Core.List.{List, [], _∷_, map}
+use Prim.Native.Nat.{ℕ, _≤_, _<_}
 use native.Mathlib.Omega.{arith}
-use lib.Dec.{eqb, ltb}
-use borrow.Author.Tests.{eqb-true, eqb-false, eq-eqb, ne-eqb, lt-ltb}
-use Rattle.lists.specs.Lists.{all, any, isIn, keep, least}
-use Rattle.lists.specs.Bools.{by-bool, clash, same-test, and-l, and-r, and-intro}
+use lib.Dec.{eqb}
+use borrow.Author.Tests.{eqb-true, eq-eqb, lt-ltb}
+use Rattle.lists.specs.Lists.{any, isIn, keep, least}
+use Rattle.lists.specs.Bools.{clash, same-test, and-l, and-r, and-intro}
 use Rattle.lists.specs.Members.{isIn-head, isIn-cons, isIn-cases, least-is}
 use Rattle.semantics.specs.Table.{Table}
 use Rattle.semantics.specs.State.{Origin, Entry, State, isAbortMark, isMemberMark, owned}
-use Rattle.semantics.specs.Move.{entryAt, toGlobal, isOpen, entriesIn, mayCommit, mayAbort, ended}
-use Rattle.semantics.specs.Serial.{originsOf, marksIn, sameOrigin, placeOf, valueAt}
+use Rattle.semantics.specs.Move.{toGlobal, isOpen, entriesIn, mayCommit, mayAbort, ended}
+use Rattle.semantics.specs.Serial.{marksIn, sameOrigin, valueAt}
 use Rattle.serializability.specs.Base.{orElse, orElse-none, omap, bindO, same-eq, isInO, isInO-head, isInO-cons, look, some-inj, none-some, found-at}
-use Rattle.serializability.specs.View.{Uniq, uniq-keep, place-found, look-any, all-look, look-kept, kept-look, origin-look, look-isIn}
+use Rattle.serializability.specs.View.{uniq-keep, place-found, look-any, all-look, look-kept, kept-look, origin-look, look-isIn}
 use Rattle.serializability.specs.Key.{Deed}
 use Rattle.serializability.specs.Cells.{apply}
 use Rattle.serializability.specs.Actions.{Seen, strip, left, endAction, markOf, EndTests, AllMarks, mayLeave, one-in}
 use Rattle.serializability.specs.Moves.{ofKind, look-ended, uniq-ended}
-use Rattle.serializability.specs.Link.{view, view-cell, Mark, left-strip, marked, marked-mark, mark-marked}
+use Rattle.serializability.specs.Link.{view-cell, Mark, left-strip, marked, marked-mark, mark-marked}
 use Rattle.serializability.specs.Marks.{end-live}
-use Rattle.serializability.specs.Named.{OwnMark, Named, named-ended, smallest}
+use Rattle.serializability.specs.Named.{OwnMark, named-ended}
 use Rattle.serializability.specs.Rename.{rename, Live, Rel, there, back-again, live-zero}
 
 -- a function on the origins of a list

@@ -1,35 +1,35 @@
 -- A reaction that is allowed on the cells is allowed in a list with the same cells under other ids, on the entries of the same origins; and its
 -- transaction has a new name.
 use mathlib.Core.Path.{_≡_, refl, sym, ap, subst, _∙_}
-use mathlib.Core.Bool.{Bool, true, false, cond, not, _&&_, _||_, true≢false, false≢true}
+use mathlib.Core.Bool.{Bool, true, false, cond, not, _||_, false≢true}
 use mathlib.Core.Logic.{_⊎_, inl, inr}
 use mathlib.Core.Option.{Option, none, some}
-use mathlib.Core.List.{List, [], _∷_, _++_, map}
-use Prim.Native.Nat.{ℕ, zero, suc, _+_, _≤_, _<_}
+use mathlib.Core.List.{List, [], _∷_, map}
+use Prim.Native.Nat.{ℕ, suc, _<_}
 use native.Mathlib.Omega.{arith}
 use lib.Dec.{eqb, ltb}
 use borrow.Author.Tests.{eqb-true, eqb-false, eq-eqb, ne-eqb}
 use lib.ListN.{length}
 use Rattle.lists.specs.Lists.{isIn, distinct, least}
 use Rattle.lists.specs.Bools.{by-bool, clash, is-false}
-use Rattle.lists.specs.Members.{isIn-head, isIn-one, least-in, least-some, least-pos, isIn-map, isIn-unmap}
+use Rattle.lists.specs.Members.{least-in, least-some, least-pos, isIn-map, isIn-unmap}
 use Rattle.lists.specs.Each.{All}
 use Rattle.semantics.specs.Table.{Table, Rule, ruleAt, consumed, productAtoms, begins}
 use Rattle.semantics.specs.State.{Origin, Entry, State}
-use Rattle.semantics.specs.Move.{react, entryAt, picked, onPorts, ownersAt, ownersFit, hasId, merged, reacted}
+use Rattle.semantics.specs.Move.{react, picked, onPorts, ownersAt, ownersFit, merged, reacted}
 use Rattle.semantics.specs.Serial.{originsOf}
-use Rattle.serializability.specs.Base.{orElse, omap, bindO, isInO, distinctO, look, some-inj, none-some, is-none}
+use Rattle.serializability.specs.Base.{orElse, omap, bindO, isInO, distinctO, look, none-some, is-none}
 use Rattle.serializability.specs.View.{look-map, ports-messages, picks-distinct}
 use Rattle.serializability.specs.Rules.{Shape, plain, begin, inner, Sound, owners, values, touchedBy, touched-plain, touched-begin, touched-inner, touched-merge, make}
-use Rattle.serializability.specs.Key.{Deed, begun}
-use Rattle.serializability.specs.Cells.{apply, Source, apply-inv}
-use Rattle.serializability.specs.Actions.{Seen, strip, received, reactAction, actionBy, astep, later, Tests, Ok, product-of}
+use Rattle.serializability.specs.Key.{Deed}
+use Rattle.serializability.specs.Cells.{apply, apply-inv}
+use Rattle.serializability.specs.Actions.{Seen, strip, received, reactAction, actionBy, later, Tests}
 use Rattle.serializability.specs.Commute.{values-found}
 use Rattle.serializability.specs.Moves.{productsOf, look-reacted, uniq-reacted, ReactPasses}
 use Rattle.serializability.specs.Link.{view, view-cell, cell-eq}
 use Rattle.serializability.specs.Marks.{From, came, owner-live}
 use Rattle.serializability.specs.Fate.{later-le}
-use Rattle.serializability.specs.Named.{Named, named-react}
+use Rattle.serializability.specs.Named.{named-react}
 use Rattle.serializability.specs.Rename.{rename, Live, Rel, ports-rename, owners-rename, values-rename, fit-rename, make-rename, cell-rename, back-again, nowAt, picked-again, live-zero}
 
 abbrev pub upd : (ℕ → ℕ) → ℕ → ℕ → ℕ → ℕ

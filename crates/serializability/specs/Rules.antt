@@ -1,17 +1,17 @@
 -- What the table check, with no begin that emits, gives of a rule; the transactions that a reaction touches; its products, all of one owner.
 use mathlib.Core.Path.{_≡_, refl, sym, ap, subst, _∙_}
-use mathlib.Core.Bool.{Bool, true, false, cond, not, _&&_, _||_, true≢false, false≢true}
-use mathlib.Core.List.{List, [], _∷_, _++_, map}
-use Prim.Native.Nat.{ℕ, zero, suc, _+_, _≤_, _<_}
+use mathlib.Core.Bool.{Bool, true, false, cond, _&&_, _||_}
+use mathlib.Core.List.{List, [], _∷_, map}
+use Prim.Native.Nat.{ℕ, suc, _≤_}
 use native.Mathlib.Omega.{arith}
 use lib.Dec.{eqb, leb, ltb}
-use borrow.Author.Tests.{eqb-true, eqb-false, eq-eqb, ne-eqb, leb-true}
-use Rattle.lists.specs.Lists.{all, any, isEmpty, isIn, count, least}
-use Rattle.lists.specs.Bools.{by-bool, clash, is-false, and-l, and-r, and-intro, or-cases, or-r}
-use Rattle.lists.specs.Members.{isIn-head, isIn-cons, isIn-one, least-in, least-some, all-use, all-intro, all-not}
+use borrow.Author.Tests.{eqb-true, ne-eqb, leb-true}
+use Rattle.lists.specs.Lists.{all, isEmpty, isIn, count, least}
+use Rattle.lists.specs.Bools.{by-bool, clash, and-l, and-intro}
+use Rattle.lists.specs.Members.{isIn-one, least-in, all-use, all-intro, all-not}
 use Rattle.lists.specs.Each.{All, All-map, All-of}
 use Rattle.semantics.specs.Table.{Table, Rule, ruleAt, hasRole, consumed, productAtoms, begins}
-use Rattle.semantics.specs.State.{Origin, Entry, State}
+use Rattle.semantics.specs.State.{Entry, State}
 use Rattle.semantics.specs.Move.{isZero, ownersFit, merged, valueIn, kindMade, ownerMade, made, products}
 use Rattle.semantics.specs.declared.Atom.{Atom}
 

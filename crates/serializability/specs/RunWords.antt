@@ -1,29 +1,29 @@
 -- A run of words is a run of the moves in them, and the other way for moves that words can hold; the moves of an accepted log can be held.
 use mathlib.Core.Path.{_≡_, refl, sym, ap, subst, _∙_}
 use mathlib.Core.Bool.{Bool, true, false, cond, not, _&&_, _||_, false≢true}
-use mathlib.Core.List.{List, [], _∷_, _++_, map}
-use Prim.Native.Nat.{ℕ, zero, suc, _+_, _≤_, _<_}
+use mathlib.Core.List.{List, [], _∷_, map}
+use Prim.Native.Nat.{ℕ, zero, suc, _≤_, _<_}
 use native.Mathlib.Omega.{arith}
 use lib.Dec.{eqb, leb, ltb}
 use borrow.Author.Tests.{eqb-true, leb-true, le-leb, ltb-true}
 use lib.ListN.{length, getD, take, drop, length-map}
 use Rattle.lists.specs.Lists.{all, any, keep, keepIf, isIn, least, without}
-use Rattle.lists.specs.Bools.{by-bool, and-l, and-r, and-intro}
-use Rattle.lists.specs.Members.{least-in, all-use, all-intro}
-use Rattle.lists.specs.Each.{All, All-map, all-append, all-without, any-found, All-of}
+use Rattle.lists.specs.Bools.{and-l, and-r, and-intro}
+use Rattle.lists.specs.Members.{least-in, all-use}
+use Rattle.lists.specs.Each.{All, all-append, all-without, any-found, All-of}
 use Rattle.semantics.specs.Words.{headKind, headNumber}
-use Rattle.semantics.specs.Table.{Table, Rule, ruleAt, consumed, productAtoms, begins}
+use Rattle.semantics.specs.Table.{Table, Rule, ruleAt, consumed, productAtoms}
 use Rattle.semantics.specs.State.{Entry, State, isMessage, isCompensation, owned}
-use Rattle.semantics.specs.Move.{Move, react, commit, abort, isZero, picksUsed, headOk, moveOk, moveOf, nothing, entryAt, picked, onPorts, ownersAt, ownersFit, hasId, merged, products, reacted, toGlobal, freed, isOpen, ended, allowed, applied, Stepped, to, refused, steppedBy, step, within, stepWords}
+use Rattle.semantics.specs.Move.{Move, react, commit, abort, isZero, picksUsed, headOk, moveOk, moveOf, nothing, entryAt, picked, onPorts, ownersAt, hasId, merged, products, reacted, toGlobal, freed, isOpen, ended, allowed, applied, to, refused, steppedBy, step, within, stepWords}
 use Rattle.semantics.specs.Log as Log
-use Rattle.semantics.specs.Log.{Ran, stopped, onward, run}
+use Rattle.semantics.specs.Log.{stopped, onward, run}
 use Rattle.semantics.specs.Serial.{Act, after, again, replayed, along, fits}
 use Rattle.semantics.specs.declared.Refusal.{Refusal}
 use Rattle.semantics.specs.declared.Refusal.the-variants.{MoveForm, TooManyEntries}
 use Rattle.semantics.specs.declared.Verdict.{Verdict}
 use Rattle.semantics.specs.declared.Verdict.the-variants.{Allowed, Denied}
 use Rattle.serializability.specs.Statement.{Accepted}
-use Rattle.serializability.specs.Rules.{Shape, plain, begin, inner, Sound, owners, values, touchedBy, touched-plain, touched-begin, touched-inner, make, make-all, products-make}
+use Rattle.serializability.specs.Rules.{Shape, plain, begin, inner, Sound, values, touchedBy, touched-plain, touched-begin, touched-inner, make-all, products-make}
 use Rattle.serializability.specs.Moves.{after-allowed, ReactPasses, react-passes, commit-passes, abort-passes}
 use Rattle.serializability.specs.LogWords.{moveWords, Holdable, words-ok, words-back}
 

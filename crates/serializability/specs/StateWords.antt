@@ -1,17 +1,16 @@
 -- A state that passes its check and has no open transaction is a start: numbered origins, global messages alone.
-use mathlib.Core.Path.{_≡_, refl, sym, ap, subst, _∙_}
-use mathlib.Core.Bool.{Bool, true, false, not, _&&_, _||_, false≢true}
-use mathlib.Core.List.{List, [], _∷_, map}
-use Prim.Native.Nat.{ℕ, zero, suc, _+_, _*_, _≤_, _<_}
-use native.Mathlib.Omega.{arith}
+use mathlib.Core.Path.{_≡_, refl, sym, ap, _∙_}
+use mathlib.Core.Bool.{Bool, true, false, not, _&&_, _||_}
+use mathlib.Core.List.{List, [], _∷_}
+use Prim.Native.Nat.{ℕ, suc, _+_, _*_, _≤_}
 use lib.Dec.{eqb, leb, ltb}
 use borrow.Author.Tests.{leb-true}
 use lib.ListN.{length}
 use Rattle.lists.specs.Lists.{all, any, distinct}
 use Rattle.lists.specs.Bools.{and-l, and-r, and-intro, or-l-false, or-r-false, not-false}
 use Rattle.semantics.specs.Table.{sizesOf}
-use Rattle.semantics.specs.State.{Entry, State, isMessage, owned, entryCount, nextOf, ownersOf, itemsOf, entriesOf, stateOf, stateSizesOk, globalOk, messageOk, compensationOk, abortMarkOk, memberMarkOk, entryOk, markValues, ownerOk, entriesOk}
-use Rattle.semantics.specs.Move.{unless, both}
+use Rattle.semantics.specs.State.{Entry, isMessage, owned, entryCount, nextOf, ownersOf, itemsOf, entriesOf, stateOf, stateSizesOk, globalOk, messageOk, compensationOk, abortMarkOk, memberMarkOk, entryOk, markValues, ownerOk, entriesOk}
+use Rattle.semantics.specs.Move.{unless}
 use Rattle.semantics.specs.Serial.{anyOpen}
 use Rattle.semantics.specs.Answers.{tableVerdict, stateOwnVerdict, stateVerdict}
 use Rattle.semantics.specs.declared.Sizes.{Sizes}

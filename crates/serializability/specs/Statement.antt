@@ -1,7 +1,7 @@
 -- Demand 3: what is promised of every accepted log and its serial log. To believe it, only this file and the definitions of the crate `semantics`
 -- must be believed; all else in this crate is its proof (Demand3.antt has the theorem, Instances.antt applies it to 01's cases).
 use Prim.Native.Nat.{ℕ, zero, suc, _+_, _*_, _≤_, _<_}
-use mathlib.Core.Bool.{Bool, true, false, _&&_, _||_, not, cond}
+use mathlib.Core.Bool.{Bool, true, false, _&&_, not, cond}
 use mathlib.Core.List.{List, [], _∷_, _++_, map}
 use mathlib.Core.Path.{_≡_}
 use lib.Dec.{eqb}
@@ -10,11 +10,10 @@ use Rattle.lists.specs.Lists.{all, any, keep, count, least, upFrom}
 use Rattle.semantics.specs.Table.{Table, ruleAt, begins, tableOf}
 use Rattle.semantics.specs.State.{Origin, Entry, State, owned, markValues, stateOf, stateWords}
 use Rattle.semantics.specs.Move.{Move, react, commit, abort, picked, entriesIn, allowed, applied, moveOf}
-use Rattle.semantics.specs.Log.{moveCount, movesOf, logSizesOk, logWords, Ran, ended}
+use Rattle.semantics.specs.Log.{moveCount, movesOf, logSizesOk, logWords, ended}
 use Rattle.semantics.specs.Serial.{beginsEmit, anyOpen, Act, originsOf, marksIn, after, acts, isEnd, isInner, sameOrigin, belongsTo, ordered, serial, along, fits}
-use Rattle.semantics.specs.Answers.{stateVerdict, runOf, serialOf, Result, write, refuse, runResult, serialResult}
+use Rattle.semantics.specs.Answers.{stateVerdict, runOf, serialOf, write, refuse, runResult, serialResult}
 use Rattle.semantics.specs.declared.Refusal.the-variants.{SerialTooManyEntries}
-use Rattle.semantics.specs.declared.Verdict.{Verdict}
 use Rattle.semantics.specs.declared.Verdict.the-variants.{Allowed}
 
 -- ---- the words of demand 3

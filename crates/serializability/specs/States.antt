@@ -1,10 +1,10 @@
 -- The states before the moves of the log and of the serial log: no two entries have the same origin, and the serial log's states are those along it but
 -- for the origins.
 use mathlib.Core.Path.{_≡_, refl, sym, ap, subst, _∙_}
-use mathlib.Core.Bool.{Bool, true, false, cond, not, _&&_, _||_}
-use mathlib.Core.Option.{Option, none, some}
+use mathlib.Core.Bool.{Bool, true, false, cond}
+use mathlib.Core.Option.{none, some}
 use mathlib.Core.List.{List, [], _∷_, _++_, map}
-use Prim.Native.Nat.{ℕ, zero, suc, _+_, _≤_, _<_}
+use Prim.Native.Nat.{ℕ, zero, suc, _+_, _≤_}
 use native.Mathlib.Omega.{arith}
 use lib.ListN.{length, getD, length-map}
 use Rattle.lists.specs.Lists.{count, oneIf, upFrom}
@@ -12,14 +12,14 @@ use Rattle.semantics.specs.Words.{itemWord}
 use Rattle.semantics.specs.Table.{Table}
 use Rattle.semantics.specs.State.{Origin, Entry, State, stateWords}
 use Rattle.semantics.specs.Move.{Move, allowed, applied, steppedBy, step}
-use Rattle.semantics.specs.Serial.{sameOrigin, stateOr, after, again, replayed, along}
+use Rattle.semantics.specs.Serial.{sameOrigin, stateOr, after, along}
 use Rattle.semantics.specs.declared.Verdict.{Verdict}
 use Rattle.semantics.specs.declared.Verdict.the-variants.{Allowed, Denied}
 use Rattle.serializability.specs.Statement.{Accepted, stateBefore}
 use Rattle.serializability.specs.Base.{look, none-some, same-eq}
 use Rattle.serializability.specs.View.{Uniq}
 use Rattle.serializability.specs.Rules.{Sound}
-use Rattle.serializability.specs.Key.{Deed, deedAt, actOf}
+use Rattle.serializability.specs.Key.{deedAt}
 use Rattle.serializability.specs.Actions.{Seen}
 use Rattle.serializability.specs.Moves.{after-allowed}
 use Rattle.serializability.specs.Link.{view, Good, sim}

@@ -1,26 +1,21 @@
 -- Two moves of a log that touch different transactions may change places: both stay allowed, and the result is the same.
-use mathlib.Core.Path.{_≡_, refl, sym, ap, subst, _∙_}
-use mathlib.Core.Bool.{Bool, true, false, cond, not, _&&_, _||_, true≢false, false≢true}
-use mathlib.Core.Logic.{_⊎_, inl, inr}
-use mathlib.Core.Option.{Option, none, some}
-use mathlib.Core.List.{List, [], _∷_, _++_, map}
-use Prim.Native.Nat.{ℕ, zero, suc, _+_, _≤_, _<_}
+use mathlib.Core.Path.{_≡_, sym, subst, _∙_}
+use mathlib.Core.Bool.{true, false, true≢false}
+use mathlib.Core.Option.{none, some}
+use mathlib.Core.List.{List, [], _∷_, map}
+use Prim.Native.Nat.{ℕ, suc, _≤_, _<_}
 use native.Mathlib.Omega.{arith}
-use lib.Dec.{ltb}
-use borrow.Author.Tests.{ltb-true, lt-ltb}
 use Rattle.lists.specs.Lists.{isIn, least}
 use Rattle.lists.specs.Bools.{clash, is-false}
-use Rattle.lists.specs.Each.{head-eq, tail-eq}
 use Rattle.semantics.specs.Table.{Table}
 use Rattle.semantics.specs.State.{Origin, Entry}
 use Rattle.semantics.specs.Move.{Move, react, commit, abort}
 use Rattle.semantics.specs.Serial.{isEnd}
-use Rattle.serializability.specs.Base.{orElse, bindO, isInO, look, some-inj, is-none, found-at, map-frame}
-use Rattle.serializability.specs.Rules.{values}
+use Rattle.serializability.specs.Base.{isInO, look, some-inj, found-at, map-frame}
 use Rattle.serializability.specs.Key.{Deed, begun}
-use Rattle.serializability.specs.Cells.{Cells, Action, apply, mine, Local, Inner, frame-keep, frame-from, frame-back, frame-lives, not-in, swap-cells}
+use Rattle.serializability.specs.Cells.{Cells, Action, apply, mine, Local, Inner, frame-keep, frame-back, frame-lives, not-in}
 use Rattle.serializability.specs.Commute.{Apart, room-down, room-up, gone-picked, ok-after, same-either}
-use Rattle.serializability.specs.Actions.{Seen, cellValue, received, actionBy, actionOf, astep, later, room, Tests, AllMarks, Whole, mayLeave, Ok, mine-in, one-in, act-local, act-inner}
+use Rattle.serializability.specs.Actions.{Seen, received, actionBy, actionOf, astep, Tests, AllMarks, Whole, Ok, one-in, act-local, act-inner}
 
 -- two moves of the log, the first of which may be made after the second
 pub record Swap (t : Table) (m x : Deed) : Type 0 where

@@ -1,21 +1,20 @@
 -- A table that passes its check, none of whose begins emits, has rules of the three sorts, with at most four consumes each.
 use mathlib.Core.Path.{_≡_, refl, sym, ap, subst, _∙_}
-use mathlib.Core.Bool.{Bool, true, false, cond, not, _&&_, _||_, true≢false, false≢true}
+use mathlib.Core.Bool.{Bool, true, false, not, _&&_, _||_, false≢true}
 use mathlib.Core.Logic.{_⊎_, inl, inr}
-use mathlib.Core.List.{List, [], _∷_, _++_, map}
+use mathlib.Core.List.{List, [], _∷_, map}
 use Prim.Native.Nat.{ℕ, zero, suc, _+_, _*_, _≤_, _<_}
-use native.Mathlib.Nat.{add-zero}
 use native.Mathlib.Omega.{arith}
 use lib.Dec.{eqb, leb, ltb}
-use borrow.Author.Tests.{eqb-true, eqb-false, eq-eqb, ne-eqb, leb-true, leb-false, le-leb, lt-leb, ltb-true, ltb-false, lt-ltb}
+use borrow.Author.Tests.{eqb-true, eqb-false, eq-eqb, ne-eqb, leb-true, leb-false, le-leb, ltb-true, ltb-false}
 use lib.ListN.{length, getD, length-map, List·getD-eq-default}
-use Rattle.lists.specs.Lists.{given, all, any, isEmpty, count, oneIf, keep, keepIf, risesFrom, allBelow, upFrom}
-use Rattle.lists.specs.Bools.{by-bool, clash, is-false, and-l, and-r, and-intro, or-cases, or-r, or-l-false, or-r-false, not-true}
+use Rattle.lists.specs.Lists.{all, any, isEmpty, count, oneIf, keep, keepIf, risesFrom, upFrom}
+use Rattle.lists.specs.Bools.{by-bool, clash, and-l, and-r, or-cases, or-l-false, or-r-false, not-true}
 use Rattle.lists.specs.Walk.{below-each}
 use Rattle.lists.specs.Each.{All, All-map, All-two, All-of, all-of, All-keep, All-unmap, any-none, any-found, count-none, count-zero, keep-map, any-map, count-map}
 use Rattle.lists.specs.UpFrom.{length-up, getD-up, rises-all}
 use Rattle.semantics.specs.Words.{atomRole, portOf}
-use Rattle.semantics.specs.Table.{sizesOf, numbersOf, atomWordsOf, ruleWords, classOf, sizesWithin, tableSizesOk, numbersOk, isRole, Shape, modeOk, consumeOk, emitOk, markOk, beginOk, innerOk, compensateOk, atomOk, shapeOf, ruleOk, rulesOk, tableContentsOk, atomOf, Rule, ruleOf, Table, tableOf, noRule, ruleAt, hasRole, consumed, productAtoms, begins, emits, portCount}
+use Rattle.semantics.specs.Table.{sizesOf, numbersOf, atomWordsOf, ruleWords, classOf, sizesWithin, tableSizesOk, numbersOk, isRole, Shape, modeOk, consumeOk, emitOk, markOk, beginOk, innerOk, compensateOk, atomOk, shapeOf, ruleOk, rulesOk, tableContentsOk, atomOf, Rule, ruleOf, tableOf, noRule, ruleAt, hasRole, consumed, productAtoms, begins, emits, portCount}
 use Rattle.semantics.specs.Move.{unless}
 use Rattle.semantics.specs.Serial.{beginsEmit}
 use Rattle.semantics.specs.Answers.{tableVerdict}

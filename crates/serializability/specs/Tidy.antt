@@ -1,25 +1,25 @@
 -- The global entries are messages, at every place of a log.
-use mathlib.Core.Path.{_≡_, refl, sym, ap, subst, _∙_}
-use mathlib.Core.Bool.{Bool, true, false, cond, not, _&&_, _||_, true≢false, false≢true}
-use mathlib.Core.Logic.{_⊎_, inl, inr}
+use mathlib.Core.Path.{_≡_, sym, ap, subst, _∙_}
+use mathlib.Core.Bool.{Bool, true, false, cond}
+use mathlib.Core.Logic.{inl, inr}
 use mathlib.Core.Option.{Option, none, some}
-use mathlib.Core.List.{List, [], _∷_, _++_, map}
-use Prim.Native.Nat.{ℕ, zero, suc, _+_, _≤_, _<_}
+use mathlib.Core.List.{List, [], _∷_, map}
+use Prim.Native.Nat.{ℕ, suc}
 use lib.Dec.{eqb}
 use borrow.Author.Tests.{eqb-true}
-use Rattle.lists.specs.Lists.{isIn, least, all}
+use Rattle.lists.specs.Lists.{isIn, least}
 use Rattle.lists.specs.Bools.{by-bool, clash}
-use Rattle.lists.specs.Members.{isIn-head, least-some, least-full}
+use Rattle.lists.specs.Members.{least-some, least-full}
 use Rattle.semantics.specs.Table.{Table, ruleAt, consumed, productAtoms}
 use Rattle.semantics.specs.State.{Origin, Entry, owned}
-use Rattle.semantics.specs.Move.{Move, react, commit, abort, merged, toGlobal}
+use Rattle.semantics.specs.Move.{Move, react, commit, abort, toGlobal}
 use Rattle.serializability.specs.Base.{look, some-inj, none-some, look-all}
 use Rattle.serializability.specs.Rules.{Shape, plain, begin, inner, Sound, owners, touched-begin, touched-inner, make, make-kinds, kinds-plain, merged-in, merged-other}
 use Rattle.serializability.specs.Key.{Deed}
 use Rattle.serializability.specs.Cells.{Cells, Source, apply-inv}
 use Rattle.serializability.specs.Actions.{Seen, strip, received, left, actionBy, actionOf, astep, Tests, Ok, all-strip, product-of, one-in}
 use Rattle.serializability.specs.First.{ports-some}
-use Rattle.serializability.specs.Fate.{LogStep, LogRuns}
+use Rattle.serializability.specs.Fate.{LogRuns}
 
 unfoldable pub Tidy : Cells → Type 0
 Tidy f = (o : Origin) (e : Entry) → f o ≡ some e → e .owner ≡ 0 → e .kind ≡ 0

@@ -3,19 +3,19 @@ use mathlib.Core.Path.{_≡_, refl, sym, ap, subst, _∙_}
 use mathlib.Core.Bool.{Bool, true, false, cond, not, _&&_, _||_, true≢false, false≢true}
 use mathlib.Core.Option.{Option, none, some}
 use mathlib.Core.List.{List, [], _∷_, _++_, map}
-use Prim.Native.Nat.{ℕ, zero, suc, _+_, _≤_, _<_}
+use Prim.Native.Nat.{ℕ, zero, suc, _+_, _<_}
 use native.Mathlib.Nat.{add-zero, not-suc-le-zero}
 use native.Mathlib.Omega.{arith}
 use lib.Dec.{eqb, ltb}
 use borrow.Author.Tests.{eqb-true, eqb-false, ltb-true, ltb-false}
 use lib.ListN.{length, List·getD-eq-default}
 use Rattle.lists.specs.Lists.{all, any, isIn, keep, keepIf, distinct, without}
-use Rattle.lists.specs.Bools.{by-bool, clash, is-false, and-l, and-r, and-intro, or-r}
+use Rattle.lists.specs.Bools.{by-bool, is-false, and-l, and-r, and-intro, or-r}
 use Rattle.lists.specs.Each.{All}
 use Rattle.semantics.specs.State.{Origin, Entry, isMessage}
 use Rattle.semantics.specs.Move.{nothing, entryAt, onPorts}
 use Rattle.semantics.specs.Serial.{originsOf, sameOrigin, placeOf}
-use Rattle.serializability.specs.Base.{orElse, orElse-none, omap, bindO, same-refl, same-eq, isInO, distinctO, look, some-inj, none-some, look-origin}
+use Rattle.serializability.specs.Base.{orElse, omap, bindO, same-refl, same-eq, isInO, distinctO, look, some-inj, none-some, look-origin}
 
 pub look-append : (o : Origin) (l r : List Entry) → look o (l ++ r) ≡ orElse (look o l) (look o r)
 look-append o [] r = refl
