@@ -58,7 +58,6 @@ values-found f [] (e ∷ es) h = cc
 values-found f (o ∷ os) [] h = cc
 values-found f (o ∷ os) (e ∷ es) h = let p = head-eq h in rw (p, values-found f os es (tail-eq h))
 
-
 -- m after x
 module _ (t : Table) (F : Seen) (m x : Deed) (P : Apart m x) (km : Ok t F m) (kx : Ok t F x) where
   pub B : Action

@@ -244,9 +244,12 @@ module _ (t : Table) (i k : ℕ) (s : State) (b : ℕ) (u : Uniq (s .entries)) (
       roomy = refl;
       fresh = fresh-end;
       unused = λ h. absurd (false≢true h);
-      whole = ((λ o e h q. let v = view-some s o e h in
-          subst (λ (x : Entry). mayLeave t x ≡ true) (v .2)
-          (look-all (mayLeave t) o (entriesIn b s) may (look-kept (owned b) o (s .entries) (v .0) u (v .1) (eq-eqb (v .0 .owner) b (ap (λ (x : Entry). x .owner) (v .2) ∙ q))))), all-marks);
+      whole = (
+        (λ o e h q. let v = view-some s o e h in
+            subst (λ (x : Entry). mayLeave t x ≡ true) (v .2)
+            (look-all (mayLeave t) o (entriesIn b s) may (look-kept (owned b) o (s .entries) (v .0) u (v .1) (eq-eqb (v .0 .owner) b (ap (λ (x : Entry). x .owner) (v .2) ∙ q))))),
+        all-marks,
+      );
     };
     tick = λ h. absurd (false≢true h);
     same-cells = λ j. record { next = s .next; cell = fun-ext (cells-end 0 (omega arith)) j };

@@ -123,13 +123,12 @@ firstOf i = record { maker = suc i; index = 0 }
 pub begin-mark : (R : Rule) → Shape R → begins R ≡ true → (i w : ℕ) (vs : List ℕ) → (e : Entry) × (look (firstOf i) (map strip (make (suc i) w vs 0 (productAtoms R))) ≡ some e) × (e .kind ≡ 3) × (e .owner ≡ w)
 begin-mark R (plain c b h) n i w vs = absurd (clash n b)
 begin-mark R (inner c b h k) n i w vs = absurd (clash n b)
-begin-mark R (begin c b h m rest q z k) n i w vs = subst (λ (l : List Atom). (e : Entry) × (look (firstOf i) (map strip (make (suc i) w vs 0 l)) ≡ some e) × (e .kind ≡ 3) × (e .owner ≡ w)) (sym q)
-    (
-      strip (record { origin = firstOf i; owner = w; kind = kindMade (m .role); port = m .port; value = cond (eqb (m .role) 2) w (valueIn vs (m .value)) }),
-      rw (same-refl (firstOf i)),
-      ap kindMade z,
-      refl,
-    )
+begin-mark R (begin c b h m rest q z k) n i w vs = subst (λ (l : List Atom). (e : Entry) × (look (firstOf i) (map strip (make (suc i) w vs 0 l)) ≡ some e) × (e .kind ≡ 3) × (e .owner ≡ w)) (sym q) (
+  strip (record { origin = firstOf i; owner = w; kind = kindMade (m .role); port = m .port; value = cond (eqb (m .role) 2) w (valueIn vs (m .value)) }),
+  rw (same-refl (firstOf i)),
+  ap kindMade z,
+  refl,
+)
 
 pub mark-made : (t : Table) → Sound t → (f : Cells) (a : Deed) (vs : List ℕ) (mv : Move) → begun t mv ≡ true → f (firstOf (a .place)) ≡ none
     → MarkAt (apply f (actionBy t (a .place) (a .picks) (a .touched) vs mv)) (firstOf (a .place)) (least (a .touched))

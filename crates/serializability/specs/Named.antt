@@ -109,14 +109,13 @@ module _ (R : Rule) (sh : Shape R) (i : ℕ) (s : State) (ps : List ℕ) (u : Un
       head : Shape R → (e : Entry) × (look mk new ≡ some e) × (e .kind ≡ 3) × (e .owner ≡ home) × (e .value ≡ home)
       head (plain c x h) = absurd (clash b x)
       head (inner c x h k) = absurd (clash b x)
-      head (begin c x h m rest q z k) = subst (λ (l : List Atom). (e : Entry) × (look mk (make i home (values es) 0 l) ≡ some e) × (e .kind ≡ 3) × (e .owner ≡ home) × (e .value ≡ home)) (sym q)
-          (
-            record { origin = mk; owner = home; kind = kindMade (m .role); port = m .port; value = cond (eqb (m .role) 2) home (valueIn (values es) (m .value)) },
-            rw (same-refl mk),
-            ap kindMade z,
-            refl,
-            rw z,
-          )
+      head (begin c x h m rest q z k) = subst (λ (l : List Atom). (e : Entry) × (look mk (make i home (values es) 0 l) ≡ some e) × (e .kind ≡ 3) × (e .owner ≡ home) × (e .value ≡ home)) (sym q) (
+        record { origin = mk; owner = home; kind = kindMade (m .role); port = m .port; value = cond (eqb (m .role) 2) home (valueIn (values es) (m .value)) },
+        rw (same-refl mk),
+        ap kindMade z,
+        refl,
+        rw z,
+      )
 
       made : (e : Entry) × (look mk new ≡ some e) × (e .kind ≡ 3) × (e .owner ≡ home) × (e .value ≡ home)
       made = head sh

@@ -87,14 +87,17 @@ module _ (t : Table) (F : Seen) (m x : Deed) (S : Swap t m x) (km : Ok t F m) (k
       go : (mv : Move) → Tests t x (kx .es) mv → Whole t f1 (least (x .touched)) (x .picks) mv → Whole t (F .cell) (least (x .touched)) (x .picks) mv
       go (react r ps) T w = tt
       go (commit b) T w = ((λ o e h k. w .0 o e (keep-x o e h (rw k (one-in (x .touched) (T .2)))) k), marks (T .2) (w .1))
-      go (abort b) T w = ((
-        w .0 .0,
-        w .0 .1,
-        frame-back (F .cell) A (m .touched) (m .place) LA IA (w .0 .0) (w .0 .1) (w .0 .2)
-            (is-false (isIn (w .0 .1 .owner) (m .touched)) (λ k. S .apart (w .0 .1 .owner) k (rw (w .0 .3) (one-in (x .touched) (T .2))))),
-        w .0 .3,
-        w .0 .4,
-      ), marks (T .2) (w .1))
+      go (abort b) T w = (
+        (
+          w .0 .0,
+          w .0 .1,
+          frame-back (F .cell) A (m .touched) (m .place) LA IA (w .0 .0) (w .0 .1) (w .0 .2)
+              (is-false (isIn (w .0 .1 .owner) (m .touched)) (λ k. S .apart (w .0 .1 .owner) k (rw (w .0 .3) (one-in (x .touched) (T .2))))),
+          w .0 .3,
+          w .0 .4,
+        ),
+        marks (T .2) (w .1),
+      )
 
   -- the second move is allowed first
   pub ok-x : Ok t F x

@@ -95,9 +95,15 @@ begin-first m (w ∷ ws) h a e c = go (λ a′. begin-first (atomRole w) ws up a
 
     go : (any (isRole 2) ws ≡ true → Found (keep makes ws)) → (x : Bool) → isRole 0 w ≡ x → (y : Bool) → isRole 2 w ≡ y → Found (keepIf (not x) w (keep makes ws))
     go ih true p y q = ih (later-one (let z = eqb-true (atomRole w) 0 p in ne-eqb (atomRole w) 2 (λ v. omega arith)))
-    go ih false p true q = (w, keep makes ws, refl, eqb-true (atomRole w) 2 q, All-keep (λ v. leb 3 (atomRole v) ≡ true) makes ws
-        (All-two {P = λ v. atomRole w ≤ atomRole v} {Q = λ v. isRole 2 v ≡ false} {R = λ v. makes v ≡ true → leb 3 (atomRole v) ≡ true}
-        (λ v l n k. let x = eqb-true (atomRole w) 2 q in let y = eqb-false (atomRole v) 2 n in le-leb 3 (atomRole v) (omega arith)) ws (rises-all atomRole (atomRole w) ws up) (count-zero (isRole 2) ws (let z = ap oneIf q in omega arith))))
+    go ih false p true q = (
+      w,
+      keep makes ws,
+      refl,
+      eqb-true (atomRole w) 2 q,
+      All-keep (λ v. leb 3 (atomRole v) ≡ true) makes ws
+          (All-two {P = λ v. atomRole w ≤ atomRole v} {Q = λ v. isRole 2 v ≡ false} {R = λ v. makes v ≡ true → leb 3 (atomRole v) ≡ true}
+          (λ v l n k. let x = eqb-true (atomRole w) 2 q in let y = eqb-false (atomRole v) 2 n in le-leb 3 (atomRole v) (omega arith)) ws (rises-all atomRole (atomRole w) ws up) (count-zero (isRole 2) ws (let z = ap oneIf q in omega arith))),
+    )
     go ih false p false q =
         let x = any-found (λ v. atomRole w ≤ atomRole v) (isRole 2) ws (later-one q) (rises-all atomRole (atomRole w) ws up) in
         let k0 = eqb-false (atomRole w) 0 p in let k1 = eqb-false (atomRole w) 1 (or-l-false (isRole 1 w) (any (isRole 1) ws) e) in let k2 = eqb-false (atomRole w) 2 q in
