@@ -1,6 +1,6 @@
 -- The moves of a log as actions on cells, and what allows them there.
 use mathlib.Core.Path.{_≡_, refl, sym, ap, subst, _∙_}
-use mathlib.Core.Bool.{Bool, true, false, cond, not, _&&_, _||_, true≢false}
+use mathlib.Core.Bool.{Bool, true, false, cond, not, _&&_, _||_, true≢false, false≢true}
 use mathlib.Core.Option.{Option, none, some}
 use mathlib.Core.List.{List, [], _∷_, map}
 use Prim.Native.Nat.{ℕ, suc}
@@ -104,6 +104,28 @@ pub record Ok (t : Table) (F : Seen) (a : Deed) : Type 0 where
   pub fresh : (o : Origin) → o .maker ≡ suc (a .place) → F .cell o ≡ none
   pub unused : begun t (a .move) ≡ true → (o : Origin) (e : Entry) → F .cell o ≡ some e → isIn (e .owner) (a .touched) ≡ false
   pub whole : Whole t (F .cell) (least (a .touched)) (a .picks) (a .move)
+
+-- the same of a commit or abort
+pub record EndOk (F : Seen) (a : Deed) : Type 0 where
+  pub es : List Entry
+  pub found : map (F .cell) (a .picks) ≡ map some es
+  pub marks : all (markOf (least (a .touched))) es ≡ true
+  pub some-mark : isEmpty es ≡ false
+  pub one : a .touched ≡ least (a .touched) ∷ []
+  pub members : a .members ≡ a .picks
+  pub noZero : isIn 0 (a .touched) ≡ false
+  pub all-marks : AllMarks (F .cell) (least (a .touched)) (a .picks)
+
+pub end-ok : (t : Table) (F : Seen) (a : Deed) → Ok t F a → isEnd (a .move) ≡ true → EndOk F a
+end-ok t F a k en = go (a .move) en (k .tests) (k .whole)
+  where
+    as-end : EndTests a (k .es) → AllMarks (F .cell) (least (a .touched)) (a .picks) → EndOk F a
+    as-end T w = record { es = k .es; found = k .found; marks = T .0; some-mark = T .1; one = T .2; members = T .3; noZero = k .noZero; all-marks = w }
+
+    go : (mv : Move) → isEnd mv ≡ true → Tests t a (k .es) mv → Whole t (F .cell) (least (a .touched)) (a .picks) mv → EndOk F a
+    go (react r ps) n T w = absurd (false≢true n)
+    go (commit b) n T w = as-end T (w .1)
+    go (abort b) n T w = as-end T (w .1)
 
 -- ---- the actions of moves stay in their transactions
 

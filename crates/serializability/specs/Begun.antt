@@ -21,7 +21,7 @@ use Rattle.serializability.specs.View.{look-map}
 use Rattle.serializability.specs.Rules.{Shape, plain, begin, inner, Sound, make, make-kinds, kinds-plain, kinds-inner, kinds-rest, kind-weaken}
 use Rattle.serializability.specs.Key.{Deed, begun}
 use Rattle.serializability.specs.Cells.{Cells, Source, apply-inv}
-use Rattle.serializability.specs.Actions.{Seen, strip, received, left, actionBy, actionOf, astep}
+use Rattle.serializability.specs.Actions.{Seen, strip, received, left, actionBy, actionOf, astep, end-ok}
 use Rattle.serializability.specs.Marks.{firstOf}
 use Rattle.serializability.specs.Link.{Good}
 use Rattle.serializability.specs.Fate.{LogRuns}
@@ -91,7 +91,7 @@ pub begun-before-of : (t : Table) → Sound t → (xs : List Deed) (F G : Seen) 
     → (o : Origin) → isInO o (a .members) ≡ true → begunIn t o xs ≡ true
 begun-before-of t sd xs F G a ys g none-yet r en o h =
     let k = log-rest t sd 0 F G xs (a ∷ ys) g r (0 + length xs) refl .0 .0 .ok in
-    let m = end-member t (seenAfter t F xs) a k en o h in
+    let m = end-member (seenAfter t F xs) a (end-ok t (seenAfter t F xs) a k en) o h in
     go (mark-source t sd xs 0 F G (a ∷ ys) r o (m .0) (m .1) (m .2))
   where
     go : ((c : Entry) × (F .cell o ≡ some c) × (c .kind ≡ 3)) ⊎ (begunIn t o xs ≡ true) → begunIn t o xs ≡ true

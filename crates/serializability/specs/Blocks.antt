@@ -1,6 +1,6 @@
 -- The serial order is the stable sort by key: a move has the key of a commit or abort if and only if they share a member.
 use mathlib.Core.Path.{_≡_, refl, sym, ap, subst, _∙_}
-use mathlib.Core.Bool.{Bool, true, false, cond, not, _&&_, true≢false, false≢true}
+use mathlib.Core.Bool.{Bool, true, false, cond, not, _&&_, true≢false}
 use mathlib.Core.Option.{some}
 use mathlib.Core.List.{List, [], _∷_, _++_, map, append-assoc, map-append}
 use Prim.Native.Nat.{ℕ, suc, _+_, _≤_, _<_}
@@ -12,38 +12,28 @@ use Rattle.lists.specs.Lists.{any, isEmpty, keep, keepIf, least}
 use Rattle.lists.specs.Bools.{by-bool, same-test, and-l, and-r}
 use Rattle.lists.specs.Each.{All, All-map, empty-nil, any-found, keep-append, keep-same, keep-none, keep-map}
 use Rattle.semantics.specs.Table.{Table}
-use Rattle.semantics.specs.State.{Origin, Entry}
-use Rattle.semantics.specs.Move.{Move, react, commit, abort}
+use Rattle.semantics.specs.State.{Origin, Entry, isMemberMark, owned}
 use Rattle.semantics.specs.Serial.{Act, isEnd, isInner, sameOrigin, belongsTo, block, ordered}
 use Rattle.serializability.specs.Base.{isInO, found-at}
 use Rattle.serializability.specs.Rules.{Sound}
 use Rattle.serializability.specs.Key.{Deed, actOf, ender, keyOf, ender-ge, key-full}
-use Rattle.serializability.specs.Cells.{Cells}
-use Rattle.serializability.specs.Actions.{Seen, astep, markOf, AllMarks, Whole, Ok}
+use Rattle.serializability.specs.Actions.{Seen, astep, markOf, EndOk, end-ok}
 use Rattle.serializability.specs.Link.{Good}
 use Rattle.serializability.specs.Marks.{MarkAt}
 use Rattle.serializability.specs.Fate.{LogRuns, NoneOpen, next-good, places, key-bound}
 use Rattle.serializability.specs.Sort.{isort, keyIs, arrange, arrange-isort}
-use Rattle.serializability.specs.Follow.{seenAfter, log-rest, place-length, end-tests, ender-not, follow, Follows}
+use Rattle.serializability.specs.Follow.{seenAfter, log-rest, place-length, ender-not, follow, Follows}
 
 -- x and a have a member in common
 abbrev pub shares : Deed → Deed → Bool
 shares x a = any (λ o. any (sameOrigin o) (a .members)) (x .members)
 
-pub end-marks : (t : Table) (f : Cells) (a : Deed) → isEnd (a .move) ≡ true → Whole t f (least (a .touched)) (a .picks) (a .move) → AllMarks f (least (a .touched)) (a .picks)
-end-marks t f a = go (a .move)
-  where
-    go : (mv : Move) → isEnd mv ≡ true → Whole t f (least (a .touched)) (a .picks) mv → AllMarks f (least (a .touched)) (a .picks)
-    go (react r ps) n w = absurd (false≢true n)
-    go (commit b) n w = w .1
-    go (abort b) n w = w .1
-
 -- an end's member is a mark in its transaction
-pub end-member : (t : Table) (F : Seen) (a : Deed) → Ok t F a → isEnd (a .move) ≡ true → (o : Origin) → isInO o (a .members) ≡ true → MarkAt (F .cell) o (least (a .touched))
-end-member t F a k en o h =
-    let T = end-tests t a (k .es) en (k .tests) in
-    let q = found-at (F .cell) (markOf (least (a .touched))) o (a .picks) (k .es) (k .found) (T .0) (subst (λ (l : List Origin). isInO o l ≡ true) (T .3) h) in
-    (q .0, q .1, eqb-true (q .0 .kind) 3 (and-l (eqb (q .0 .kind) 3) (eqb (q .0 .owner) (least (a .touched))) (q .2)), eqb-true (q .0 .owner) (least (a .touched)) (and-r (eqb (q .0 .kind) 3) (eqb (q .0 .owner) (least (a .touched))) (q .2)))
+pub end-member : (F : Seen) (a : Deed) → EndOk F a → (o : Origin) → isInO o (a .members) ≡ true → MarkAt (F .cell) o (least (a .touched))
+end-member F a E o h =
+    let b = least (a .touched) in
+    let q = found-at (F .cell) (markOf b) o (a .picks) (E .es) (E .found) (E .marks) (subst (λ (l : List Origin). isInO o l ≡ true) (E .members) h) in
+    (q .0, q .1, eqb-true (q .0 .kind) 3 (and-l (isMemberMark (q .0)) (owned b (q .0)) (q .2)), eqb-true (q .0 .owner) b (and-r (isMemberMark (q .0)) (owned b (q .0)) (q .2)))
 
 module _ (t : Table) (sd : Sound t) (G : Seen) where
   module _ (i : ℕ) (F : Seen) (x : Deed) (zs ys : List Deed) (a : Deed) (g : Good i F) (r : LogRuns t i F (x ∷ zs ++ a ∷ ys) G) where
@@ -77,15 +67,15 @@ module _ (t : Table) (sd : Sound t) (G : Seen) where
         forth [] m n q = absurd (true≢false n)
         forth (o ∷ os) ((e, h, k, w), m) n q =
             let d = fo o e h k .0 (sym (key-is (e .owner) w) ∙ q) in
-            let ka = rest-a .0 .0 .ok in
-            let z : isInO o (a .members) ≡ true = subst (λ (l : List Origin). isInO o l ≡ true) (sym (end-tests t a (ka .es) en (ka .tests) .3)) (end-marks t (Fa .cell) a en (ka .whole) o (d .0) (d .1) (d .3) (d .2)) in
+            let E = end-ok t Fa a (rest-a .0 .0 .ok) en in
+            let z : isInO o (a .members) ≡ true = subst (λ (l : List Origin). isInO o l ≡ true) (sym (E .members)) (E .all-marks o (d .0) (d .1) (d .3) (d .2)) in
             rw z
 
         back : shares x a ≡ true → eqb (x .key) (a .place) ≡ true
         back h = go (any-found (λ o. MarkAt (astep t F x .cell) o (least (x .touched))) (λ o. any (sameOrigin o) (a .members)) (x .members) h (mk .0))
           where
             go : (o : Origin) × (any (sameOrigin o) (a .members) ≡ true) × (MarkAt (astep t F x .cell) o (least (x .touched))) → eqb (x .key) (a .place) ≡ true
-            go (o, z, (e, p, k, w)) = let d = end-member t Fa a (rest-a .0 .0 .ok) en o z in
+            go (o, z, (e, p, k, w)) = let d = end-member Fa a (end-ok t Fa a (rest-a .0 .0 .ok) en) o z in
                 eq-eqb (x .key) (a .place) (key-is (e .owner) w ∙ fo o e p k .1 (d .0) (d .1) (d .3))
 
     -- x's place in the block of a, or in none

@@ -1,6 +1,6 @@
 -- Following a member mark through a log: the key of a move is the place of the commit or abort that removes its members' marks.
 use mathlib.Core.Path.{_≡_, refl, sym, ap, subst, _∙_}
-use mathlib.Core.Bool.{Bool, true, false, cond, false≢true}
+use mathlib.Core.Bool.{Bool, true, false, cond}
 use mathlib.Core.Logic.{inl, inr}
 use mathlib.Core.Option.{none, some}
 use mathlib.Core.List.{List, [], _∷_, _++_}
@@ -11,13 +11,12 @@ use Rattle.lists.specs.Lists.{isIn, least}
 use Rattle.lists.specs.Bools.{by-bool, clash, is-false}
 use Rattle.semantics.specs.Table.{Table}
 use Rattle.semantics.specs.State.{Origin, Entry}
-use Rattle.semantics.specs.Move.{Move, react, commit, abort}
 use Rattle.semantics.specs.Serial.{isEnd}
 use Rattle.serializability.specs.Base.{some-inj, none-some, is-none}
 use Rattle.serializability.specs.Rules.{Sound}
 use Rattle.serializability.specs.Key.{Deed, ender, ender-ge}
 use Rattle.serializability.specs.Cells.{Source, apply, apply-inv}
-use Rattle.serializability.specs.Actions.{Seen, received, actionBy, actionOf, astep, EndTests, Tests, Ok, one-in, in-one, act-local}
+use Rattle.serializability.specs.Actions.{Seen, received, actionBy, actionOf, astep, Ok, end-ok, one-in, in-one, act-local}
 use Rattle.serializability.specs.Link.{Good}
 use Rattle.serializability.specs.Marks.{MarkAt, mark-stay, mark-gone}
 use Rattle.serializability.specs.Fate.{LogRuns, next-good}
@@ -48,14 +47,6 @@ pub place-length : (t : Table) (i : ℕ) (F G : Seen) (xs ys : List Deed) (a : D
 place-length t i F G [] ys a r = let w = r .0 .place in omega arith
 place-length t i F G (x ∷ xs) ys a r = let w = place-length t (suc i) (astep t F x) G xs ys a (r .1) in omega arith
 
-pub end-tests : (t : Table) (a : Deed) (es : List Entry) → isEnd (a .move) ≡ true → Tests t a es (a .move) → EndTests a es
-end-tests t a es = go (a .move)
-  where
-    go : (mv : Move) → isEnd mv ≡ true → Tests t a es mv → EndTests a es
-    go (react r ps) n T = absurd (false≢true n)
-    go (commit b) n T = T
-    go (abort b) n T = T
-
 module _ (t : Table) (sd : Sound t) (G : Seen) (a : Deed) (ys : List Deed) where
   pub place-ge : (i : ℕ) (F : Seen) (xs : List Deed) → LogRuns t i F (xs ++ a ∷ ys) G → i ≤ a .place
   place-ge i F xs r = let w = place-length t i F G xs ys a r in omega arith
@@ -75,9 +66,6 @@ module _ (t : Table) (sd : Sound t) (G : Seen) (a : Deed) (ys : List Deed) where
       go ih l false d w = ih v w
 
   module _ (en : isEnd (a .move) ≡ true) where
-    pub end-one : (F : Seen) → Ok t F a → a .touched ≡ least (a .touched) ∷ []
-    end-one F k = end-tests t a (k .es) en (k .tests) .2
-
     -- a mark o, in e's transaction now, will be in a's right before a if and only if a is the move that ends e's transaction
     abbrev pub Follows : ℕ → Seen → List Deed → Origin → Entry → Type 0
     Follows i F xs o e =
@@ -88,10 +76,10 @@ module _ (t : Table) (sd : Sound t) (G : Seen) (a : Deed) (ys : List Deed) where
     unfolding astep
     follow [] i F g r o e h k = (
       λ q. by-bool (isIn (e .owner) (a .touched))
-          (λ w. (e, h, k, in-one (a .touched) (e .owner) (end-one F (r .0 .ok)) w))
+          (λ w. (e, h, k, in-one (a .touched) (e .owner) (end-ok t F a (r .0 .ok) en .one) w))
           (λ w. absurd (let z : ender i (a ∷ ys) (e .owner) ≡ ender (suc i) ys (e .owner) = rw w in let y = ender-ge (suc i) ys (e .owner) in let x = r .0 .place in omega arith)),
       λ d p q. let w : e .owner ≡ least (a .touched) = ap (λ (x : Entry). x .owner) (some-inj (sym h ∙ p)) ∙ q in
-          let z : isIn (e .owner) (a .touched) ≡ true = rw w (one-in (a .touched) (end-one F (r .0 .ok))) in
+          let z : isIn (e .owner) (a .touched) ≡ true = rw w (one-in (a .touched) (end-ok t F a (r .0 .ok) en .one)) in
           rw (z, en) (sym (r .0 .place)),
     )
     follow (x ∷ xs) i F g r o e h k = go (λ e′ h′ k′. follow xs (suc i) (astep t F x) (next-good t sd G i F x (xs ++ a ∷ ys) g (r .0)) (r .1) o e′ h′ k′) (isEnd (x .move)) refl (isIn (e .owner) (x .touched)) refl

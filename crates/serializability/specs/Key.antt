@@ -23,6 +23,9 @@ pub record Deed : Type 0 where
   pub touched : List ℕ
   pub members : List Origin
 
+abbrev pub withMove : Deed → Move → Deed
+withMove a m = record { place = a .place; key = a .key; move = m; picks = a .picks; touched = a .touched; members = a .members }
+
 abbrev pub begun : Table → Move → Bool
 begun t (react r ps) = begins (ruleAt t r)
 begun t (commit b) = false

@@ -19,11 +19,11 @@ use Rattle.serializability.specs.Statement.{endsMemberOf}
 use Rattle.serializability.specs.Base.{isInO, none-some}
 use Rattle.serializability.specs.Rules.{Sound}
 use Rattle.serializability.specs.Key.{Deed, actOf, ender-ge, key-full}
-use Rattle.serializability.specs.Actions.{Seen, received, astep, Ok, one-in}
+use Rattle.serializability.specs.Actions.{Seen, received, astep, Ok, end-ok, one-in}
 use Rattle.serializability.specs.Link.{Good}
 use Rattle.serializability.specs.Marks.{MarkAt, mark-gone}
 use Rattle.serializability.specs.Fate.{LogRuns, NoneOpen, next-good, key-bound}
-use Rattle.serializability.specs.Follow.{seenAfter, none-stay, none-after, log-rest, end-tests, ender-not}
+use Rattle.serializability.specs.Follow.{seenAfter, none-stay, none-after, log-rest, ender-not}
 use Rattle.serializability.specs.Blocks.{shares, end-member, same-block}
 
 -- ---- one place of a log
@@ -43,8 +43,9 @@ module _ (t : Table) (G : Seen) where
 pub removed : (t : Table) (F : Seen) (b : Deed) → Ok t F b → isEnd (b .move) ≡ true → (o : Origin) → isInO o (b .members) ≡ true → astep t F b .cell o ≡ none
 unfolding astep
 removed t F b k en o h =
-    let m = end-member t F b k en o h in
-    mark-gone t (F .cell) b (k .es) (received F b) o (m .0) (b .move) (k .tests) en (rw (m .3) (one-in (b .touched) (end-tests t b (k .es) en (k .tests) .2))) (m .1) (m .2)
+    let E = end-ok t F b k en in
+    let m = end-member F b E o h in
+    mark-gone t (F .cell) b (k .es) (received F b) o (m .0) (b .move) (k .tests) en (rw (m .3) (one-in (b .touched) (E .one))) (m .1) (m .2)
 
 module _ (t : Table) (sd : Sound t) (G : Seen) where
   -- x shares no member with an end before it
@@ -59,8 +60,8 @@ module _ (t : Table) (sd : Sound t) (G : Seen) where
 
       gone : (o : Origin) → isEnd (b .move) ≡ true → isInO o (b .members) ≡ true → astep t (seenAfter t (astep t F b) zs) x .cell o ≡ none
       gone o en h = none-stay t (seenAfter t (astep t F b) zs) x (rest .0 .ok) o
-          (none-after t (suc i) (astep t F b) G zs (x ∷ ys) (r .1) o (removed t F b (r .0 .ok) en o h) (let m = end-member t F b (r .0 .ok) en o h in let w = g .makers o (m .0) (m .1) in omega arith))
-          (let m = end-member t F b (r .0 .ok) en o h in let w = g .makers o (m .0) (m .1) in let p = rest .0 .place in omega arith)
+          (none-after t (suc i) (astep t F b) G zs (x ∷ ys) (r .1) o (removed t F b (r .0 .ok) en o h) (let m = end-member F b (end-ok t F b (r .0 .ok) en) o h in let w = g .makers o (m .0) (m .1) in omega arith))
+          (let m = end-member F b (end-ok t F b (r .0 .ok) en) o h in let w = g .makers o (m .0) (m .1) in let p = rest .0 .place in omega arith)
 
       go : isEnd (b .move) ≡ true → (o : Origin) × (any (sameOrigin o) (b .members) ≡ true) × (MarkAt (astep t (seenAfter t (astep t F b) zs) x .cell) o (least (x .touched))) → ⊥
       go en (o, z, (e, p, k, w)) = none-some (sym (gone o en z) ∙ p)

@@ -16,8 +16,8 @@ use Rattle.serializability.specs.Statement.{stateBefore, SameMove, react
 use Rattle.serializability.specs.Base.{isInO}
 use Rattle.serializability.specs.View.{Uniq}
 use Rattle.serializability.specs.Rules.{Sound}
-use Rattle.serializability.specs.Key.{Deed, touched, handled, deeds, actOf}
-use Rattle.serializability.specs.Actions.{Seen, actionBy, astep, Ok}
+use Rattle.serializability.specs.Key.{Deed, withMove, touched, handled, deeds, actOf}
+use Rattle.serializability.specs.Actions.{Seen, end-ok, actionBy, astep, Ok}
 use Rattle.serializability.specs.Moves.{react-allowed, after-allowed}
 use Rattle.serializability.specs.Named.{smallest}
 use Rattle.serializability.specs.Rename.{Rel}
@@ -45,55 +45,54 @@ pub record Next (t : Table) (c : State) (F : Seen) (a : Deed) (m : Move) : Type 
   pub names : ℕ → ℕ
   pub rel : Rel (applied t (suc (a .place)) c m) (astep t F a) names
 
-module _ (t : Table) (sd : Sound t) (c : State) (F : Seen) (ρ : ℕ → ℕ) (rel : Rel c F ρ) (place key : ℕ) (picks : List Origin) (bs : List ℕ) (members : List Origin) where
-  pub react-next : (r : ℕ) (ps : List ℕ) → (let a : Deed = record { place = place; key = key; move = react r ps; picks = picks; touched = bs; members = members } in Ok t F a → Next t c F a (again c (actOf a) (react r ps)))
-  unfolding again astep actionBy applied
-  react-next r ps k =
-      let a : Deed = record { place = place; key = key; move = react r ps; picks = picks; touched = bs; members = members } in
-      record {
-        again = reacts r ps (React.qs t sd c F ρ rel a r ps (k .es) (k .tests) (k .found) (k .noZero) (k .fresh) (k .roomy) (k .unused)) (React.seen-again t sd c F ρ rel a r ps (k .es) (k .tests) (k .found) (k .noZero) (k .fresh) (k .roomy) (k .unused) .1);
-        allows = react-allowed t c r (React.qs t sd c F ρ rel a r ps (k .es) (k .tests) (k .found) (k .noZero) (k .fresh) (k .roomy) (k .unused)) (React.passes t sd c F ρ rel a r ps (k .es) (k .tests) (k .found) (k .noZero) (k .fresh) (k .roomy) (k .unused));
-        names = React.ρ′ t sd c F ρ rel a r ps (k .es) (k .tests) (k .found) (k .noZero) (k .fresh) (k .roomy) (k .unused);
-        rel = React.rel-react t sd c F ρ rel a r ps (k .es) (k .tests) (k .found) (k .noZero) (k .fresh) (k .roomy) (k .unused);
-      }
+module _ (t : Table) (sd : Sound t) (c : State) (F : Seen) (ρ : ℕ → ℕ) (rel : Rel c F ρ) (a : Deed) where
+  abbrev pub NextBy : Move → Type 0
+  NextBy m = Ok t F (withMove a m) → Next t c F (withMove a m) (again c (actOf (withMove a m)) m)
 
-  pub commit-next : (x : ℕ) → (let a : Deed = record { place = place; key = key; move = commit x; picks = picks; touched = bs; members = members } in Ok t F a → Next t c F a (again c (actOf a) (commit x)))
+  pub react-next : (r : ℕ) (ps : List ℕ) → NextBy (react r ps)
+  unfolding again astep actionBy applied
+  react-next r ps k = record {
+    again = reacts r ps (React.qs t sd c F ρ rel a r ps k) (React.seen-again t sd c F ρ rel a r ps k .1);
+    allows = react-allowed t c r (React.qs t sd c F ρ rel a r ps k) (React.passes t sd c F ρ rel a r ps k);
+    names = React.ρ′ t sd c F ρ rel a r ps k;
+    rel = React.rel-react t sd c F ρ rel a r ps k;
+  }
+
+  pub commit-next : (x : ℕ) → NextBy (commit x)
   unfolding again astep actionBy applied allowed
   commit-next x k =
-      let a : Deed = record { place = place; key = key; move = commit x; picks = picks; touched = bs; members = members } in
-      let am = k .whole .1 in
-      let id = End.least-members t c F ρ rel a (k .es) (k .tests) (k .found) (k .noZero) am in
-      let own = End.own-there t c F ρ rel a (k .es) (k .tests) (k .found) (k .noZero) am in
-      let moved : Next t c F a (commit (ρ (least bs))) = record {
-        again = commits x (ρ (least bs)) (End.members-same t c F ρ rel a (k .es) (k .tests) (k .found) (k .noZero) am) (smallest c (rel .uniq) (rel .named) (ρ (least bs)) own);
-        allows = rw (End.open-there t c F ρ rel a (k .es) (k .tests) (k .found) (k .noZero) am, End.may-commit t c F ρ rel a (k .es) (k .tests) (k .found) (k .noZero) am (k .whole .0));
+      let d = withMove a (commit x) in
+      let E = end-ok t F d k refl in
+      let b = ρ (least (a .touched)) in
+      let moved : Next t c F d (commit b) = record {
+        again = commits x b (End.members-same c F ρ rel d E) (smallest c (rel .uniq) (rel .named) b (End.own-there c F ρ rel d E));
+        allows = rw (End.open-there c F ρ rel d E, End.may-commit c F ρ rel d E t (k .whole .0));
         names = ρ;
-        rel = End.rel-end t c F ρ rel a (k .es) (k .tests) (k .found) (k .noZero) am 0 (omega arith);
+        rel = End.rel-end c F ρ rel d E 0 (omega arith);
       } in
-      subst (λ (b : ℕ). Next t c F a (commit b)) (sym id) moved
+      subst (λ (b : ℕ). Next t c F d (commit b)) (sym (End.least-members c F ρ rel d E)) moved
 
-  pub abort-next : (x : ℕ) → (let a : Deed = record { place = place; key = key; move = abort x; picks = picks; touched = bs; members = members } in Ok t F a → Next t c F a (again c (actOf a) (abort x)))
+  pub abort-next : (x : ℕ) → NextBy (abort x)
   unfolding again astep actionBy applied allowed
   abort-next x k =
-      let a : Deed = record { place = place; key = key; move = abort x; picks = picks; touched = bs; members = members } in
-      let am = k .whole .1 in
-      let id = End.least-members t c F ρ rel a (k .es) (k .tests) (k .found) (k .noZero) am in
-      let own = End.own-there t c F ρ rel a (k .es) (k .tests) (k .found) (k .noZero) am in
-      let moved : Next t c F a (abort (ρ (least bs))) = record {
-        again = aborts x (ρ (least bs)) (End.members-same t c F ρ rel a (k .es) (k .tests) (k .found) (k .noZero) am) (smallest c (rel .uniq) (rel .named) (ρ (least bs)) own);
-        allows = rw (End.open-there t c F ρ rel a (k .es) (k .tests) (k .found) (k .noZero) am, End.may-abort t c F ρ rel a (k .es) (k .tests) (k .found) (k .noZero) am (k .whole .0));
+      let d = withMove a (abort x) in
+      let E = end-ok t F d k refl in
+      let b = ρ (least (a .touched)) in
+      let moved : Next t c F d (abort b) = record {
+        again = aborts x b (End.members-same c F ρ rel d E) (smallest c (rel .uniq) (rel .named) b (End.own-there c F ρ rel d E));
+        allows = rw (End.open-there c F ρ rel d E, End.may-abort c F ρ rel d E (k .whole .0));
         names = ρ;
-        rel = End.rel-end t c F ρ rel a (k .es) (k .tests) (k .found) (k .noZero) am 1 (omega arith);
+        rel = End.rel-end c F ρ rel d E 1 (omega arith);
       } in
-      subst (λ (b : ℕ). Next t c F a (abort b)) (sym id) moved
+      subst (λ (b : ℕ). Next t c F d (abort b)) (sym (End.least-members c F ρ rel d E)) moved
 
-pub next : (t : Table) → Sound t → (c : State) (F : Seen) (ρ : ℕ → ℕ) → Rel c F ρ → (a : Deed) → Ok t F a → Next t c F a (again c (actOf a) (a .move))
-next t sd c F ρ rel a k = go (a .move) k
-  where
-    go : (mv : Move) → (let d : Deed = record { place = a .place; key = a .key; move = mv; picks = a .picks; touched = a .touched; members = a .members } in Ok t F d → Next t c F d (again c (actOf d) mv))
-    go (react r ps) = react-next t sd c F ρ rel (a .place) (a .key) (a .picks) (a .touched) (a .members) r ps
-    go (commit x) = commit-next t sd c F ρ rel (a .place) (a .key) (a .picks) (a .touched) (a .members) x
-    go (abort x) = abort-next t sd c F ρ rel (a .place) (a .key) (a .picks) (a .touched) (a .members) x
+  pub next : Ok t F a → Next t c F a (again c (actOf a) (a .move))
+  next k = go (a .move) k
+    where
+      go : (mv : Move) → NextBy mv
+      go (react r ps) = react-next r ps
+      go (commit x) = commit-next x
+      go (abort x) = abort-next x
 
 -- ---- all moves
 

@@ -19,7 +19,7 @@ use Rattle.serializability.specs.Base.{orElse, orElse-none, omap, bindO,
 use Rattle.serializability.specs.View.{uniq-keep, place-found, look-any, all-look, look-kept, kept-look, origin-look, look-isIn}
 use Rattle.serializability.specs.Key.{Deed}
 use Rattle.serializability.specs.Cells.{apply}
-use Rattle.serializability.specs.Actions.{Seen, strip, left, endAction, markOf, EndTests, AllMarks, mayLeave, one-in}
+use Rattle.serializability.specs.Actions.{Seen, strip, left, endAction, markOf, EndOk, mayLeave, one-in}
 use Rattle.serializability.specs.Moves.{ofKind, look-ended, uniq-ended}
 use Rattle.serializability.specs.Link.{view-cell, Mark, left-strip, marked, marked-mark, mark-marked}
 use Rattle.serializability.specs.Marks.{end-live}
@@ -43,8 +43,7 @@ value-from f v (q ∷ os) h = go (value-from f v os) (isIn-cases v (f q) (map f 
     go ih (inl w) = (q, isInO-head q os, sym w)
     go ih (inr w) = let r = ih w in (r .0, isInO-cons (r .0) q os (r .1), r .2)
 
-module _ (t : Table) (c : State) (F : Seen) (ρ : ℕ → ℕ) (rel : Rel c F ρ) (a : Deed) (es : List Entry) (T : EndTests a es) (fd : map (F .cell) (a .picks) ≡ map some es)
-    (nz : isIn 0 (a .touched) ≡ false) (am : AllMarks (F .cell) (least (a .touched)) (a .picks)) where
+module _ (c : State) (F : Seen) (ρ : ℕ → ℕ) (rel : Rel c F ρ) (a : Deed) (E : EndOk F a) where
   abbrev pub b : ℕ
   b = least (a .touched)
 
@@ -53,10 +52,10 @@ module _ (t : Table) (c : State) (F : Seen) (ρ : ℕ → ℕ) (rel : Rel c F ρ
   b′ = ρ b
 
   pub positive : b ≡ 0 → ⊥
-  positive z = clash (one-in (a .touched) (T .2)) (rw z nz)
+  positive z = clash (one-in (a .touched) (E .one)) (rw z (E .noZero))
 
   pub mark-there : Mark (F .cell) b
-  mark-there = end-live (F .cell) b (a .picks) es fd (T .0) (T .1)
+  mark-there = end-live (F .cell) b (a .picks) (E .es) (E .found) (E .marks) (E .some-mark)
 
   pub live : Live F b
   live = inr (mark-there .0, mark-there .1, mark-there .2, mark-there .4)
@@ -80,11 +79,11 @@ module _ (t : Table) (c : State) (F : Seen) (ρ : ℕ → ℕ) (rel : Rel c F ρ
 
   -- a mark of b′ is one of the end's picks
   pub mark-picked : (o : Origin) (d : Entry) → look o (c .entries) ≡ some d → d .kind ≡ 3 → d .owner ≡ b′ → isInO o (a .picks) ≡ true
-  mark-picked o d h k w = let q = theirs o d h w in am o (q .0) (q .1) (q .2) (ap (λ (x : Entry). x .kind) (q .3) ∙ k)
+  mark-picked o d h k w = let q = theirs o d h w in E .all-marks o (q .0) (q .1) (q .2) (ap (λ (x : Entry). x .kind) (q .3) ∙ k)
 
   pub picked-mark : (o : Origin) → isInO o (a .picks) ≡ true → (d : Entry) × (look o (c .entries) ≡ some d) × (d .kind ≡ 3) × (d .owner ≡ b′)
   picked-mark o h =
-      let q = found-at (F .cell) (markOf b) o (a .picks) es fd (T .0) h in
+      let q = found-at (F .cell) (markOf b) o (a .picks) (E .es) (E .found) (E .marks) h in
       let d = ours o (q .0) (q .1) (eqb-true (q .0 .owner) b (and-r (isMemberMark (q .0)) (owned b (q .0)) (q .2))) in
       (d .0, d .1, ap (λ (x : Entry). x .kind) (d .3) ∙ eqb-true (q .0 .kind) 3 (and-l (isMemberMark (q .0)) (owned b (q .0)) (q .2)), d .2)
 
@@ -103,7 +102,7 @@ module _ (t : Table) (c : State) (F : Seen) (ρ : ℕ → ℕ) (rel : Rel c F ρ
 
   -- the smallest of the members' ids
   pub least-members : least (map (valueAt c) (a .members)) ≡ b′
-  least-members = ap (λ (l : List Origin). least (map (valueAt c) l)) (T .3) ∙ least-is b′ (map (valueAt c) (a .picks)) own-in (λ v h. at-least v (value-from (valueAt c) v (a .picks) h))
+  least-members = ap (λ (l : List Origin). least (map (valueAt c) l)) (E .members) ∙ least-is b′ (map (valueAt c) (a .picks)) own-in (λ v h. at-least v (value-from (valueAt c) v (a .picks) h))
     where
       value-is : (o : Origin) (d : Entry) → look o (c .entries) ≡ some d → valueAt c o ≡ d .value
       value-is o d h = ap (λ (x : Entry). x .value) (place-found o (c .entries) d h .1)
@@ -125,8 +124,8 @@ module _ (t : Table) (c : State) (F : Seen) (ρ : ℕ → ℕ) (rel : Rel c F ρ
       go : OwnMark (c .entries) b′ → any (owned b′) (c .entries) ≡ true
       go (o, d, h, k, w, v) = look-any (owned b′) o (c .entries) d h (eq-eqb (d .owner) b′ w)
 
-  pub may-commit : ((o : Origin) (e : Entry) → F .cell o ≡ some e → e .owner ≡ b → mayLeave t e ≡ true) → mayCommit t b′ c ≡ true
-  may-commit h = all-look (mayLeave t) (entriesIn b′ c) (uniq-keep (owned b′) (c .entries) (rel .uniq))
+  pub may-commit : (t : Table) → ((o : Origin) (e : Entry) → F .cell o ≡ some e → e .owner ≡ b → mayLeave t e ≡ true) → mayCommit t b′ c ≡ true
+  may-commit t h = all-look (mayLeave t) (entriesIn b′ c) (uniq-keep (owned b′) (c .entries) (rel .uniq))
       (λ o d f. let k = kept-look (owned b′) o (c .entries) d (rel .uniq) f in let q = theirs o d (k .0) (eqb-true (d .owner) b′ (k .1)) in
       subst (λ (x : Entry). mayLeave t x ≡ true) (q .3) (h o (q .0) (q .1) (q .2)))
 

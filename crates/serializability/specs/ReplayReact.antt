@@ -21,9 +21,9 @@ use Rattle.semantics.specs.Serial.{originsOf}
 use Rattle.serializability.specs.Base.{orElse, omap, bindO, isInO, distinctO, look, none-some, is-none}
 use Rattle.serializability.specs.View.{look-map, ports-messages, picks-distinct}
 use Rattle.serializability.specs.Rules.{Shape, plain, begin, inner, Sound, owners, values, touchedBy, touched-plain, touched-begin, touched-inner, touched-merge, make}
-use Rattle.serializability.specs.Key.{Deed}
+use Rattle.serializability.specs.Key.{Deed, withMove}
 use Rattle.serializability.specs.Cells.{apply, apply-inv}
-use Rattle.serializability.specs.Actions.{Seen, strip, received, reactAction, actionBy, later, Tests}
+use Rattle.serializability.specs.Actions.{Seen, strip, received, reactAction, actionBy, later, Tests, Ok}
 use Rattle.serializability.specs.Commute.{values-found}
 use Rattle.serializability.specs.Moves.{productsOf, look-reacted, uniq-reacted, ReactPasses}
 use Rattle.serializability.specs.Link.{view, view-cell, cell-eq}
@@ -41,9 +41,13 @@ upd-at ρ b n = rw (eq-eqb b b refl)
 pub upd-off : (ρ : ℕ → ℕ) (b n v : ℕ) → (v ≡ b → ⊥) → upd ρ b n v ≡ ρ v
 upd-off ρ b n v h = rw (ne-eqb v b h)
 
-module _ (t : Table) (sd : Sound t) (c : State) (F : Seen) (ρ : ℕ → ℕ) (rel : Rel c F ρ) (a : Deed) (r : ℕ) (ps : List ℕ) (es : List Entry) (T : Tests t a es (react r ps))
-    (fd : map (F .cell) (a .picks) ≡ map some es) (nz : isIn 0 (a .touched) ≡ false) (fr : (o : Origin) → o .maker ≡ suc (a .place) → F .cell o ≡ none)
-    (rm : (not (begins (ruleAt t r)) || ltb (F .next) 65536) ≡ true) (un : begins (ruleAt t r) ≡ true → (o : Origin) (e : Entry) → F .cell o ≡ some e → isIn (e .owner) (a .touched) ≡ false) where
+module _ (t : Table) (sd : Sound t) (c : State) (F : Seen) (ρ : ℕ → ℕ) (rel : Rel c F ρ) (a : Deed) (r : ℕ) (ps : List ℕ) (K : Ok t F (withMove a (react r ps))) where
+  abbrev pub es : List Entry
+  es = K .es
+
+  pub T : Tests t a es (react r ps)
+  T = K .tests
+
   abbrev pub R : Rule
   R = ruleAt t r
 
@@ -61,13 +65,13 @@ module _ (t : Table) (sd : Sound t) (c : State) (F : Seen) (ρ : ℕ → ℕ) (r
   bs′ = touchedBy R (c .next) os′
 
   pub seen-again : (picked c qs ≡ map (rename ρ) es) × (originsOf (picked c qs) ≡ a .picks) × All (λ p. p < length (c .entries)) qs
-  seen-again = picked-again c F ρ rel (a .picks) es fd (ports-messages (consumed R) es (T .0))
+  seen-again = picked-again c F ρ rel (a .picks) es (K .found) (ports-messages (consumed R) es (T .0))
 
   pub fresh-c : (o : Origin) → o .maker ≡ suc (a .place) → look o (c .entries) ≡ none
-  fresh-c o h = is-none (look o (c .entries)) (λ d q. let w = back-again c F ρ rel o d q in none-some (sym (fr o h) ∙ w .1))
+  fresh-c o h = is-none (look o (c .entries)) (λ d q. let w = back-again c F ρ rel o d q in none-some (sym (K .fresh o h) ∙ w .1))
 
   pub owner-of : (v : ℕ) → isIn v (owners es) ≡ true → Live F v
-  owner-of v h = inr (owner-live (F .cell) v (a .picks) es fd h)
+  owner-of v h = inr (owner-live (F .cell) v (a .picks) es (K .found) h)
 
   pub owners-c : os′ ≡ map ρ (owners es)
   owners-c = ap owners (seen-again .0) ∙ owners-rename ρ es
@@ -80,7 +84,7 @@ module _ (t : Table) (sd : Sound t) (c : State) (F : Seen) (ρ : ℕ → ℕ) (r
     distinct = picks-distinct (c .entries) qs (rel .uniq) (seen-again .2) ∙ ap distinctO (seen-again .1) ∙ T .3;
     ports = ap (onPorts (consumed R)) (seen-again .0) ∙ ports-rename ρ (consumed R) es ∙ T .0;
     fit = fit-c;
-    room = ap (λ (n : ℕ). not (begins R) || ltb n 65536) (rel .next-is) ∙ rm;
+    room = ap (λ (n : ℕ). not (begins R) || ltb n 65536) (rel .next-is) ∙ K .roomy;
   }
 
   -- the new name
@@ -137,7 +141,7 @@ module _ (t : Table) (sd : Sound t) (c : State) (F : Seen) (ρ : ℕ → ℕ) (r
 
       go : Shape R → isIn (ρ v) bs′ ≡ isIn v bs
       go (plain z b n) = ap (isIn (ρ v)) (touched-plain R (c .next) os′ z b) ∙ sym (ap (isIn v) (bs-plain z b))
-      go (begin z b n m rest q w k) = ap (isIn (ρ v)) (touched-begin R (c .next) os′ b) ∙ rw (ne-eqb (ρ v) (c .next) (λ x. let y = rel .below v live in let w = rel .next-is in omega arith)) (sym (un b o e h))
+      go (begin z b n m rest q w k) = ap (isIn (ρ v)) (touched-begin R (c .next) os′ b) ∙ rw (ne-eqb (ρ v) (c .next) (λ x. let y = rel .below v live in let w = rel .next-is in omega arith)) (sym (K .unused b o e h))
       go (inner z b n k) = ap (isIn (ρ v)) (bs′-inner z b) ∙ by-bool (isIn v bs)
           (λ x. isIn-map ρ v bs x ∙ sym x)
           (λ x. is-false (isIn (ρ v) (map ρ bs)) (λ y. other x (isIn-unmap ρ (ρ v) bs y) (bs-inner z b)) ∙ sym x)
@@ -155,7 +159,7 @@ module _ (t : Table) (sd : Sound t) (c : State) (F : Seen) (ρ : ℕ → ℕ) (r
 
   pub made-entries : map strip (productsOf R (suc (a .place)) c qs) ≡ map (rename ρ′) (map strip (make (suc (a .place)) (least bs) vs 0 (productAtoms R)))
   made-entries =
-      (λ j. map strip (make (suc (a .place)) (sym new-name j) ((ap values (seen-again .0) ∙ values-rename ρ es ∙ sym (values-found (F .cell) (a .picks) es fd)) j) 0 (productAtoms R)))
+      (λ j. map strip (make (suc (a .place)) (sym new-name j) ((ap values (seen-again .0) ∙ values-rename ρ es ∙ sym (values-found (F .cell) (a .picks) es (K .found))) j) 0 (productAtoms R)))
       ∙ make-rename ρ′ (suc (a .place)) (least bs) vs 0 (productAtoms R)
 
   abbrev pub action : Origin → Option Entry
@@ -225,9 +229,9 @@ module _ (t : Table) (sd : Sound t) (c : State) (F : Seen) (ρ : ℕ → ℕ) (r
 
   pub now-live : (v : ℕ) → Live afterwards v → Now v
   unfolding actionBy
-  now-live v (inl z) = inr (inl z, rw z nz)
+  now-live v (inl z) = inr (inl z, rw z (K .noZero))
   now-live v (inr (o, e, h, w)) = by-bool (eqb v 0)
-      (λ z. let x = eqb-true v 0 z in inr (inl x, rw x nz))
+      (λ z. let x = eqb-true v 0 z in inr (inl x, rw x (K .noZero)))
       (λ z. let n = eqb-false v 0 z in now-of v o (subst (λ (x : ℕ). From (F .cell) bs false o x) w (came t (F .cell) a es vs (react r ps) T o e (apply-inv (F .cell) (reactAction R (a .place) (a .picks) bs vs) o e h) (λ x. n (sym w ∙ x)))) n)
 
   pub rel-react : Rel (reacted R (suc (a .place)) c qs) afterwards ρ′
@@ -237,7 +241,7 @@ module _ (t : Table) (sd : Sound t) (c : State) (F : Seen) (ρ : ℕ → ℕ) (r
     named = named-react R (sd r) (suc (a .place)) c qs (rel .uniq) (rel .named) fresh-c passes;
     next-is = ap (later (begins R)) (rel .next-is);
     cells = cells-after;
-    zero-is = old-name 0 nz ∙ rel .zero-is;
+    zero-is = old-name 0 (K .noZero) ∙ rel .zero-is;
     pos = let x = later-le (begins R) (F .next) in let y = rel .pos in omega arith;
     inj = λ v w l m h. now-inj v w (now-live v l) (now-live w m) h;
     below = λ v l. now-below v (now-live v l);
