@@ -105,7 +105,13 @@ pub record Ok (t : Table) (F : Seen) (a : Deed) : Type 0 where
   pub unused : begun t (a .move) ≡ true → (o : Origin) (e : Entry) → F .cell o ≡ some e → isIn (e .owner) (a .touched) ≡ false
   pub whole : Whole t (F .cell) (least (a .touched)) (a .picks) (a .move)
 
--- the same of a commit or abort
+-- the move a of a log, at place i: a begin gets the next id
+pub record StepOk (t : Table) (i : ℕ) (F : Seen) (a : Deed) : Type 0 where
+  pub ok : Ok t F a
+  pub place : a .place ≡ i
+  pub tick : begun t (a .move) ≡ true → a .touched ≡ F .next ∷ []
+
+-- what Ok says of a commit or abort
 pub record EndOk (F : Seen) (a : Deed) : Type 0 where
   pub es : List Entry
   pub found : map (F .cell) (a .picks) ≡ map some es

@@ -90,7 +90,7 @@ mark-source t sd (x ∷ xs) i F G ys r o d h z = go (mark-source t sd xs (suc i)
 pub begun-before-of : (t : Table) → Sound t → (xs : List Deed) (F G : Seen) (a : Deed) (ys : List Deed) → Good 0 F → ((o : Origin) (c : Entry) → F .cell o ≡ some c → c .kind ≡ 3 → ⊥) → LogRuns t 0 F (xs ++ a ∷ ys) G → isEnd (a .move) ≡ true
     → (o : Origin) → isInO o (a .members) ≡ true → begunIn t o xs ≡ true
 begun-before-of t sd xs F G a ys g none-yet r en o h =
-    let k = log-rest t sd 0 F G xs (a ∷ ys) g r (0 + length xs) refl .0 .0 .ok in
+    let k = log-rest t sd 0 F G xs (a ∷ ys) g r (0 + length xs) refl .0 .0 .step .ok in
     let m = end-member (seenAfter t F xs) a (end-ok t (seenAfter t F xs) a k en) o h in
     go (mark-source t sd xs 0 F G (a ∷ ys) r o (m .0) (m .1) (m .2))
   where

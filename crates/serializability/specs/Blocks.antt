@@ -67,7 +67,7 @@ module _ (t : Table) (sd : Sound t) (G : Seen) where
         forth [] m n q = absurd (true≢false n)
         forth (o ∷ os) ((e, h, k, w), m) n q =
             let d = fo o e h k .0 (sym (key-is (e .owner) w) ∙ q) in
-            let E = end-ok t Fa a (rest-a .0 .0 .ok) en in
+            let E = end-ok t Fa a (rest-a .0 .0 .step .ok) en in
             let z : isInO o (a .members) ≡ true = subst (λ (l : List Origin). isInO o l ≡ true) (sym (E .members)) (E .all-marks o (d .0) (d .1) (d .3) (d .2)) in
             rw z
 
@@ -75,7 +75,7 @@ module _ (t : Table) (sd : Sound t) (G : Seen) where
         back h = go (any-found (λ o. MarkAt (astep t F x .cell) o (least (x .touched))) (λ o. any (sameOrigin o) (a .members)) (x .members) h (mk .0))
           where
             go : (o : Origin) × (any (sameOrigin o) (a .members) ≡ true) × (MarkAt (astep t F x .cell) o (least (x .touched))) → eqb (x .key) (a .place) ≡ true
-            go (o, z, (e, p, k, w)) = let d = end-member Fa a (end-ok t Fa a (rest-a .0 .0 .ok) en) o z in
+            go (o, z, (e, p, k, w)) = let d = end-member Fa a (end-ok t Fa a (rest-a .0 .0 .step .ok) en) o z in
                 eq-eqb (x .key) (a .place) (key-is (e .owner) w ∙ fo o e p k .1 (d .0) (d .1) (d .3))
 
     -- x's place in the block of a, or in none
@@ -124,13 +124,13 @@ module _ (t : Table) (sd : Sound t) (G : Seen) where
   own-block i F a ys r = go (isEnd (a .move)) refl (isEmpty (a .touched)) refl
     where
       is-own : keyOf (isEnd (a .move)) i (a .touched) ys ≡ i → keyIs (a .place) a ≡ true
-      is-own q = eq-eqb (a .key) (a .place) (r .0 .key ∙ q ∙ sym (r .0 .place))
+      is-own q = eq-eqb (a .key) (a .place) (r .0 .key ∙ q ∙ sym (r .0 .step .place))
 
       go : (b : Bool) → isEnd (a .move) ≡ b → (c : Bool) → isEmpty (a .touched) ≡ c → keyIs (a .place) a ≡ not (isInner (actOf a))
       go true p c q = is-own (rw p) ∙ rw p
       go false p true q = is-own (rw (p, empty-nil (a .touched) q)) ∙ rw (p, r .0 .marked p .1 ∙ q)
       go false p false q =
-          ne-eqb (a .key) (a .place) (λ w. let y = r .0 .key ∙ key-full (isEnd (a .move)) i (a .touched) ys p q in let z = ender-ge (suc i) ys (least (a .touched)) in let v = r .0 .place in omega arith)
+          ne-eqb (a .key) (a .place) (λ w. let y = r .0 .key ∙ key-full (isEnd (a .move)) i (a .touched) ys p q in let z = ender-ge (suc i) ys (least (a .touched)) in let v = r .0 .step .place in omega arith)
           ∙ rw (p, r .0 .marked p .1 ∙ q)
 
   -- the moves with the key of a's place are the block of a
@@ -144,7 +144,7 @@ module _ (t : Table) (sd : Sound t) (G : Seen) where
 
       none-later : keep (keyIs (a .place)) ys ≡ []
       none-later = keep-none (keyIs (a .place)) ys (All-map {P = λ y. (suc (i + length xs) ≤ y .place) × (y .place ≤ y .key)} {Q = λ y. keyIs (a .place) y ≡ false}
-          (λ y h. ne-eqb (y .key) (a .place) (λ w. let u = h .0 in let v = h .1 in let z = rest .0 .place in omega arith)) ys (places t sd G (suc (i + length xs)) (astep t (seenAfter t F xs) a) ys (rest .1)))
+          (λ y h. ne-eqb (y .key) (a .place) (λ w. let u = h .0 in let v = h .1 in let z = rest .0 .step .place in omega arith)) ys (places t sd G (suc (i + length xs)) (astep t (seenAfter t F xs) a) ys (rest .1)))
 
       before : (b : Bool) → isInner (actOf a) ≡ b → All (λ x. keyIs (a .place) x ≡ cond b false (belongsTo (actOf a) (actOf x))) xs
       before b q = subst (λ (c : Bool). All (λ x. keyIs (a .place) x ≡ cond c false (belongsTo (actOf a) (actOf x))) xs) q (before-block xs i F a ys g r)

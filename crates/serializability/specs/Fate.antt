@@ -20,7 +20,7 @@ use Rattle.serializability.specs.Base.{isInO, found-at}
 use Rattle.serializability.specs.Rules.{Sound}
 use Rattle.serializability.specs.Key.{Deed, begun, ender, keyOf, ender-ge, key-in, KeyCases, key-cases}
 use Rattle.serializability.specs.Cells.{Source, apply-inv, mine, frame-from}
-use Rattle.serializability.specs.Actions.{Seen, received, actionOf, astep, Ok, later, act-local}
+use Rattle.serializability.specs.Actions.{StepOk, Seen, received, actionOf, astep, later, act-local}
 use Rattle.serializability.specs.Link.{Mark, Good}
 use Rattle.serializability.specs.Marks.{From, came, touched-live, MarkAt, mark-stay, firstOf, mark-made}
 use Rattle.serializability.specs.Swap.{Swap}
@@ -32,9 +32,7 @@ Marked t F a = isEnd (a .move) ≡ false → All (λ o. MarkAt (astep t F a .cel
 
 -- the move a of a log, at place i, before the moves xs
 pub record LogStep (t : Table) (i : ℕ) (F : Seen) (a : Deed) (xs : List Deed) : Type 0 where
-  pub ok : Ok t F a
-  pub place : a .place ≡ i
-  pub tick : begun t (a .move) ≡ true → a .touched ≡ F .next ∷ []
+  pub step : StepOk t i F a
   pub key : a .key ≡ keyOf (isEnd (a .move)) i (a .touched) xs
   pub marked : Marked t F a
   pub first : begun t (a .move) ≡ true → a .members ≡ firstOf (a .place) ∷ []
@@ -45,7 +43,7 @@ LogRuns t i F (a ∷ xs) G = LogStep t i F a xs × LogRuns t (suc i) (astep t F 
 
 pub runs : (t : Table) (i : ℕ) (F : Seen) (xs : List Deed) (G : Seen) → LogRuns t i F xs G → Runs t F xs G
 runs t i F [] G h = h
-runs t i F (a ∷ xs) G h = (h .0 .ok, runs t (suc i) (astep t F a) xs G (h .1))
+runs t i F (a ∷ xs) G h = (h .0 .step .ok, runs t (suc i) (astep t F a) xs G (h .1))
 
 unfoldable pub NoneOpen : Seen → Type 0
 NoneOpen G = (o : Origin) (e : Entry) → G .cell o ≡ some e → e .owner ≡ 0
@@ -60,46 +58,46 @@ next-le t F a = later-le (begun t (a .move)) (F .next)
 
 -- ---- a step of a log
 
-module _ (t : Table) (sd : Sound t) (i : ℕ) (F : Seen) (a : Deed) (g : Good i F) (k : Ok t F a) (pl : a .place ≡ i) (tick : begun t (a .move) ≡ true → a .touched ≡ F .next ∷ []) where
+module _ (t : Table) (sd : Sound t) (i : ℕ) (F : Seen) (a : Deed) (g : Good i F) (st : StepOk t i F a) where
   pub not-zero : (v : ℕ) → isIn v (a .touched) ≡ true → v ≡ 0 → ⊥
-  not-zero v h q = clash h (rw q (k .noZero))
+  not-zero v h q = clash h (rw q (st .ok .noZero))
 
   pub touched-bound : (v : ℕ) → isIn v (a .touched) ≡ true → v < astep t F a .next
   unfolding astep
   touched-bound v h = by-bool (begun t (a .move))
-      (λ b. let w = isIn-one v (F .next) (subst (λ (l : List ℕ). isIn v l ≡ true) (tick b) h) in rw b (omega arith))
-      (λ b. let l = touched-live t sd F a k b v h in let w = g .below (l .0) (l .1) (l .2) in let x = l .3 in rw b (omega arith))
+      (λ b. let w = isIn-one v (F .next) (subst (λ (l : List ℕ). isIn v l ≡ true) (st .tick b) h) in rw b (omega arith))
+      (λ b. let l = touched-live t sd F a (st .ok) b v h in let w = g .below (l .0) (l .1) (l .2) in let x = l .3 in rw b (omega arith))
 
   -- a transaction of an earlier id that a move touches is there already
   pub old-mark : (v : ℕ) → v < F .next → isIn v (a .touched) ≡ true → Mark (F .cell) v
   old-mark v lt h = by-bool (begun t (a .move))
-      (λ b. let w = isIn-one v (F .next) (subst (λ (l : List ℕ). isIn v l ≡ true) (tick b) h) in absurd (omega arith))
-      (λ b. let l = touched-live t sd F a k b v h in subst (λ (x : ℕ). Mark (F .cell) x) (l .3) (g .marks (l .0) (l .1) (l .2) (λ z. not-zero v h (sym (l .3) ∙ z))))
+      (λ b. let w = isIn-one v (F .next) (subst (λ (l : List ℕ). isIn v l ≡ true) (st .tick b) h) in absurd (omega arith))
+      (λ b. let l = touched-live t sd F a (st .ok) b v h in subst (λ (x : ℕ). Mark (F .cell) x) (l .3) (g .marks (l .0) (l .1) (l .2) (λ z. not-zero v h (sym (l .3) ∙ z))))
 
   pub keeps-mark : (v : ℕ) → (isEnd (a .move) ≡ true → isIn v (a .touched) ≡ false) → Mark (F .cell) v → Mark (astep t F a .cell) (cond (isIn v (a .touched)) (least (a .touched)) v)
   unfolding astep
   keeps-mark v e (o, d, h, x, w) =
-      let q = mark-stay t (F .cell) a (k .es) (received F a) o d (a .move) (k .tests) (k .found) (λ z. rw w (e z)) h x in
+      let q = mark-stay t (F .cell) a (st .ok .es) (received F a) o d (a .move) (st .ok .tests) (st .ok .found) (λ z. rw w (e z)) h x in
       (o, q .0, q .1, q .2, q .3 ∙ ap (λ (y : ℕ). cond (isIn y (a .touched)) (least (a .touched)) y) w)
 
   -- after a move that is no end, its transaction has a mark
   pub new-mark : (v : ℕ) → isEnd (a .move) ≡ false → isIn v (a .touched) ≡ true → Mark (astep t F a .cell) (least (a .touched))
   unfolding astep
   new-mark v e h = by-bool (begun t (a .move))
-      (λ b. let q = mark-made t sd (F .cell) a (received F a) (a .move) b (k .fresh (firstOf (a .place)) refl) in (firstOf (a .place), q .0, q .1, q .2, q .3))
-      (λ b. let l = touched-live t sd F a k b v h in
+      (λ b. let q = mark-made t sd (F .cell) a (received F a) (a .move) b (st .ok .fresh (firstOf (a .place)) refl) in (firstOf (a .place), q .0, q .1, q .2, q .3))
+      (λ b. let l = touched-live t sd F a (st .ok) b v h in
       let m = keeps-mark v (λ z. absurd (clash z e)) (subst (λ (x : ℕ). Mark (F .cell) x) (l .3) (g .marks (l .0) (l .1) (l .2) (λ z. not-zero v h (sym (l .3) ∙ z)))) in
       subst (λ (x : Bool). Mark (astep t F a .cell) (cond x (least (a .touched)) v)) h m)
 
   pub came-from : (o : Origin) (e : Entry) → astep t F a .cell o ≡ some e → (e .owner ≡ 0 → ⊥) → From (F .cell) (a .touched) (isEnd (a .move)) o (e .owner)
   unfolding astep
-  came-from o e h nz = came t (F .cell) a (k .es) (received F a) (a .move) (k .tests) o e (apply-inv (F .cell) (actionOf t (received F a) a) o e h) nz
+  came-from o e h nz = came t (F .cell) a (st .ok .es) (received F a) (a .move) (st .ok .tests) o e (apply-inv (F .cell) (actionOf t (received F a) a) o e h) nz
 
   pub good-marks : (o : Origin) (e : Entry) → astep t F a .cell o ≡ some e → (e .owner ≡ 0 → ⊥) → Mark (astep t F a .cell) (e .owner)
   good-marks o e h nz = go (came-from o e h nz)
     where
       zero-case : (c : Entry) → c .owner ≡ 0 → cond (isIn (c .owner) (a .touched)) (least (a .touched)) (c .owner) ≡ 0
-      zero-case c z = rw (z, k .noZero)
+      zero-case c z = rw (z, st .ok .noZero)
 
       go : From (F .cell) (a .touched) (isEnd (a .move)) o (e .owner) → Mark (astep t F a .cell) (e .owner)
       go (inl (c, w, q, x)) = subst (λ (v : ℕ). Mark (astep t F a .cell) v) (sym q) (keeps-mark (c .owner) x (g .marks o c w (λ z. nz (q ∙ zero-case c z))))
@@ -110,13 +108,13 @@ module _ (t : Table) (sd : Sound t) (i : ℕ) (F : Seen) (a : Deed) (g : Good i 
   good-next = record {
     pos = let w = later-le (begun t (a .move)) (F .next) in let p = g .pos in omega arith;
     makers = λ o e h. maker-of o e (apply-inv (F .cell) (actionOf t (received F a) a) o e h);
-    below = λ o e h. below-of o e (frame-from (F .cell) (actionOf t (received F a) a) (a .touched) (a .place) (act-local t a (k .es) (received F a) (k .tests)) o e h);
+    below = λ o e h. below-of o e (frame-from (F .cell) (actionOf t (received F a) a) (a .touched) (a .place) (act-local t a (st .ok .es) (received F a) (st .ok .tests)) o e h);
     marks = good-marks;
   }
     where
       maker-of : (o : Origin) (e : Entry) → Source (F .cell) (actionOf t (received F a) a) o e → o .maker ≤ suc i
       maker-of o e (inl q) = let w = g .makers o (q .0) (q .1) in omega arith
-      maker-of o e (inr q) = let w = act-local t a (k .es) (received F a) (k .tests) .made o e q .0 in omega arith
+      maker-of o e (inr q) = let w = act-local t a (st .ok .es) (received F a) (st .ok .tests) .made o e q .0 in omega arith
 
       below-of : (o : Origin) (e : Entry) → (F .cell o ≡ some e) ⊎ (mine (a .touched) e ≡ true) → e .owner < later (begun t (a .move)) (F .next)
       below-of o e (inl q) = let w = g .below o e q in let l = later-le (begun t (a .move)) (F .next) in omega arith
@@ -152,16 +150,16 @@ module _ (t : Table) (sd : Sound t) (i : ℕ) (F : Seen) (a : Deed) (g : Good i 
 
 module _ (t : Table) (sd : Sound t) (G : Seen) where
   pub next-good : (i : ℕ) (F : Seen) (a : Deed) (xs : List Deed) → Good i F → LogStep t i F a xs → Good (suc i) (astep t F a)
-  next-good i F a xs g r = good-next t sd i F a g (r .ok) (r .place) (r .tick)
+  next-good i F a xs g r = good-next t sd i F a g (r .step)
 
   -- the key of a move that touches the transaction v is the place of v's end
   pub fate : (i : ℕ) (F : Seen) (xs : List Deed) → Good i F → LogRuns t i F xs G → (v : ℕ) → (v ≡ 0 → ⊥) → v < F .next
       → All (λ x. isIn v (x .touched) ≡ true → Mark (F .cell) v × (x .key ≡ ender i xs v)) xs
   fate i F [] g r v nz lt = tt
   fate i F (a ∷ xs) g r v nz lt = (
-    λ h. (old-mark t sd i F a g (r .0 .ok) (r .0 .place) (r .0 .tick) v lt h, r .0 .key ∙ key-in (isEnd (a .move)) i v (a .touched) xs h ∙ rw h),
+    λ h. (old-mark t sd i F a g (r .0 .step) v lt h, r .0 .key ∙ key-in (isEnd (a .move)) i v (a .touched) xs h ∙ rw h),
     All-map {P = λ x. isIn v (x .touched) ≡ true → Mark (astep t F a .cell) v × (x .key ≡ ender (suc i) xs v)} {Q = λ x. isIn v (x .touched) ≡ true → Mark (F .cell) v × (x .key ≡ ender i (a ∷ xs) v)}
-        (λ x ih h. let q = ih h in let s = still t sd i F a g (r .0 .ok) (r .0 .place) (r .0 .tick) v nz lt (q .0) in (s .0, q .1 ∙ same-end (s .1)))
+        (λ x ih h. let q = ih h in let s = still t sd i F a g (r .0 .step) v nz lt (q .0) in (s .0, q .1 ∙ same-end (s .1)))
         xs (fate (suc i) (astep t F a) xs (next-good i F a xs g (r .0)) (r .1) v nz (let w = next-le t F a in omega arith)),
   )
     where
@@ -178,13 +176,13 @@ module _ (t : Table) (sd : Sound t) (G : Seen) where
       go (λ w z m. fate-bound (suc i) (astep t F a) xs (next-good i F a xs g (r .0)) (r .1) n w z m) (isIn v (a .touched)) refl (isEnd (a .move)) refl
     where
       moved : (isEnd (a .move) ≡ true → isIn v (a .touched) ≡ false) → Mark (astep t F a .cell) (cond (isIn v (a .touched)) (least (a .touched)) v)
-      moved z = keeps-mark t sd i F a g (r .0 .ok) (r .0 .place) (r .0 .tick) v z l
+      moved z = keeps-mark t sd i F a g (r .0 .step) v z l
 
       go : ((w : ℕ) → (w ≡ 0 → ⊥) → Mark (astep t F a .cell) w → ender (suc i) xs w < suc i + length xs) → (c : Bool) → isIn v (a .touched) ≡ c → (d : Bool) → isEnd (a .move) ≡ d
           → cond c (cond d i (ender (suc i) xs (least (a .touched)))) (ender (suc i) xs v) < i + length (a ∷ xs)
       go ih true p true q = omega arith
       go ih true p false q =
-          let h = ih (least (a .touched)) (not-zero t sd i F a g (r .0 .ok) (r .0 .place) (r .0 .tick) (least (a .touched)) (least-some v (a .touched) p))
+          let h = ih (least (a .touched)) (not-zero t sd i F a g (r .0 .step) (least (a .touched)) (least-some v (a .touched) p))
           (subst (λ (x : Bool). Mark (astep t F a .cell) (cond x (least (a .touched)) v)) p (moved (λ z. absurd (clash z q)))) in omega arith
       go ih false p d q =
           let h = ih v nz (subst (λ (x : Bool). Mark (astep t F a .cell) (cond x (least (a .touched)) v)) p (moved (λ z. p))) in omega arith
@@ -197,13 +195,13 @@ module _ (t : Table) (sd : Sound t) (G : Seen) where
   pub places : (i : ℕ) (F : Seen) (xs : List Deed) → LogRuns t i F xs G → All (λ x. (i ≤ x .place) × (x .place ≤ x .key)) xs
   places i F [] r = tt
   places i F (a ∷ xs) r = (
-    (let w = r .0 .place in omega arith, ge (key-cases (isEnd (a .move)) i (a .touched) xs)),
+    (let w = r .0 .step .place in omega arith, ge (key-cases (isEnd (a .move)) i (a .touched) xs)),
     All-map {P = λ x. (suc i ≤ x .place) × (x .place ≤ x .key)} {Q = λ x. (i ≤ x .place) × (x .place ≤ x .key)} (λ x h. (let w = h .0 in omega arith, h .1)) xs (places (suc i) (astep t F a) xs (r .1)),
   )
     where
       ge : KeyCases (isEnd (a .move)) i (a .touched) xs → a .place ≤ a .key
-      ge (inl q) = let w = r .0 .place in let u = r .0 .key in omega arith
-      ge (inr q) = let w = r .0 .place in let u = r .0 .key in let z = q .2 in let y = ender-ge (suc i) xs (least (a .touched)) in omega arith
+      ge (inl q) = let w = r .0 .step .place in let u = r .0 .key in omega arith
+      ge (inr q) = let w = r .0 .step .place in let u = r .0 .key in let z = q .2 in let y = ender-ge (suc i) xs (least (a .touched)) in omega arith
 
   pub key-bound : (i : ℕ) (F : Seen) (xs : List Deed) → Good i F → LogRuns t i F xs G → NoneOpen G → All (λ x. x .key < i + length xs) xs
   key-bound i F [] g r n = tt
@@ -216,8 +214,8 @@ module _ (t : Table) (sd : Sound t) (G : Seen) where
       lt (inl q) = let u = r .0 .key in omega arith
       lt (inr q) = let u = r .0 .key in let z = q .2 in
           let y = fate-bound (suc i) (astep t F a) xs (next-good i F a xs g (r .0)) (r .1) n (least (a .touched))
-          (not-zero t sd i F a g (r .0 .ok) (r .0 .place) (r .0 .tick) (least (a .touched)) (q .1))
-          (new-mark t sd i F a g (r .0 .ok) (r .0 .place) (r .0 .tick) (least (a .touched)) (q .0) (q .1)) in omega arith
+          (not-zero t sd i F a g (r .0 .step) (least (a .touched)) (q .1))
+          (new-mark t sd i F a g (r .0 .step) (least (a .touched)) (q .0) (q .1)) in omega arith
 
   -- a later move with a smaller key may go first
   pub pairs : (i : ℕ) (F : Seen) (xs : List Deed) → Good i F → LogRuns t i F xs G → Pairs t xs
@@ -228,14 +226,14 @@ module _ (t : Table) (sd : Sound t) (G : Seen) where
       g′ = next-good i F a xs g (r .0)
 
       back-of : (o : Origin) → isInO o (a .picks) ≡ true → o .maker ≤ a .place
-      back-of o h = let q = found-at (F .cell) (mine (a .touched)) o (a .picks) (r .0 .ok .es) (r .0 .ok .found) (r .0 .ok .own) h in let w = g .makers o (q .0) (q .1) in let u = r .0 .place in omega arith
+      back-of o h = let q = found-at (F .cell) (mine (a .touched)) o (a .picks) (r .0 .step .ok .es) (r .0 .step .ok .found) (r .0 .step .ok .own) h in let w = g .makers o (q .0) (q .1) in let u = r .0 .step .place in omega arith
 
       touches : All (λ x. (v : ℕ) → (isIn v (a .touched) ≡ true) → isIn v (x .touched) ≡ true → Mark (astep t F a .cell) v × (x .key ≡ ender (suc i) xs v)) xs
       touches = All-forall (λ v. isIn v (a .touched) ≡ true) (λ v x. isIn v (x .touched) ≡ true → Mark (astep t F a .cell) v × (x .key ≡ ender (suc i) xs v)) xs
-          (λ v h. fate (suc i) (astep t F a) xs g′ (r .1) v (not-zero t sd i F a g (r .0 .ok) (r .0 .place) (r .0 .tick) v h) (touched-bound t sd i F a g (r .0 .ok) (r .0 .place) (r .0 .tick) v h))
+          (λ v h. fate (suc i) (astep t F a) xs g′ (r .1) v (not-zero t sd i F a g (r .0 .step) v h) (touched-bound t sd i F a g (r .0 .step) v h))
 
       same-key : (x : Deed) → x .key < a .key → (v : ℕ) → isIn v (a .touched) ≡ true → Mark (astep t F a .cell) v → x .key ≡ ender (suc i) xs v → keyOf (isEnd (a .move)) i (a .touched) xs ≡ ender (suc i) xs (least (a .touched)) → ⊥
-      same-key x lt v y l e d = let c : ender (suc i) xs v ≡ ender (suc i) xs (least (a .touched)) = ap (ender (suc i) xs) (only t sd i F a g (r .0 .ok) (r .0 .place) (r .0 .tick) v y l) in let u = r .0 .key in omega arith
+      same-key x lt v y l e d = let c : ender (suc i) xs v ≡ ender (suc i) xs (least (a .touched)) = ap (ender (suc i) xs) (only t sd i F a g (r .0 .step) v y l) in let u = r .0 .key in omega arith
 
       swaps : KeyCases (isEnd (a .move)) i (a .touched) xs → Swaps t a xs
       swaps (inl q) = All-map {P = λ x. (suc i ≤ x .place) × (x .place ≤ x .key)} {Q = λ x. x .key < a .key → Swap t a x} (λ x h lt. let u = r .0 .key in let w = h .0 in let y = h .1 in absurd (omega arith)) xs (places (suc i) (astep t F a) xs (r .1))
@@ -243,6 +241,6 @@ module _ (t : Table) (sd : Sound t) (G : Seen) where
         reacts = q .0;
         some-touched = q .1;
         apart = λ v y z. same-key x lt v y (h v y z .0) (h v y z .1) (q .2);
-        earlier = let w = p .0 in let u = r .0 .place in omega arith;
+        earlier = let w = p .0 in let u = r .0 .step .place in omega arith;
         back = back-of;
       }) xs (places (suc i) (astep t F a) xs (r .1)) touches

@@ -142,9 +142,9 @@ log-runs t sd i s (m ∷ ms) e u g h =
     let q : applied t (suc i) s m ≡ after t (suc i) s m = sym (after-allowed t (suc i) s m (h .0)) in
     let c : view (after t (suc i) s m) ≡ astep t (view s) a = ap view (sym q) ∙ S .same-cells in
     let r = log-runs t sd (suc i) (after t (suc i) s m) ms e (subst (λ (x : State). Uniq (x .entries)) q (S .uniq))
-    (subst (λ (F : Seen). Good (suc i) F) (sym c) (good-next t sd i (view s) a g (S .ok) refl (S .tick))) (subst (λ (x : State). Accepted t (suc i) x ms e) q (h .1)) in (
+    (subst (λ (F : Seen). Good (suc i) F) (sym c) (good-next t sd i (view s) a g (S .step))) (subst (λ (x : State). Accepted t (suc i) x ms e) q (h .1)) in (
       (
-        record { ok = S .ok; place = refl; tick = S .tick; key = refl; marked = marked-of t sd i k s m u g (S .ok) (h .0); first = first-of t sd i s m },
+        record { step = S .step; key = refl; marked = marked-of t sd i k s m u g (S .step .ok) (h .0); first = first-of t sd i s m },
         subst (λ (F : Seen). LogRuns t (suc i) F (deeds t (suc i) (after t (suc i) s m) ms) (view e)) c (r .0),
       ),
       r .1,

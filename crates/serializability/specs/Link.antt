@@ -20,9 +20,9 @@ use Rattle.semantics.specs.declared.Verdict.the-variants.{Allowed}
 use Rattle.serializability.specs.Base.{orElse, orElse-none, omap, bindO, isInO, look, none-some, look-all, is-none, omap-some}
 use Rattle.serializability.specs.View.{look-map, Uniq, look-head, look-deeper, look-at, uniq-keep, ports-head, ports-tail, ports-messages, ports-range, picks-distinct, any-look, look-kept, kept-look, look-isIn}
 use Rattle.serializability.specs.Rules.{Shape, plain, begin, inner, Sound, owners, values, touchedBy, global-fit, touched-begin, touched-inner, touched-least, touched-positive, touched-merge, make}
-use Rattle.serializability.specs.Key.{begun, touched, handled, deedAt}
+use Rattle.serializability.specs.Key.{touched, handled, deedAt}
 use Rattle.serializability.specs.Cells.{Cells, apply, mine}
-use Rattle.serializability.specs.Actions.{Seen, strip, cellValue, left, endAction, actionBy, astep, markOf, AllMarks, mayLeave, Ok, mine-in, mine-zero, later}
+use Rattle.serializability.specs.Actions.{StepOk, Seen, strip, cellValue, left, endAction, actionBy, astep, markOf, AllMarks, mayLeave, Ok, mine-in, mine-zero, later}
 use Rattle.serializability.specs.Commute.{values-found}
 use Rattle.serializability.specs.Moves.{productsOf, look-reacted, uniq-reacted, ofKind, look-ended, uniq-ended, ReactPasses, react-passes, commit-passes, abort-passes}
 
@@ -58,8 +58,7 @@ pub record Good (i : ℕ) (F : Seen) : Type 0 where
   pub marks : (o : Origin) (e : Entry) → F .cell o ≡ some e → (e .owner ≡ 0 → ⊥) → Mark (F .cell) (e .owner)
 
 pub record Sim (t : Table) (i k : ℕ) (s : State) (m : Move) : Type 0 where
-  pub ok : Ok t (view s) (deedAt t i k s m)
-  pub tick : begun t m ≡ true → touched t s m ≡ view s .next ∷ []
+  pub step : StepOk t i (view s) (deedAt t i k s m)
   pub same-cells : view (applied t (suc i) s m) ≡ astep t (view s) (deedAt t i k s m)
   pub uniq : Uniq (applied t (suc i) s m .entries)
 
@@ -151,8 +150,7 @@ module _ (t : Table) (sd : Sound t) (i k : ℕ) (s : State) (r : ℕ) (ps : List
   pub sim-react : Sim t i k s (react r ps)
   unfolding view handled touched astep applied reacted
   sim-react = record {
-    ok = ok-react;
-    tick = λ b. touched-begin R (s .next) (owners es) b;
+    step = record { ok = ok-react; place = refl; tick = λ b. touched-begin R (s .next) (owners es) b };
     same-cells = λ j. record { next = later (begins R) (s .next); cell = fun-ext cells-react j };
     uniq = uniq-reacted R (sd r) (suc i) s ps (P .fit) u rng fresh-list;
   }
@@ -235,23 +233,26 @@ module _ (t : Table) (i k : ℕ) (s : State) (b : ℕ) (u : Uniq (s .entries)) (
   pub sim-commit : mayCommit t b s ≡ true → Sim t i k s (commit b)
   unfolding view handled touched astep actionBy applied marksHere ended
   sim-commit may = record {
-    ok = record {
-      es = map strip marksHere;
-      found = marks-found;
-      tests = (marks-mine (markOf b) (λ e h. marked-mark b e h), marks-some, refl, refl);
-      own = marks-mine (mine (b ∷ [])) (λ e h. mine-in (b ∷ []) (strip e) (and-r (isMemberMark e) (isIn (e .owner) (b ∷ [])) h));
-      noZero = rw (ne-eqb 0 b (λ z. positive (sym z)));
-      roomy = refl;
-      fresh = fresh-end;
-      unused = λ h. absurd (false≢true h);
-      whole = (
-        (λ o e h q. let v = view-some s o e h in
-            subst (λ (x : Entry). mayLeave t x ≡ true) (v .2)
-            (look-all (mayLeave t) o (entriesIn b s) may (look-kept (owned b) o (s .entries) (v .0) u (v .1) (eq-eqb (v .0 .owner) b (ap (λ (x : Entry). x .owner) (v .2) ∙ q))))),
-        all-marks,
-      );
+    step = record {
+      ok = record {
+        es = map strip marksHere;
+        found = marks-found;
+        tests = (marks-mine (markOf b) (λ e h. marked-mark b e h), marks-some, refl, refl);
+        own = marks-mine (mine (b ∷ [])) (λ e h. mine-in (b ∷ []) (strip e) (and-r (isMemberMark e) (isIn (e .owner) (b ∷ [])) h));
+        noZero = rw (ne-eqb 0 b (λ z. positive (sym z)));
+        roomy = refl;
+        fresh = fresh-end;
+        unused = λ h. absurd (false≢true h);
+        whole = (
+          (λ o e h q. let v = view-some s o e h in
+              subst (λ (x : Entry). mayLeave t x ≡ true) (v .2)
+              (look-all (mayLeave t) o (entriesIn b s) may (look-kept (owned b) o (s .entries) (v .0) u (v .1) (eq-eqb (v .0 .owner) b (ap (λ (x : Entry). x .owner) (v .2) ∙ q))))),
+          all-marks,
+        );
+      };
+      place = refl;
+      tick = λ h. absurd (false≢true h);
     };
-    tick = λ h. absurd (false≢true h);
     same-cells = λ j. record { next = s .next; cell = fun-ext (cells-end 0 (omega arith)) j };
     uniq = uniq-ended 0 b s u;
   }
@@ -259,23 +260,26 @@ module _ (t : Table) (i k : ℕ) (s : State) (b : ℕ) (u : Uniq (s .entries)) (
   pub sim-abort : mayAbort b s ≡ true → Sim t i k s (abort b)
   unfolding view handled touched astep actionBy applied marksHere ended
   sim-abort may = record {
-    ok = record {
-      es = map strip marksHere;
-      found = marks-found;
-      tests = (marks-mine (markOf b) (λ e h. marked-mark b e h), marks-some, refl, refl);
-      own = marks-mine (mine (b ∷ [])) (λ e h. mine-in (b ∷ []) (strip e) (and-r (isMemberMark e) (isIn (e .owner) (b ∷ [])) h));
-      noZero = rw (ne-eqb 0 b (λ z. positive (sym z)));
-      roomy = refl;
-      fresh = fresh-end;
-      unused = λ h. absurd (false≢true h);
-      whole = (
-        (let q = any-look isAbortMark (entriesIn b s) (uniq-keep (owned b) (s .entries) u) may in
-            let k = kept-look (owned b) (q .0) (s .entries) (q .1) u (q .2) in
-            (q .0, strip (q .1), view-look s (q .0) (q .1) (k .0), eqb-true (q .1 .owner) b (k .1), q .3)),
-        all-marks,
-      );
+    step = record {
+      ok = record {
+        es = map strip marksHere;
+        found = marks-found;
+        tests = (marks-mine (markOf b) (λ e h. marked-mark b e h), marks-some, refl, refl);
+        own = marks-mine (mine (b ∷ [])) (λ e h. mine-in (b ∷ []) (strip e) (and-r (isMemberMark e) (isIn (e .owner) (b ∷ [])) h));
+        noZero = rw (ne-eqb 0 b (λ z. positive (sym z)));
+        roomy = refl;
+        fresh = fresh-end;
+        unused = λ h. absurd (false≢true h);
+        whole = (
+          (let q = any-look isAbortMark (entriesIn b s) (uniq-keep (owned b) (s .entries) u) may in
+              let k = kept-look (owned b) (q .0) (s .entries) (q .1) u (q .2) in
+              (q .0, strip (q .1), view-look s (q .0) (q .1) (k .0), eqb-true (q .1 .owner) b (k .1), q .3)),
+          all-marks,
+        );
+      };
+      place = refl;
+      tick = λ h. absurd (false≢true h);
     };
-    tick = λ h. absurd (false≢true h);
     same-cells = λ j. record { next = s .next; cell = fun-ext (cells-end 1 (omega arith)) j };
     uniq = uniq-ended 1 b s u;
   }

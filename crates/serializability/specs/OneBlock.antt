@@ -31,13 +31,13 @@ use Rattle.serializability.specs.Blocks.{shares, end-member, same-block}
 module _ (t : Table) (G : Seen) where
   pub place-none : (ys : List Deed) (j : ℕ) (F : Seen) (k : ℕ) → LogRuns t j F ys G → k < j → count (λ a. eqb k (a .place)) ys ≡ 0
   place-none [] j F k r l = refl
-  place-none (y ∷ ys) j F k r l = let w = r .0 .place in rw (ne-eqb k (y .place) (λ q. omega arith), place-none ys (suc j) (astep t F y) k (r .1) (omega arith))
+  place-none (y ∷ ys) j F k r l = let w = r .0 .step .place in rw (ne-eqb k (y .place) (λ q. omega arith), place-none ys (suc j) (astep t F y) k (r .1) (omega arith))
 
   pub place-once : (ys : List Deed) (j : ℕ) (F : Seen) (k : ℕ) → LogRuns t j F ys G → j ≤ k → k < j + length ys → count (λ a. eqb k (a .place)) ys ≡ 1
   place-once [] j F k r l h = absurd (omega arith)
   place-once (y ∷ ys) j F k r l h = by-bool (eqb k (y .place))
-      (λ q. let w = r .0 .place in let z = eqb-true k (y .place) q in rw (q, place-none ys (suc j) (astep t F y) k (r .1) (omega arith)))
-      (λ q. let w = r .0 .place in let z = eqb-false k (y .place) q in rw (q, place-once ys (suc j) (astep t F y) k (r .1) (omega arith) (omega arith)))
+      (λ q. let w = r .0 .step .place in let z = eqb-true k (y .place) q in rw (q, place-none ys (suc j) (astep t F y) k (r .1) (omega arith)))
+      (λ q. let w = r .0 .step .place in let z = eqb-false k (y .place) q in rw (q, place-once ys (suc j) (astep t F y) k (r .1) (omega arith) (omega arith)))
 
 -- an end removes its members' marks
 pub removed : (t : Table) (F : Seen) (b : Deed) → Ok t F b → isEnd (b .move) ≡ true → (o : Origin) → isInO o (b .members) ≡ true → astep t F b .cell o ≡ none
@@ -59,9 +59,9 @@ module _ (t : Table) (sd : Sound t) (G : Seen) where
       rest = log-rest t sd (suc i) (astep t F b) G zs (x ∷ ys) (next-good t sd G i F b (zs ++ x ∷ ys) g (r .0)) (r .1) (suc i + length zs) refl .0
 
       gone : (o : Origin) → isEnd (b .move) ≡ true → isInO o (b .members) ≡ true → astep t (seenAfter t (astep t F b) zs) x .cell o ≡ none
-      gone o en h = none-stay t (seenAfter t (astep t F b) zs) x (rest .0 .ok) o
-          (none-after t (suc i) (astep t F b) G zs (x ∷ ys) (r .1) o (removed t F b (r .0 .ok) en o h) (let m = end-member F b (end-ok t F b (r .0 .ok) en) o h in let w = g .makers o (m .0) (m .1) in omega arith))
-          (let m = end-member F b (end-ok t F b (r .0 .ok) en) o h in let w = g .makers o (m .0) (m .1) in let p = rest .0 .place in omega arith)
+      gone o en h = none-stay t (seenAfter t (astep t F b) zs) x (rest .0 .step .ok) o
+          (none-after t (suc i) (astep t F b) G zs (x ∷ ys) (r .1) o (removed t F b (r .0 .step .ok) en o h) (let m = end-member F b (end-ok t F b (r .0 .step .ok) en) o h in let w = g .makers o (m .0) (m .1) in omega arith))
+          (let m = end-member F b (end-ok t F b (r .0 .step .ok) en) o h in let w = g .makers o (m .0) (m .1) in let p = rest .0 .step .place in omega arith)
 
       go : isEnd (b .move) ≡ true → (o : Origin) × (any (sameOrigin o) (b .members) ≡ true) × (MarkAt (astep t (seenAfter t (astep t F b) zs) x .cell) o (least (x .touched))) → ⊥
       go en (o, z, (e, p, k, w)) = none-some (sym (gone o en z) ∙ p)

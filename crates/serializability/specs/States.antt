@@ -54,7 +54,7 @@ log-uniq t sd i s (m ∷ ms) e u g h (suc j) =
     let a = deedAt t i 0 s m in
     let q : applied t (suc i) s m ≡ after t (suc i) s m = sym (after-allowed t (suc i) s m (h .0)) in
     log-uniq t sd (suc i) (after t (suc i) s m) ms e (subst (λ (x : State). Uniq (x .entries)) q (S .uniq))
-    (subst (λ (F : Seen). Good (suc i) F) (sym (ap view (sym q) ∙ S .same-cells)) (good-next t sd i (view s) a g (S .ok) refl (S .tick))) (subst (λ (x : State). Accepted t (suc i) x ms e) q (h .1)) j
+    (subst (λ (F : Seen). Good (suc i) F) (sym (ap view (sym q) ∙ S .same-cells)) (good-next t sd i (view s) a g (S .step))) (subst (λ (x : State). Accepted t (suc i) x ms e) q (h .1)) j
 
 -- ---- the states along
 

@@ -67,4 +67,4 @@ tidy-step t sd F a k T o e h z = source-tidy t sd (F .cell) T a (k .es) (receive
 
 pub tidy-end : (t : Table) → Sound t → (i : ℕ) (F G : Seen) (xs : List Deed) → LogRuns t i F xs G → Tidy (F .cell) → Tidy (G .cell)
 tidy-end t sd i F G [] r T = subst (λ (H : Seen). Tidy (H .cell)) r T
-tidy-end t sd i F G (a ∷ xs) r T = tidy-end t sd (suc i) (astep t F a) G xs (r .1) (tidy-step t sd F a (r .0 .ok) T)
+tidy-end t sd i F G (a ∷ xs) r T = tidy-end t sd (suc i) (astep t F a) G xs (r .1) (tidy-step t sd F a (r .0 .step .ok) T)
