@@ -2,9 +2,10 @@
 use mathlib.Core.Path.{_≡_, refl}
 use mathlib.Core.Bool.{Bool, false, _||_}
 use mathlib.Core.List.{List}
-use Prim.Native.Nat.{ℕ, zero, suc, _/_, _%_, _^_}
+use Prim.Native.Nat.{ℕ, zero, suc, _/_, _%_, _^_, _≤_}
 use native.Mathlib.Nat.{zero-div}
-use lib.ListN.{length, getD, replicate}
+use native.Mathlib.Omega.{arith}
+use lib.ListN.{length, getD, replicate, List·getD-eq-default}
 use lib.Dec.{eqb}
 
 -- Bit k of the number w is set: the one place where a word is read as bits.
@@ -30,3 +31,10 @@ zeros (suc n) (suc i) = zeros n i
 pub empty : (u : ℕ) → has (replicate 1024 0) u ≡ false
 unfolding has
 empty u = rw (zeros 1024 (u / 64), zero-div)
+
+-- No number from 65,536 on is in a set.
+pub beyond : (ws : List ℕ) (u : ℕ) → length ws ≡ 1024 → 65536 ≤ u → has ws u ≡ false
+unfolding has
+beyond ws u size large =
+    let past : length ws ≤ u / 64 = omega arith in
+    rw (List·getD-eq-default ws 0 past, zero-div)

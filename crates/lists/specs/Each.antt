@@ -5,7 +5,8 @@ use mathlib.Core.Bool.{Bool, true, false, _&&_, _||_, not, true≢false, false�
 use mathlib.Core.Path.{_≡_, refl, ap}
 use native.Mathlib.Omega.{arith}
 use Rattle.lists.specs.Lists.{all, any, isIn, keep, keepIf, count, oneIf, isEmpty, without}
-use Rattle.lists.specs.Bools.{and-l, and-r, and-intro, or-r}
+use Rattle.lists.specs.Tests.{or-right-true}
+use Rattle.lists.specs.Choices.{and-intro, and-left, and-right}
 
 pub head-eq : {A : Type 0} {x y : A} {xs ys : List A} → Path (List A) (x ∷ xs) (y ∷ ys) → x ≡ y
 head-eq r = cc
@@ -42,7 +43,7 @@ module _ {A : Type 0} where
   -- a test of each element as a type for each
   pub All-of : (p : A → Bool) (xs : List A) → all p xs ≡ true → All (λ x. p x ≡ true) xs
   All-of p [] h = tt
-  All-of p (x ∷ xs) h = (and-l (p x) (all p xs) h, All-of p xs (and-r (p x) (all p xs) h))
+  All-of p (x ∷ xs) h = (and-left (p x) (all p xs) h, All-of p xs (and-right (p x) (all p xs) h))
 
   pub all-of : (p : A → Bool) (xs : List A) → All (λ x. p x ≡ true) xs → all p xs ≡ true
   all-of p [] h = refl
@@ -74,24 +75,6 @@ module _ {A : Type 0} where
       go true q w ih = (x, q, k .0)
       go false q w ih = ih w
 
-  -- ---- append
-
-  pub all-append : (p : A → Bool) (xs ys : List A) → all p xs ≡ true → all p ys ≡ true → all p (xs ++ ys) ≡ true
-  all-append p [] ys h k = k
-  all-append p (x ∷ xs) ys h k = and-intro (and-l (p x) (all p xs) h) (all-append p xs ys (and-r (p x) (all p xs) h) k)
-
-  pub keep-append : (p : A → Bool) (xs ys : List A) → keep p (xs ++ ys) ≡ keep p xs ++ keep p ys
-  keep-append p [] ys = refl
-  keep-append p (x ∷ xs) ys = go (p x) (keep-append p xs ys)
-    where
-      go : (b : Bool) → keep p (xs ++ ys) ≡ keep p xs ++ keep p ys → keepIf b x (keep p (xs ++ ys)) ≡ keepIf b x (keep p xs) ++ keep p ys
-      go true ih = λ j. x ∷ ih j
-      go false ih = ih
-
-  pub count-append : (p : A → Bool) (xs ys : List A) → count p (xs ++ ys) ≡ count p xs + count p ys
-  count-append p [] ys = omega arith
-  count-append p (x ∷ xs) ys = let h = count-append p xs ys in omega arith
-
   -- ---- tests that agree or fail on each element
 
   pub keep-same : (p q : A → Bool) (xs : List A) → All (λ x. p x ≡ q x) xs → keep p xs ≡ keep q xs
@@ -108,7 +91,7 @@ module _ {A : Type 0} where
 
   pub any-intro : (p : A → Bool) (xs ys : List A) (x : A) → p x ≡ true → any p (xs ++ x ∷ ys) ≡ true
   any-intro p [] ys x h = rw h
-  any-intro p (y ∷ xs) ys x h = or-r (p y) (any-intro p xs ys x h)
+  any-intro p (y ∷ xs) ys x h = or-right-true (p y) (any-intro p xs ys x h)
 
   pub count-zero : (p : A → Bool) (xs : List A) → count p xs ≡ 0 → All (λ x. p x ≡ false) xs
   count-zero p [] h = tt
@@ -128,33 +111,13 @@ module _ {A : Type 0} where
 
   pub all-without : (p : A → Bool) (ps : List ℕ) (k : ℕ) (l : List A) → all p l ≡ true → all p (without ps k l) ≡ true
   all-without p ps k [] h = refl
-  all-without p ps k (x ∷ l) h = go (not (isIn k ps)) (all-without p ps (suc k) l (and-r (p x) (all p l) h))
+  all-without p ps k (x ∷ l) h = go (not (isIn k ps)) (all-without p ps (suc k) l (and-right (p x) (all p l) h))
     where
       go : (b : Bool) → all p (without ps (suc k) l) ≡ true → all p (keepIf b x (without ps (suc k) l)) ≡ true
-      go true ih = and-intro (and-l (p x) (all p l) h) ih
+      go true ih = and-intro (and-left (p x) (all p l) h) ih
       go false ih = ih
 
 module _ {A B : Type 0} (f : A → B) where
-  pub keep-map : (p : B → Bool) (xs : List A) → keep p (map f xs) ≡ map f (keep (λ x. p (f x)) xs)
-  keep-map p [] = refl
-  keep-map p (x ∷ xs) = go (p (f x)) (keep-map p xs)
-    where
-      go : (b : Bool) → keep p (map f xs) ≡ map f (keep (λ x. p (f x)) xs) → keepIf b (f x) (keep p (map f xs)) ≡ map f (keepIf b x (keep (λ x. p (f x)) xs))
-      go true ih = λ j. f x ∷ ih j
-      go false ih = ih
-
-  pub count-map : (p : B → Bool) (xs : List A) → count p (map f xs) ≡ count (λ x. p (f x)) xs
-  count-map p [] = refl
-  count-map p (x ∷ xs) = ap (λ (n : ℕ). oneIf (p (f x)) + n) (count-map p xs)
-
-  pub all-map : (p : B → Bool) (xs : List A) → all p (map f xs) ≡ all (λ x. p (f x)) xs
-  all-map p [] = refl
-  all-map p (x ∷ xs) = ap (λ (b : Bool). p (f x) && b) (all-map p xs)
-
-  pub any-map : (p : B → Bool) (xs : List A) → any p (map f xs) ≡ any (λ x. p (f x)) xs
-  any-map p [] = refl
-  any-map p (x ∷ xs) = ap (λ (b : Bool). p (f x) || b) (any-map p xs)
-
   pub All-unmap : (P : B → Type 0) (xs : List A) → All (λ x. P (f x)) xs → All P (map f xs)
   All-unmap P [] h = tt
   All-unmap P (x ∷ xs) h = (h .0, All-unmap P xs (h .1))

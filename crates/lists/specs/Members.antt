@@ -1,104 +1,106 @@
--- Numbers in a list of numbers: isIn, least, and tests on each of them.
-use Prim.Native.Nat.{ℕ, min, _≤_}
-use mathlib.Core.List.{List, [], _∷_, map}
-use mathlib.Core.Bool.{Bool, true, false, false≢true}
-use mathlib.Core.Path.{_≡_, refl, sym, subst}
+-- Membership as a type: what `all`, `any`, `keep`, `map`, `++` and `isIn` say of the elements.
+use Prim.Native.Nat.{ℕ, zero, suc, _<_}
+use mathlib.Core.Bool.{Bool, true, false, _||_, false≢true}
+use mathlib.Core.List.{List, [], _∷_, _++_, map}
 use mathlib.Core.Logic.{_⊎_, inl, inr}
-use native.Mathlib.Omega.{arith}
-use lib.Dec.{eqb, leb}
-use borrow.Author.Tests.{eqb-true, eq-eqb, leb-true, leb-false}
-use Rattle.lists.specs.Lists.{all, isEmpty, isIn, least}
-use Rattle.lists.specs.Bools.{by-bool, clash, and-l, and-r, and-intro, or-cases, or-r}
+use mathlib.Core.Path.{_≡_, refl, sym, ap, _∙_}
+use native.Mathlib.Nat.{le-of-suc-le-suc, not-suc-le-zero}
+use lib.Dec.{eqb}
+use lib.ListN.{length, getD}
+use borrow.Author.Tests.{eqb-true, eq-eqb}
+use Rattle.lists.specs.Lists.{all, any, keepIf, keep, isIn}
+use Rattle.lists.specs.Choices.{and-intro, and-left, and-right, or-right}
 
-pub isIn-head : (n : ℕ) (ns : List ℕ) → isIn n (n ∷ ns) ≡ true
-isIn-head n ns = rw (eq-eqb n n refl)
+module _ {A : Type 0} where
+  abbrev pub Among : A → List A → Type 0
+  Among x [] = ⊥
+  Among x (y ∷ ys) = (x ≡ y) ⊎ Among x ys
 
-pub isIn-cons : (n m : ℕ) (ns : List ℕ) → isIn n ns ≡ true → isIn n (m ∷ ns) ≡ true
-isIn-cons n m ns h = or-r (eqb n m) h
+  module _ (p : A → Bool) where
+    pub all-each : (xs : List A) → all p xs ≡ true → (x : A) → Among x xs → p x ≡ true
+    all-each [] h x m = absurd m
+    all-each (y ∷ ys) h x (inl e) = ap p e ∙ and-left (p y) (all p ys) h
+    all-each (y ∷ ys) h x (inr m) = all-each ys (and-right (p y) (all p ys) h) x m
 
-pub isIn-cases : (n m : ℕ) (ns : List ℕ) → isIn n (m ∷ ns) ≡ true → (n ≡ m) ⊎ (isIn n ns ≡ true)
-isIn-cases n m ns h = go (or-cases (eqb n m) (isIn n ns) h)
+    pub all-intro : (xs : List A) → ((x : A) → Among x xs → p x ≡ true) → all p xs ≡ true
+    all-intro [] f = refl
+    all-intro (y ∷ ys) f = and-intro (f y (inl refl)) (all-intro ys (λ x m. f x (inr m)))
+
+    pub any-some : (xs : List A) → any p xs ≡ true → (x : A) × Among x xs × (p x ≡ true)
+    any-some [] h = absurd (false≢true h)
+    any-some (y ∷ ys) h = go (any-some ys) (p y) refl h
+      where
+        go : (any p ys ≡ true → (x : A) × Among x ys × (p x ≡ true)) → (b : Bool) → p y ≡ b → b || any p ys ≡ true → (x : A) × Among x (y ∷ ys) × (p x ≡ true)
+        go ih true e k = (y, inl refl, e)
+        go ih false e k = let (x, m, q) = ih k in (x, inr m, q)
+
+    pub any-intro : (xs : List A) (x : A) → Among x xs → p x ≡ true → any p xs ≡ true
+    any-intro [] x m e = absurd m
+    any-intro (y ∷ ys) x (inl q) e = rw (ap p (sym q) ∙ e)
+    any-intro (y ∷ ys) x (inr m) e = or-right (p y) (any p ys) (any-intro ys x m e)
+
+    pub among-keep : (xs : List A) (x : A) → Among x (keep p xs) → Among x xs × (p x ≡ true)
+    among-keep [] x m = absurd m
+    among-keep (y ∷ ys) x m = go (among-keep ys x) (p y) refl m
+      where
+        go : (Among x (keep p ys) → Among x ys × (p x ≡ true)) → (b : Bool) → p y ≡ b → Among x (keepIf b y (keep p ys)) → Among x (y ∷ ys) × (p x ≡ true)
+        go ih true e (inl q) = (inl q, ap p q ∙ e)
+        go ih true e (inr k) = let (n, h) = ih k in (inr n, h)
+        go ih false e k = let (n, h) = ih k in (inr n, h)
+
+    pub keep-among : (xs : List A) (x : A) → Among x xs → p x ≡ true → Among x (keep p xs)
+    keep-among [] x m h = absurd m
+    keep-among (y ∷ ys) x (inl q) h = let e : p y ≡ true = ap p (sym q) ∙ h in rw e (inl q)
+    keep-among (y ∷ ys) x (inr m) h = go (keep-among ys x m h) (p y)
+      where
+        go : Among x (keep p ys) → (b : Bool) → Among x (keepIf b y (keep p ys))
+        go k true = inr k
+        go k false = k
+
+  pub among-left : (xs ys : List A) (x : A) → Among x xs → Among x (xs ++ ys)
+  among-left [] ys x m = absurd m
+  among-left (y ∷ xs) ys x (inl e) = inl e
+  among-left (y ∷ xs) ys x (inr m) = inr (among-left xs ys x m)
+
+  pub among-right : (xs ys : List A) (x : A) → Among x ys → Among x (xs ++ ys)
+  among-right [] ys x m = m
+  among-right (y ∷ xs) ys x m = inr (among-right xs ys x m)
+
+  pub among-append : (xs ys : List A) (x : A) → Among x (xs ++ ys) → Among x xs ⊎ Among x ys
+  among-append [] ys x m = inr m
+  among-append (y ∷ xs) ys x (inl e) = inl (inl e)
+  among-append (y ∷ xs) ys x (inr m) = go (among-append xs ys x m)
+    where
+      go : Among x xs ⊎ Among x ys → Among x (y ∷ xs) ⊎ Among x ys
+      go (inl k) = inl (inr k)
+      go (inr k) = inr k
+
+module _ {A B : Type 0} (f : A → B) where
+  pub among-map : (xs : List A) (y : B) → Among y (map f xs) → (x : A) × Among x xs × (y ≡ f x)
+  among-map [] y m = absurd m
+  among-map (x ∷ xs) y (inl e) = (x, inl refl, e)
+  among-map (x ∷ xs) y (inr m) = let (z, k, e) = among-map xs y m in (z, inr k, e)
+
+  pub map-among : (xs : List A) (x : A) → Among x xs → Among (f x) (map f xs)
+  map-among [] x m = absurd m
+  map-among (y ∷ xs) x (inl e) = inl (ap f e)
+  map-among (y ∷ xs) x (inr m) = inr (map-among xs x m)
+
+pub isIn-among : (n : ℕ) (ns : List ℕ) → isIn n ns ≡ true → Among n ns
+isIn-among n [] h = absurd (false≢true h)
+isIn-among n (m ∷ ms) h = go (isIn-among n ms) (eqb n m) refl h
   where
-    go : (eqb n m ≡ true) ⊎ (isIn n ns ≡ true) → (n ≡ m) ⊎ (isIn n ns ≡ true)
-    go (inl e) = inl (eqb-true n m e)
-    go (inr e) = inr e
+    go : (isIn n ms ≡ true → Among n ms) → (b : Bool) → eqb n m ≡ b → b || isIn n ms ≡ true → Among n (m ∷ ms)
+    go ih true e k = inl (eqb-true n m e)
+    go ih false e k = inr (ih k)
 
-pub isIn-one : (n m : ℕ) → isIn n (m ∷ []) ≡ true → n ≡ m
-isIn-one n m h = go (isIn-cases n m [] h)
-  where
-    go : (n ≡ m) ⊎ (false ≡ true) → n ≡ m
-    go (inl e) = e
-    go (inr e) = absurd (false≢true e)
+pub among-isIn : (n : ℕ) (ns : List ℕ) → Among n ns → isIn n ns ≡ true
+among-isIn n [] m = absurd m
+among-isIn n (m ∷ ms) (inl e) = rw (eq-eqb n m e)
+among-isIn n (m ∷ ms) (inr k) = or-right (eqb n m) (isIn n ms) (among-isIn n ms k)
 
-pub min-cases : (a b : ℕ) → (min a b ≡ a) ⊎ (min a b ≡ b)
-min-cases a b = by-bool (leb a b) (λ e. inl (let h = leb-true a b e in omega arith)) (λ e. inr (let h = leb-false a b e in omega arith))
-
-pub least-in : (b : ℕ) (bs : List ℕ) → isIn (least (b ∷ bs)) (b ∷ bs) ≡ true
-least-in b [] = isIn-head b []
-least-in b (c ∷ cs) = go (min-cases b (least (c ∷ cs))) (least-in c cs)
-  where
-    go : (min b (least (c ∷ cs)) ≡ b) ⊎ (min b (least (c ∷ cs)) ≡ least (c ∷ cs)) → isIn (least (c ∷ cs)) (c ∷ cs) ≡ true → isIn (min b (least (c ∷ cs))) (b ∷ c ∷ cs) ≡ true
-    go (inl e) h = subst (λ (x : ℕ). isIn x (b ∷ c ∷ cs) ≡ true) (sym e) (isIn-head b (c ∷ cs))
-    go (inr e) h = subst (λ (x : ℕ). isIn x (b ∷ c ∷ cs) ≡ true) (sym e) (isIn-cons (least (c ∷ cs)) b (c ∷ cs) h)
-
--- the smallest of some numbers is one of them
-pub least-some : (v : ℕ) (ns : List ℕ) → isIn v ns ≡ true → isIn (least ns) ns ≡ true
-least-some v [] h = absurd (false≢true h)
-least-some v (n ∷ ns) h = least-in n ns
-
-pub least-full : (ns : List ℕ) → isEmpty ns ≡ false → isIn (least ns) ns ≡ true
-least-full [] h = absurd (false≢true (sym h))
-least-full (n ∷ ns) h = least-in n ns
-
--- a smallest that is not the 0 of none
-pub least-pos : (ns : List ℕ) → (least ns ≡ 0 → ⊥) → isIn (least ns) ns ≡ true
-least-pos [] h = absurd (h refl)
-least-pos (n ∷ ns) h = least-in n ns
-
-pub least-le : (v : ℕ) (ns : List ℕ) → isIn v ns ≡ true → least ns ≤ v
-least-le v [] h = absurd (false≢true h)
-least-le v (n ∷ []) h = let q = isIn-one v n h in omega arith
-least-le v (n ∷ m ∷ ns) h = go (least-le v (m ∷ ns)) (isIn-cases v n (m ∷ ns) h)
-  where
-    go : (isIn v (m ∷ ns) ≡ true → least (m ∷ ns) ≤ v) → (v ≡ n) ⊎ (isIn v (m ∷ ns) ≡ true) → min n (least (m ∷ ns)) ≤ v
-    go ih (inl q) = omega arith
-    go ih (inr q) = let w = ih q in omega arith
-
--- ---- a test on each number
-
-pub all-intro : (p : ℕ → Bool) (ns : List ℕ) → ((v : ℕ) → isIn v ns ≡ true → p v ≡ true) → all p ns ≡ true
-all-intro p [] h = refl
-all-intro p (n ∷ ns) h = and-intro (h n (isIn-head n ns)) (all-intro p ns (λ v k. h v (isIn-cons v n ns k)))
-
-pub all-use : (p : ℕ → Bool) (ns : List ℕ) (v : ℕ) → all p ns ≡ true → isIn v ns ≡ true → p v ≡ true
-all-use p [] v h k = absurd (false≢true k)
-all-use p (n ∷ ns) v h k = go (all-use p ns v (and-r (p n) (all p ns) h)) (isIn-cases v n ns k)
-  where
-    go : (isIn v ns ≡ true → p v ≡ true) → (v ≡ n) ⊎ (isIn v ns ≡ true) → p v ≡ true
-    go ih (inl q) = rw q (and-l (p n) (all p ns) h)
-    go ih (inr q) = ih q
-
-pub all-not : (p : ℕ → Bool) (ns : List ℕ) (v : ℕ) → all p ns ≡ true → p v ≡ false → isIn v ns ≡ false
-all-not p ns v h k = by-bool (isIn v ns) (λ q. absurd (clash (all-use p ns v h q) k)) (λ q. q)
-
--- a number in the list that no other is below
-pub least-is : (b : ℕ) (ns : List ℕ) → isIn b ns ≡ true → ((v : ℕ) → isIn v ns ≡ true → b ≤ v) → least ns ≡ b
-least-is b ns h k = let x = least-le b ns h in let y = k (least ns) (least-some b ns h) in omega arith
-
--- ---- under a function
-
-pub isIn-map : (f : ℕ → ℕ) (v : ℕ) (ns : List ℕ) → isIn v ns ≡ true → isIn (f v) (map f ns) ≡ true
-isIn-map f v [] h = h
-isIn-map f v (n ∷ ns) h = go (isIn-map f v ns) (isIn-cases v n ns h)
-  where
-    go : (isIn v ns ≡ true → isIn (f v) (map f ns) ≡ true) → (v ≡ n) ⊎ (isIn v ns ≡ true) → isIn (f v) (map f (n ∷ ns)) ≡ true
-    go ih (inl q) = rw q (isIn-head (f n) (map f ns))
-    go ih (inr q) = isIn-cons (f v) (f n) (map f ns) (ih q)
-
-pub isIn-unmap : (f : ℕ → ℕ) (w : ℕ) (ns : List ℕ) → isIn w (map f ns) ≡ true → (v : ℕ) × (isIn v ns ≡ true) × (f v ≡ w)
-isIn-unmap f w [] h = absurd (false≢true h)
-isIn-unmap f w (n ∷ ns) h = go (isIn-unmap f w ns) (isIn-cases w (f n) (map f ns) h)
-  where
-    go : (isIn w (map f ns) ≡ true → (v : ℕ) × (isIn v ns ≡ true) × (f v ≡ w)) → (w ≡ f n) ⊎ (isIn w (map f ns) ≡ true) → (v : ℕ) × (isIn v (n ∷ ns) ≡ true) × (f v ≡ w)
-    go ih (inl q) = (n, isIn-head n ns, sym q)
-    go ih (inr q) = let r = ih q in (r .0, isIn-cons (r .0) n ns (r .1), r .2)
+module _ {A : Type 0} (d : A) where
+  pub getD-among : (xs : List A) (i : ℕ) → i < length xs → Among (getD xs i d) xs
+  getD-among [] i h = absurd (not-suc-le-zero h)
+  getD-among (x ∷ xs) zero h = inl refl
+  getD-among (x ∷ xs) (suc i) h = inr (getD-among xs i (le-of-suc-le-suc h))

@@ -1,6 +1,9 @@
 -- Laws of Bool-valued tests.
-use mathlib.Core.Bool.{Bool, true, false, _&&_, _||_, not, cond, false≢true}
+use mathlib.Core.Bool.{Bool, true, false, _&&_, _||_, false≢true}
 use mathlib.Core.Path.{_≡_, refl, sym, ap, _∙_}
+use Prim.Native.Nat.{ℕ}
+use lib.Dec.{eqb}
+use borrow.Author.Tests.{eqb-true, eqb-false, eq-eqb, ne-eqb}
 
 pub and-false : {a : Bool} (b : Bool) → a ≡ false → a && b ≡ false
 and-false b e = rw e
@@ -34,3 +37,20 @@ or-true b e = rw e
 
 pub or-false : {a : Bool} (b : Bool) → a ≡ false → a || b ≡ b
 or-false b e = rw e
+
+pub or-right-true : (a : Bool) {b : Bool} → b ≡ true → a || b ≡ true
+or-right-true true e = refl
+or-right-true false e = e
+
+-- two tests that hold together are equal
+pub same-test : (a b : Bool) → (a ≡ true → b ≡ true) → (b ≡ true → a ≡ true) → a ≡ b
+same-test true b f g = sym (f refl)
+same-test false true f g = g refl
+same-test false false f g = refl
+
+pub eqb-swap : (a b : ℕ) → eqb a b ≡ eqb b a
+eqb-swap a b = go (eqb b a) refl
+  where
+    go : (t : Bool) → eqb b a ≡ t → eqb a b ≡ t
+    go true q = eq-eqb a b (sym (eqb-true b a q))
+    go false q = ne-eqb a b (λ e. eqb-false b a q (sym e))

@@ -9,17 +9,8 @@ use lib.Dec.{leb}
 use borrow.Author.Tests.{leb-true}
 use lib.ListN.{length, getD}
 use Rattle.lists.specs.Lists.{upFrom, risesFrom}
-use Rattle.lists.specs.Bools.{and-l, and-r}
+use Rattle.lists.specs.Choices.{and-left, and-right}
 use Rattle.lists.specs.Each.{All, All-map}
-
-pub length-up : (n i : ℕ) → length (upFrom i n) ≡ n
-length-up zero i = refl
-length-up (suc n) i = ap suc (length-up n (suc i))
-
-pub getD-up : {A : Type 0} (f : ℕ → A) (d : A) (n i r : ℕ) → r < n → getD (map f (upFrom i n)) r d ≡ f (i + r)
-getD-up f d zero i r h = absurd (omega arith)
-getD-up f d (suc n) i zero h = ap f (sym (add-zero i))
-getD-up f d (suc n) i (suc r) h = getD-up f d n (suc i) r (omega arith) ∙ ap f (omega arith)
 
 pub map-up : {A : Type 0} (f g : ℕ → A) (n i : ℕ) → ((x : ℕ) → x < i + n → f x ≡ g x) → map f (upFrom i n) ≡ map g (upFrom i n)
 map-up f g zero i h = refl
@@ -33,5 +24,5 @@ map-shift f (suc n) i = λ j. f (suc i) ∷ map-shift f n (suc i) j
 pub rises-all : {A : Type 0} (key : A → ℕ) (m : ℕ) (xs : List A) → risesFrom m key xs ≡ true → All (λ x. m ≤ key x) xs
 rises-all key m [] h = tt
 rises-all key m (x ∷ xs) h =
-    let l = leb-true m (key x) (and-l (leb m (key x)) (risesFrom (key x) key xs) h) in
-    (l, All-map {P = λ y. key x ≤ key y} {Q = λ y. m ≤ key y} (λ y k. omega arith) xs (rises-all key (key x) xs (and-r (leb m (key x)) (risesFrom (key x) key xs) h)))
+    let l = leb-true m (key x) (and-left (leb m (key x)) (risesFrom (key x) key xs) h) in
+    (l, All-map {P = λ y. key x ≤ key y} {Q = λ y. m ≤ key y} (λ y k. omega arith) xs (rises-all key (key x) xs (and-right (leb m (key x)) (risesFrom (key x) key xs) h)))

@@ -1,14 +1,15 @@
 -- What a loop over a slice uses: what is left from i on, one element further; and the ends of loops that test or fill.
 use Prim.Native.Nat.{ℕ, zero, suc, _+_, _≤_, _<_}
 use mathlib.Core.List.{List, [], _∷_, map, map-append}
-use mathlib.Core.Bool.{Bool, true, false, _&&_, false≢true}
+use mathlib.Core.Bool.{Bool, true, false, false≢true}
 use mathlib.Core.Path.{_≡_, refl, sym, ap, _∙_}
 use mathlib.Core.Logic.{⊎-elim}
 use native.Mathlib.Nat.{le-of-suc-le-suc, not-suc-le-zero, eq-or-lt-of-le}
 use native.Mathlib.Numerals.{add-one}
+use native.Mathlib.Omega.{arith}
 use lib.ListN.{length, getD, take, drop, set, drop-of-length-le}
 use lib.Seq.{drop-cons, take-suc, take-suc-set, take-all}
-use Rattle.lists.specs.Lists.{allBelow}
+use Rattle.lists.specs.Lists.{allBelow, upFrom}
 use Rattle.lists.specs.Tests.{and-false, and-right-false, and-both}
 
 module _ {A : Type 0} where
@@ -42,6 +43,14 @@ module _ (p : ℕ → Bool) where
       go true e = e
       go false e = absurd (false≢true (sym (below-false n r l e) ∙ h))
 
+  pub below-of-each : (n : ℕ) → ((r : ℕ) → r < n → p r ≡ true) → allBelow n p ≡ true
+  below-of-each zero f = refl
+  below-of-each (suc n) f = rw (below-of-each n (λ r l. f r (omega arith)), f n (omega arith))
+
+pub below-same : (p q : ℕ → Bool) (n : ℕ) → ((r : ℕ) → r < n → p r ≡ q r) → allBelow n p ≡ allBelow n q
+below-same p q zero f = refl
+below-same p q (suc n) f = rw (below-same p q n (λ r l. f r (omega arith)), f n (omega arith))
+
 pub below-all : (p q : ℕ → Bool) → ((r : ℕ) → p r ≡ true → q r ≡ true) → (n : ℕ) → allBelow n p ≡ true → allBelow n q ≡ true
 below-all p q f zero h = refl
 below-all p q f (suc n) h =
@@ -55,3 +64,17 @@ module _ {A B : Type 0} (f : A → B) (xs : List A) (ys : List B) (i : ℕ) wher
 
   pub fill-all : length xs ≤ i → length ys ≤ i → take i ys ≡ map f (take i xs) → ys ≡ map f xs
   fill-all hx hy e = rw (take-all i xs hx, take-all i ys hy) at e
+
+-- ---- a list of f of each number from i on
+pub length-upFrom : (i n : ℕ) → length (upFrom i n) ≡ n
+length-upFrom i zero = refl
+length-upFrom i (suc n) = ap suc (length-upFrom (suc i) n)
+
+pub getD-upFrom : {A : Type 0} (f : ℕ → A) (d : A) (i n r : ℕ) → r < n → getD (map f (upFrom i n)) r d ≡ f (i + r)
+getD-upFrom f d i zero r l = absurd (not-suc-le-zero l)
+getD-upFrom f d i (suc n) zero l =
+    let e : i ≡ i + 0 = omega arith in
+    ap f e
+getD-upFrom f d i (suc n) (suc r) l =
+    let e : suc i + r ≡ i + suc r = omega arith in
+    getD-upFrom f d (suc i) n r (le-of-suc-le-suc l) ∙ ap f e

@@ -201,3 +201,7 @@ within ceiling (refused r) = refused r
 -- a move in words: 5, then 7 to 12
 unfoldable pub stepWords : ℕ → Table → ℕ → State → List ℕ → Stepped
 stepWords ceiling t i s m = cond (moveOk t m) (within ceiling (step t i s (moveOf t m))) (refused MoveForm)
+
+-- the same as a verdict, for a reader who tests before anything is changed
+unfoldable pub moveVerdict : ℕ → Table → State → Move → Verdict
+moveVerdict ceiling t s m = both (allowed t s m) (unless (leb (length (applied t 0 s m .entries)) ceiling) TooManyEntries)

@@ -7,6 +7,7 @@ use lib.ListN.{length, getD, take, drop}
 use Rattle.lists.specs.Lists.{given, all, any, count, keep, keepBeside, risesFrom, allBelow, upFrom}
 use Rattle.semantics.specs.Words.{atomRole, atomMode, portOf, valueOf}
 use Rattle.semantics.specs.declared.Sizes.{Sizes}
+use Rattle.semantics.specs.declared.Shape.{Shape}
 use Rattle.semantics.specs.declared.Atom.{Atom}
 use Rattle.semantics.specs.declared.AtomValue.{AtomValue}
 use Rattle.semantics.specs.declared.AtomValue.the-variants.{Constant, Received}
@@ -61,12 +62,6 @@ numbersOk rules numbers = all (λ n. ltb n rules) numbers && risesFrom 0 (λ n. 
 
 abbrev pub isRole : ℕ → ℕ → Bool
 isRole k w = eqb (atomRole w) k
-
--- what an atom's conditions have to know of its rule: its numbers of consumes (takes) and begins (opens), and its class
-pub record Shape : Type 0 where
-  pub consumes : ℕ
-  pub begins : ℕ
-  pub class : ℕ
 
 -- An atom's value is either a constant (mode 0) or the value received by a numbered take (mode 1; the rule's takes count from 0, and that take
 -- exists). Other modes .. are wrong.

@@ -54,6 +54,14 @@ pub struct Sizes {
     pub atoms: u32,
 }
 
+// What an atom's conditions have to know of its rule: its numbers of consumes (takes) and begins
+// (opens), and its class (0 global, 1 local, 2 merge).
+pub struct Shape {
+    pub consumes: usize,
+    pub begins: usize,
+    pub class: u32,
+}
+
 // An atom's value: a constant, or the value received by a consume atom (take) of its rule, from 0.
 pub enum AtomValue {
     Constant(u16),

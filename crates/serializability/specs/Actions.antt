@@ -7,8 +7,9 @@ use Prim.Native.Nat.{ℕ, suc}
 use lib.Dec.{eqb, ltb}
 use borrow.Author.Tests.{eqb-true, eq-eqb, ne-eqb}
 use Rattle.lists.specs.Lists.{all, isEmpty, isIn, least}
-use Rattle.lists.specs.Bools.{clash, and-l, and-r, and-intro, or-r}
-use Rattle.lists.specs.Members.{isIn-head, isIn-one, least-in}
+use Rattle.lists.specs.Tests.{or-right-true}
+use Rattle.lists.specs.Choices.{clash, and-left, and-right, and-intro}
+use Rattle.lists.specs.Numbers.{isIn-head, isIn-one, least-in}
 use Rattle.semantics.specs.Table.{Table, Rule, ruleAt, consumed, productAtoms}
 use Rattle.semantics.specs.State.{Origin, Entry, isMessage, isAbortMark, isMemberMark, owned}
 use Rattle.semantics.specs.Move.{Move, react, commit, abort, onPorts, ownersFit, merged, toGlobal}
@@ -136,7 +137,7 @@ end-ok t F a k en = go (a .move) en (k .tests) (k .whole)
 -- ---- the actions of moves stay in their transactions
 
 pub mine-in : (bs : List ℕ) (e : Entry) → isIn (e .owner) bs ≡ true → mine bs e ≡ true
-mine-in bs e h = or-r (eqb (e .owner) 0) h
+mine-in bs e h = or-right-true (eqb (e .owner) 0) h
 
 pub mine-zero : (bs : List ℕ) (e : Entry) → e .owner ≡ 0 → mine bs e ≡ true
 mine-zero bs e h = rw (eq-eqb (e .owner) 0 h)
@@ -147,7 +148,7 @@ mine-least (b ∷ bs) e h = mine-in (b ∷ bs) e (subst (λ (v : ℕ). isIn v (b
 
 pub all-strip : (p : Entry → Bool) (l : List Entry) → all (λ e. p (strip e)) l ≡ true → all p (map strip l) ≡ true
 all-strip p [] h = refl
-all-strip p (e ∷ l) h = and-intro (and-l (p (strip e)) (all (λ e. p (strip e)) l) h) (all-strip p l (and-r (p (strip e)) (all (λ e. p (strip e)) l) h))
+all-strip p (e ∷ l) h = and-intro (and-left (p (strip e)) (all (λ e. p (strip e)) l) h) (all-strip p l (and-right (p (strip e)) (all (λ e. p (strip e)) l) h))
 
 -- a product has the move for its maker, and the owner w
 pub product-of : (i w : ℕ) (vs : List ℕ) (R : Rule) (o : Origin) (e : Entry) → look o (map strip (make i w vs 0 (productAtoms R))) ≡ some e → (o .maker ≡ i) × (e .owner ≡ w)
@@ -155,8 +156,8 @@ product-of i w vs R o e h =
     let p : Entry → Bool = λ e. eqb (e .origin .maker) i && eqb (e .owner) w in
     let l = map strip (make i w vs 0 (productAtoms R)) in
     let q = look-all p o l (all-strip p (make i w vs 0 (productAtoms R)) (make-all (λ e. p (strip e)) i w vs 0 (productAtoms R) (λ e k l. and-intro (eq-eqb (e .origin .maker) i k) (eq-eqb (e .owner) w l)))) h in (
-      ap (λ (x : Origin). x .maker) (sym (look-origin o l h)) ∙ eqb-true (e .origin .maker) i (and-l (eqb (e .origin .maker) i) (eqb (e .owner) w) q),
-      eqb-true (e .owner) w (and-r (eqb (e .origin .maker) i) (eqb (e .owner) w) q),
+      ap (λ (x : Origin). x .maker) (sym (look-origin o l h)) ∙ eqb-true (e .origin .maker) i (and-left (eqb (e .origin .maker) i) (eqb (e .owner) w) q),
+      eqb-true (e .owner) w (and-right (eqb (e .origin .maker) i) (eqb (e .owner) w) q),
     )
 
 pub react-local : (R : Rule) (i : ℕ) (os : List Origin) (bs vs : List ℕ) → Local (reactAction R i os bs vs) bs i

@@ -6,7 +6,7 @@ use Prim.Native.Nat.{ℕ, suc, _+_}
 use lib.Dec.{eqb, ltb}
 use lib.ListN.{List·getD-map}
 use Rattle.lists.specs.Lists.{all, any, keep, keepIf, isIn, distinct, without}
-use Rattle.lists.specs.Each.{keep-map, all-map, any-map}
+use Rattle.lists.specs.Parts.{keep-map, all-map, any-map}
 use Rattle.semantics.specs.Table.{Table, Rule, ruleAt, consumed, productAtoms, begins}
 use Rattle.semantics.specs.State.{Entry, State, isMessage, isCompensation, isAbortMark, owned}
 use Rattle.semantics.specs.Move.{Move, react, commit, abort, unless, both, nothing, picked, onPorts, ownersAt, ownersFit, hasId, reactAllowed, merged, ownerMade, valueIn, kindMade, products, reacted, isOpen, entriesIn, mayCommit, mayAbort, toGlobal, freed, ended, allowed, applied}

@@ -8,7 +8,8 @@ use native.Mathlib.Omega.{arith}
 use lib.Dec.{eqb}
 use borrow.Author.Tests.{eqb-true, eq-eqb}
 use Rattle.lists.specs.Lists.{all, any}
-use Rattle.lists.specs.Bools.{and-l, and-r, and-intro, or-r}
+use Rattle.lists.specs.Tests.{or-right-true}
+use Rattle.lists.specs.Choices.{and-left, and-right, and-intro}
 use Rattle.lists.specs.Each.{head-eq, tail-eq}
 use Rattle.semantics.specs.State.{Origin, Entry}
 use Rattle.semantics.specs.Serial.{sameOrigin}
@@ -51,7 +52,7 @@ pub same-refl : (o : Origin) → sameOrigin o o ≡ true
 same-refl o = and-intro (eq-eqb (o .maker) (o .maker) refl) (eq-eqb (o .index) (o .index) refl)
 
 pub same-eq : (a b : Origin) → sameOrigin a b ≡ true → a ≡ b
-same-eq a b h = go (eqb-true (a .maker) (b .maker) (and-l (eqb (a .maker) (b .maker)) (eqb (a .index) (b .index)) h)) (eqb-true (a .index) (b .index) (and-r (eqb (a .maker) (b .maker)) (eqb (a .index) (b .index)) h))
+same-eq a b h = go (eqb-true (a .maker) (b .maker) (and-left (eqb (a .maker) (b .maker)) (eqb (a .index) (b .index)) h)) (eqb-true (a .index) (b .index) (and-right (eqb (a .maker) (b .maker)) (eqb (a .index) (b .index)) h))
   where
     go : a .maker ≡ b .maker → a .index ≡ b .index → a ≡ b
     go p q = λ i. record { maker = p i; index = q i }
@@ -67,7 +68,7 @@ pub isInO-head : (o : Origin) (os : List Origin) → isInO o (o ∷ os) ≡ true
 isInO-head o os = rw (same-refl o)
 
 pub isInO-cons : (o q : Origin) (os : List Origin) → isInO o os ≡ true → isInO o (q ∷ os) ≡ true
-isInO-cons o q os h = or-r (sameOrigin o q) h
+isInO-cons o q os h = or-right-true (sameOrigin o q) h
 
 -- ---- the entry of an origin
 
@@ -85,10 +86,10 @@ look-origin o (x ∷ l) {e} h = go (look-origin o l) (sameOrigin o (x .origin)) 
 
 pub look-all : (p : Entry → Bool) (o : Origin) (l : List Entry) {e : Entry} → all p l ≡ true → look o l ≡ some e → p e ≡ true
 look-all p o [] t h = absurd (none-some h)
-look-all p o (x ∷ l) {e} t h = go (look-all p o l (and-r (p x) (all p l) t)) (sameOrigin o (x .origin)) h
+look-all p o (x ∷ l) {e} t h = go (look-all p o l (and-right (p x) (all p l) t)) (sameOrigin o (x .origin)) h
   where
     go : (look o l ≡ some e → p e ≡ true) → (b : Bool) → cond b (some x) (look o l) ≡ some e → p e ≡ true
-    go ih true r = subst (λ (z : Entry). p z ≡ true) (some-inj r) (and-l (p x) (all p l) t)
+    go ih true r = subst (λ (z : Entry). p z ≡ true) (some-inj r) (and-left (p x) (all p l) t)
     go ih false r = ih r
 
 -- ---- cells found at a list of origins
@@ -98,10 +99,10 @@ pub found-at : (f : Origin → Option Entry) (p : Entry → Bool) (o : Origin) (
 found-at f p o [] es h t i = absurd (false≢true i)
 found-at f p o (q ∷ os) [] h t i = absurd (cons≢nil h)
 found-at f p o (q ∷ os) (e ∷ es) h t i =
-    go (found-at f p o os es (tail-eq h) (and-r (p e) (all p es) t)) (sameOrigin o q) refl i
+    go (found-at f p o os es (tail-eq h) (and-right (p e) (all p es) t)) (sameOrigin o q) refl i
   where
     go : (isInO o os ≡ true → (e : Entry) × (f o ≡ some e) × (p e ≡ true)) → (b : Bool) → sameOrigin o q ≡ b → (b || isInO o os) ≡ true → (e : Entry) × (f o ≡ some e) × (p e ≡ true)
-    go ih true w k = (e, ap f (same-eq o q w) ∙ head-eq h, and-l (p e) (all p es) t)
+    go ih true w k = (e, ap f (same-eq o q w) ∙ head-eq h, and-left (p e) (all p es) t)
     go ih false w k = ih k
 
 pub map-frame : (f g : Origin → Option Entry) (p : Entry → Bool) (os : List Origin) (es : List Entry)
@@ -110,6 +111,6 @@ pub map-frame : (f g : Origin → Option Entry) (p : Entry → Bool) (os : List 
 map-frame f g p [] es k h t = h
 map-frame f g p (q ∷ os) [] k h t = absurd (cons≢nil h)
 map-frame f g p (q ∷ os) (e ∷ es) k h t =
-    let r = map-frame f g p os es (λ o e′ i. k o e′ (isInO-cons o q os i)) (tail-eq h) (and-r (p e) (all p es) t) in
-    let w = k q e (isInO-head q os) (head-eq h) (and-l (p e) (all p es) t) in
+    let r = map-frame f g p os es (λ o e′ i. k o e′ (isInO-cons o q os i)) (tail-eq h) (and-right (p e) (all p es) t) in
+    let w = k q e (isInO-head q os) (head-eq h) (and-left (p e) (all p es) t) in
     rw (w, r)

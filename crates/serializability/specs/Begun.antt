@@ -10,7 +10,7 @@ use lib.Dec.{eqb, ltb}
 use borrow.Author.Tests.{ltb-true}
 use lib.ListN.{length}
 use Rattle.lists.specs.Lists.{all, any}
-use Rattle.lists.specs.Bools.{or-r}
+use Rattle.lists.specs.Tests.{or-right-true}
 use Rattle.semantics.specs.Table.{Table, Rule, ruleAt, begins, productAtoms}
 use Rattle.semantics.specs.State.{Origin, Entry, owned}
 use Rattle.semantics.specs.Move.{Move, react, commit, abort, toGlobal}
@@ -84,7 +84,7 @@ mark-source t sd (x ∷ xs) i F G ys r o d h z = go (mark-source t sd xs (suc i)
 
     go : ((c : Entry) × (astep t F x .cell o ≡ some c) × (c .kind ≡ 3)) ⊎ (begunIn t o xs ≡ true) → ((c : Entry) × (F .cell o ≡ some c) × (c .kind ≡ 3)) ⊎ (begunIn t o (x ∷ xs) ≡ true)
     go (inl (c, p, k)) = two (mark-from t sd (F .cell) x (received F x) (x .move) o c (apply-inv (F .cell) (actionOf t (received F x) x) o c p) k)
-    go (inr q) = inr (or-r (begun t (x .move) && any (sameOrigin o) (x .members)) q)
+    go (inr q) = inr (or-right-true (begun t (x .move) && any (sameOrigin o) (x .members)) q)
 
 -- from a start without marks
 pub begun-before-of : (t : Table) → Sound t → (xs : List Deed) (F G : Seen) (a : Deed) (ys : List Deed) → Good 0 F → ((o : Origin) (c : Entry) → F .cell o ≡ some c → c .kind ≡ 3 → ⊥) → LogRuns t 0 F (xs ++ a ∷ ys) G → isEnd (a .move) ≡ true

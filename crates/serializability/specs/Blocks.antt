@@ -9,8 +9,10 @@ use lib.Dec.{eqb}
 use borrow.Author.Tests.{eqb-true, eq-eqb, ne-eqb}
 use lib.ListN.{length, length-append}
 use Rattle.lists.specs.Lists.{any, isEmpty, keep, keepIf, least}
-use Rattle.lists.specs.Bools.{by-bool, same-test, and-l, and-r}
-use Rattle.lists.specs.Each.{All, All-map, empty-nil, any-found, keep-append, keep-same, keep-none, keep-map}
+use Rattle.lists.specs.Tests.{same-test}
+use Rattle.lists.specs.Choices.{by-bool, and-left, and-right}
+use Rattle.lists.specs.Parts.{keep-append, keep-map}
+use Rattle.lists.specs.Each.{All, All-map, empty-nil, any-found, keep-same, keep-none}
 use Rattle.semantics.specs.Table.{Table}
 use Rattle.semantics.specs.State.{Origin, Entry, isMemberMark, owned}
 use Rattle.semantics.specs.Serial.{Act, isEnd, isInner, sameOrigin, belongsTo, block, ordered}
@@ -33,7 +35,7 @@ pub end-member : (F : Seen) (a : Deed) → EndOk F a → (o : Origin) → isInO 
 end-member F a E o h =
     let b = least (a .touched) in
     let q = found-at (F .cell) (markOf b) o (a .picks) (E .es) (E .found) (E .marks) (subst (λ (l : List Origin). isInO o l ≡ true) (E .members) h) in
-    (q .0, q .1, eqb-true (q .0 .kind) 3 (and-l (isMemberMark (q .0)) (owned b (q .0)) (q .2)), eqb-true (q .0 .owner) b (and-r (isMemberMark (q .0)) (owned b (q .0)) (q .2)))
+    (q .0, q .1, eqb-true (q .0 .kind) 3 (and-left (isMemberMark (q .0)) (owned b (q .0)) (q .2)), eqb-true (q .0 .owner) b (and-right (isMemberMark (q .0)) (owned b (q .0)) (q .2)))
 
 module _ (t : Table) (sd : Sound t) (G : Seen) where
   module _ (i : ℕ) (F : Seen) (x : Deed) (zs ys : List Deed) (a : Deed) (g : Good i F) (r : LogRuns t i F (x ∷ zs ++ a ∷ ys) G) where

@@ -9,7 +9,7 @@ use native.Mathlib.Omega.{arith}
 use lib.Dec.{eqb}
 use borrow.Author.Tests.{eqb-true}
 use Rattle.lists.specs.Lists.{isIn}
-use Rattle.lists.specs.Bools.{by-bool, clash, is-false, or-cases}
+use Rattle.lists.specs.Choices.{by-bool, clash, is-false, or-cases}
 use Rattle.semantics.specs.State.{Origin, Entry}
 use Rattle.serializability.specs.Base.{orElse, orElse-none, bindO, look, some-inj, none-some, is-none}
 

@@ -7,11 +7,14 @@ use mathlib.Core.List.{List, [], _∷_, _++_, map}
 use Prim.Native.Nat.{ℕ, suc, _+_, _≤_, _<_}
 use native.Mathlib.Omega.{arith}
 use lib.Dec.{eqb}
-use borrow.Author.Tests.{eqb-true, eq-eqb}
+use borrow.Author.Tests.{eqb-true, eq-eqb, not-false}
 use lib.ListN.{length, getD, length-map}
 use Rattle.lists.specs.Lists.{all, any, keep, count, upFrom}
-use Rattle.lists.specs.Bools.{is-false, and-intro, or-l-false, or-r-false, not-false}
-use Rattle.lists.specs.Each.{All, count-map, any-map, map-split}
+use Rattle.lists.specs.Choices.{is-false, and-intro}
+use Rattle.lists.specs.Neither.{or-left-false, or-right-false}
+use Rattle.lists.specs.Parts.{any-map}
+use Rattle.lists.specs.Counting.{count-map}
+use Rattle.lists.specs.Each.{All, map-split}
 use Rattle.semantics.specs.Table.{Table}
 use Rattle.semantics.specs.State.{Origin, Entry, State, isMessage, owned, stateWords}
 use Rattle.semantics.specs.Move.{Move, react, commit, abort, applied}
@@ -66,7 +69,7 @@ maker-numbered q (e ∷ l) n = and-intro (eq-eqb (e .origin .maker) 0 (ap (λ (x
 
 pub all-closed : (l : List Entry) → any (λ e. not (owned 0 e)) l ≡ false → all (owned 0) l ≡ true
 all-closed [] h = refl
-all-closed (e ∷ l) h = and-intro (not-false (owned 0 e) (or-l-false (not (owned 0 e)) (any (λ e. not (owned 0 e)) l) h)) (all-closed l (or-r-false (not (owned 0 e)) (any (λ e. not (owned 0 e)) l) h))
+all-closed (e ∷ l) h = and-intro (not-false (owned 0 e) (or-left-false (not (owned 0 e)) (any (λ e. not (owned 0 e)) l) h)) (all-closed l (or-right-false (not (owned 0 e)) (any (λ e. not (owned 0 e)) l) h))
 
 pub closed-view : (s : State) → anyOpen s ≡ false → NoneOpen (view s)
 unfolding NoneOpen

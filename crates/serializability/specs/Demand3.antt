@@ -8,7 +8,7 @@ use lib.Dec.{leb}
 use borrow.Author.Tests.{le-leb, eqb-true}
 use lib.ListN.{length, length-map}
 use Rattle.lists.specs.Lists.{all}
-use Rattle.lists.specs.Bools.{and-l, and-r, and-intro}
+use Rattle.lists.specs.Choices.{and-left, and-right, and-intro}
 use Rattle.lists.specs.Each.{All, All-map, All-unmap}
 use Rattle.semantics.specs.Table.{Table, tableOf}
 use Rattle.semantics.specs.State.{Entry, State, owned, stateOf, stateWords}
@@ -30,7 +30,7 @@ use Rattle.serializability.specs.RunWords.{isId, RuleIn, run-accepted, a
 
 pub closed-ids : (l : List Entry) → all (owned 0) l ≡ true → all isId l ≡ true
 closed-ids [] h = refl
-closed-ids (e ∷ l) h = and-intro (ap (λ (n : ℕ). leb n 65535) (eqb-true (e .owner) 0 (and-l (owned 0 e) (all (owned 0) l) h))) (closed-ids l (and-r (owned 0 e) (all (owned 0) l) h))
+closed-ids (e ∷ l) h = and-intro (ap (λ (n : ℕ). leb n 65535) (eqb-true (e .owner) 0 (and-left (owned 0 e) (all (owned 0) l) h))) (closed-ids l (and-right (owned 0 e) (all (owned 0) l) h))
 
 pub deeds-rules : (t : Table) (i : ℕ) (s : State) (ms : List Move) → All (RuleIn t) ms → All (λ a. RuleIn t (a .move)) (deeds t i s ms)
 unfolding deeds

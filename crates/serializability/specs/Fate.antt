@@ -10,8 +10,8 @@ use lib.Dec.{eqb}
 use borrow.Author.Tests.{eqb-true}
 use lib.ListN.{length}
 use Rattle.lists.specs.Lists.{isEmpty, isIn, least}
-use Rattle.lists.specs.Bools.{by-bool, clash, is-false, or-cases}
-use Rattle.lists.specs.Members.{isIn-one, least-some, least-pos}
+use Rattle.lists.specs.Choices.{by-bool, clash, is-false, or-cases}
+use Rattle.lists.specs.Numbers.{isIn-one, least-some, least-pos}
 use Rattle.lists.specs.Each.{All, All-map, All-two}
 use Rattle.semantics.specs.Table.{Table}
 use Rattle.semantics.specs.State.{Origin, Entry}

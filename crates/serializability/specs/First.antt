@@ -8,8 +8,8 @@ use Prim.Native.Nat.{ℕ, suc}
 use lib.Dec.{eqb}
 use borrow.Author.Tests.{eqb-true, eq-eqb}
 use Rattle.lists.specs.Lists.{isEmpty, isIn, keep, count, least}
-use Rattle.lists.specs.Bools.{by-bool, clash, and-l, and-r, and-intro}
-use Rattle.lists.specs.Members.{least-full}
+use Rattle.lists.specs.Choices.{by-bool, clash, and-left, and-right, and-intro}
+use Rattle.lists.specs.Numbers.{least-full}
 use Rattle.lists.specs.Each.{All, All-map, All-keep, All-unmap}
 use Rattle.semantics.specs.Table.{Table, Rule, ruleAt, hasRole, consumed, begins}
 use Rattle.semantics.specs.State.{Origin, Entry, State, isMemberMark}
@@ -58,8 +58,8 @@ module _ (t : Table) (sd : Sound t) (i k : ℕ) (s : State) (r : ℕ) (ps : List
     where
       at : (e : Entry) → look (e .origin) (s .entries) ≡ some e → inOs e ≡ true → MarkAt (astep t (view s) theDeed .cell) (e .origin) (least (touched t s (react r ps)))
       at e h z =
-          let w : isIn (e .owner) (touched t s (react r ps)) ≡ true = subst (λ (l : List ℕ). isIn (e .owner) l ≡ true) (sym q) (and-r (isMemberMark e) (isIn (e .owner) os) z) in
-          let m = mark-stay t (view s .cell) theDeed (K .es) (received (view s) theDeed) (e .origin) (strip e) (react r ps) (K .tests) (K .found) (λ x. absurd (false≢true x)) (view-look s (e .origin) e h) (eqb-true (e .kind) 3 (and-l (isMemberMark e) (isIn (e .owner) os) z)) in
+          let w : isIn (e .owner) (touched t s (react r ps)) ≡ true = subst (λ (l : List ℕ). isIn (e .owner) l ≡ true) (sym q) (and-right (isMemberMark e) (isIn (e .owner) os) z) in
+          let m = mark-stay t (view s .cell) theDeed (K .es) (received (view s) theDeed) (e .origin) (strip e) (react r ps) (K .tests) (K .found) (λ x. absurd (false≢true x)) (view-look s (e .origin) e h) (eqb-true (e .kind) 3 (and-left (isMemberMark e) (isIn (e .owner) os) z)) in
           (m .0, m .1, m .2, m .3 ∙ rw w)
 
   pub begin-marks : begins R ≡ true → MarkAt (astep t (view s) theDeed .cell) (firstOf i) (least (touched t s (react r ps)))

@@ -8,7 +8,7 @@ use Prim.Native.Nat.{ℕ, suc, _+_, _≤_}
 use native.Mathlib.Omega.{arith}
 use lib.ListN.{length}
 use Rattle.lists.specs.Lists.{isIn, least}
-use Rattle.lists.specs.Bools.{by-bool, clash, is-false}
+use Rattle.lists.specs.Choices.{by-bool, clash, is-false}
 use Rattle.semantics.specs.Table.{Table}
 use Rattle.semantics.specs.State.{Origin, Entry}
 use Rattle.semantics.specs.Serial.{isEnd}

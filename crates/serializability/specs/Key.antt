@@ -7,7 +7,7 @@ use Prim.Native.Nat.{ℕ, suc, _≤_}
 use native.Mathlib.Omega.{arith}
 use lib.ListN.{length}
 use Rattle.lists.specs.Lists.{isEmpty, isIn, least, upFrom}
-use Rattle.lists.specs.Members.{least-in}
+use Rattle.lists.specs.Numbers.{least-in}
 use Rattle.semantics.specs.Table.{Table, ruleAt, begins}
 use Rattle.semantics.specs.State.{Origin, State}
 use Rattle.semantics.specs.Move.{Move, react, commit, abort, picked, ownersAt}

@@ -9,8 +9,8 @@ use lib.Dec.{eqb, ltb}
 use borrow.Author.Tests.{eqb-true, eq-eqb, ne-eqb, ltb-true}
 use lib.ListN.{length}
 use Rattle.lists.specs.Lists.{all, any, isEmpty, isIn, keep, least}
-use Rattle.lists.specs.Bools.{and-l, and-r, and-intro}
-use Rattle.lists.specs.Members.{isIn-head, isIn-cons, isIn-one}
+use Rattle.lists.specs.Choices.{and-left, and-right, and-intro}
+use Rattle.lists.specs.Numbers.{isIn-head, isIn-cons, isIn-one}
 use Rattle.lists.specs.Each.{All, All-map, All-keep, all-kept}
 use Rattle.semantics.specs.Table.{Table, Rule, ruleAt, consumed, productAtoms, begins}
 use Rattle.semantics.specs.State.{Origin, Entry, State, isMessage, isAbortMark, isMemberMark, owned}
@@ -80,7 +80,7 @@ view-found (t ∷ ts) l (p ∷ ps) u h =
 
 pub all-zero : (bs : List ℕ) (es : List Entry) → all isZero (owners es) ≡ true → all (mine bs) es ≡ true
 all-zero bs [] h = refl
-all-zero bs (e ∷ es) h = and-intro (mine-zero bs e (eqb-true (e .owner) 0 (and-l (eqb (e .owner) 0) (all isZero (owners es)) h))) (all-zero bs es (and-r (eqb (e .owner) 0) (all isZero (owners es)) h))
+all-zero bs (e ∷ es) h = and-intro (mine-zero bs e (eqb-true (e .owner) 0 (and-left (eqb (e .owner) 0) (all isZero (owners es)) h))) (all-zero bs es (and-right (eqb (e .owner) 0) (all isZero (owners es)) h))
 
 pub all-in : (bs : List ℕ) (es : List Entry) → ((v : ℕ) → isIn v (owners es) ≡ true → isIn v bs ≡ true) → all (mine bs) es ≡ true
 all-in bs [] h = refl
@@ -183,7 +183,7 @@ abbrev pub marked : ℕ → Entry → Bool
 marked b e = isMemberMark e && isIn (e .owner) (b ∷ [])
 
 pub marked-mark : (b : ℕ) (e : Entry) → marked b e ≡ true → markOf b e ≡ true
-marked-mark b e h = and-intro (and-l (isMemberMark e) (isIn (e .owner) (b ∷ [])) h) (eq-eqb (e .owner) b (isIn-one (e .owner) b (and-r (isMemberMark e) (isIn (e .owner) (b ∷ [])) h)))
+marked-mark b e h = and-intro (and-left (isMemberMark e) (isIn (e .owner) (b ∷ [])) h) (eq-eqb (e .owner) b (isIn-one (e .owner) b (and-right (isMemberMark e) (isIn (e .owner) (b ∷ [])) h)))
 
 pub mark-marked : (b : ℕ) (e : Entry) → e .kind ≡ 3 → e .owner ≡ b → marked b e ≡ true
 mark-marked b e h k = and-intro (eq-eqb (e .kind) 3 h) (rw k (isIn-head b []))
@@ -193,7 +193,7 @@ module _ (t : Table) (i k : ℕ) (s : State) (b : ℕ) (u : Uniq (s .entries)) (
   marksHere = keep (marked b) (s .entries)
 
   pub positive : b ≡ 0 → ⊥
-  positive z = let w = ltb-true 0 b (and-l (ltb 0 b) (any (owned b) (s .entries)) op) in omega arith
+  positive z = let w = ltb-true 0 b (and-left (ltb 0 b) (any (owned b) (s .entries)) op) in omega arith
 
   pub marks-found : map (view s .cell) (originsOf marksHere) ≡ map some (map strip marksHere)
   unfolding view marksHere
@@ -206,7 +206,7 @@ module _ (t : Table) (i k : ℕ) (s : State) (b : ℕ) (u : Uniq (s .entries)) (
 
   pub mark-there : Mark (view s .cell) b
   mark-there =
-      let q = any-look (owned b) (s .entries) u (and-r (ltb 0 b) (any (owned b) (s .entries)) op) in
+      let q = any-look (owned b) (s .entries) u (and-right (ltb 0 b) (any (owned b) (s .entries)) op) in
       let w : q .1 .owner ≡ b = eqb-true (q .1 .owner) b (q .3) in
       subst (λ (v : ℕ). Mark (view s .cell) v) w (g .marks (q .0) (strip (q .1)) (view-look s (q .0) (q .1) (q .2)) (λ z. positive (sym w ∙ z)))
 
@@ -238,7 +238,7 @@ module _ (t : Table) (i k : ℕ) (s : State) (b : ℕ) (u : Uniq (s .entries)) (
         es = map strip marksHere;
         found = marks-found;
         tests = (marks-mine (markOf b) (λ e h. marked-mark b e h), marks-some, refl, refl);
-        own = marks-mine (mine (b ∷ [])) (λ e h. mine-in (b ∷ []) (strip e) (and-r (isMemberMark e) (isIn (e .owner) (b ∷ [])) h));
+        own = marks-mine (mine (b ∷ [])) (λ e h. mine-in (b ∷ []) (strip e) (and-right (isMemberMark e) (isIn (e .owner) (b ∷ [])) h));
         noZero = rw (ne-eqb 0 b (λ z. positive (sym z)));
         roomy = refl;
         fresh = fresh-end;
@@ -265,7 +265,7 @@ module _ (t : Table) (i k : ℕ) (s : State) (b : ℕ) (u : Uniq (s .entries)) (
         es = map strip marksHere;
         found = marks-found;
         tests = (marks-mine (markOf b) (λ e h. marked-mark b e h), marks-some, refl, refl);
-        own = marks-mine (mine (b ∷ [])) (λ e h. mine-in (b ∷ []) (strip e) (and-r (isMemberMark e) (isIn (e .owner) (b ∷ [])) h));
+        own = marks-mine (mine (b ∷ [])) (λ e h. mine-in (b ∷ []) (strip e) (and-right (isMemberMark e) (isIn (e .owner) (b ∷ [])) h));
         noZero = rw (ne-eqb 0 b (λ z. positive (sym z)));
         roomy = refl;
         fresh = fresh-end;

@@ -10,8 +10,9 @@ use borrow.Author.Tests.{eq-eqb, lt-ltb, le-leb, leb-true}
 use lib.ListN.{length, getD, take, drop, replicate, length-map, length-append, length-take, List·getD-append}
 use lib.Seq.{drop-append-add, take-at, take-take}
 use Rattle.lists.specs.Lists.{all, upFrom}
-use Rattle.lists.specs.Bools.{and-l, and-r, and-intro}
-use Rattle.lists.specs.UpFrom.{length-up, map-up, map-shift}
+use Rattle.lists.specs.Choices.{and-left, and-right, and-intro}
+use Rattle.lists.specs.Walk.{length-upFrom}
+use Rattle.lists.specs.UpFrom.{map-up, map-shift}
 use Rattle.semantics.specs.Words.{headKind, headNumber, headWord}
 use Rattle.semantics.specs.Table.{Table, ruleAt, consumed}
 use Rattle.semantics.specs.Move.{Move, react, commit, abort, isZero, moveOk, moveOf}
@@ -133,10 +134,10 @@ moves-back ms = map-up (moveAt (logWords ms)) (fromColumns ms) (length ms) 0 (λ
 
 -- as many moves as the log's first word says
 pub moves-count : (L : List ℕ) → length (movesOf L) ≡ moveCount L
-moves-count L = length-map (upFrom 0 (moveCount L)) (moveAt L) ∙ length-up (moveCount L) 0
+moves-count L = length-map (upFrom 0 (moveCount L)) (moveAt L) ∙ length-upFrom 0 (moveCount L)
 
 pub count-1024 : (L : List ℕ) → logSizesOk L ≡ true → moveCount L ≤ 1024
 unfolding logSizesOk
 count-1024 L h =
     let e = eqb (length L) (1 + 5 * moveCount L) in
-    leb-true (moveCount L) 1024 (and-l (leb (moveCount L) 1024) e (and-r (leb 1 (length L)) (leb (moveCount L) 1024 && e) h))
+    leb-true (moveCount L) 1024 (and-left (leb (moveCount L) 1024) e (and-right (leb 1 (length L)) (leb (moveCount L) 1024 && e) h))

@@ -9,8 +9,8 @@ use native.Mathlib.Omega.{arith}
 use lib.Dec.{eqb}
 use borrow.Author.Tests.{eqb-true, eq-eqb, ne-eqb}
 use Rattle.lists.specs.Lists.{all, isEmpty, isIn, least}
-use Rattle.lists.specs.Bools.{by-bool, clash, is-false, and-l, and-r}
-use Rattle.lists.specs.Members.{isIn-cases}
+use Rattle.lists.specs.Choices.{by-bool, clash, is-false, and-left, and-right}
+use Rattle.lists.specs.Numbers.{isIn-cases}
 use Rattle.lists.specs.Each.{head-eq, tail-eq}
 use Rattle.semantics.specs.Table.{Table, Rule, ruleAt, consumed, productAtoms, begins}
 use Rattle.semantics.specs.State.{Origin, Entry, isMessage, isMemberMark, owned}
@@ -60,8 +60,8 @@ owner-live f v (o ∷ os) (e ∷ es) h k = go (owner-live f v os es (tail-eq h))
 pub end-live : (f : Cells) (b : ℕ) (os : List Origin) (es : List Entry) → map f os ≡ map some es → all (markOf b) es ≡ true → isEmpty es ≡ false → Mark f b
 end-live f b os [] h m n = absurd (true≢false n)
 end-live f b [] (e ∷ es) h m n = absurd (nil≢cons h)
-end-live f b (o ∷ os) (e ∷ es) h m n = let q = and-l (markOf b e) (all (markOf b) es) m in
-    (o, e, head-eq h, eqb-true (e .kind) 3 (and-l (isMemberMark e) (owned b e) q), eqb-true (e .owner) b (and-r (isMemberMark e) (owned b e) q))
+end-live f b (o ∷ os) (e ∷ es) h m n = let q = and-left (markOf b e) (all (markOf b) es) m in
+    (o, e, head-eq h, eqb-true (e .kind) 3 (and-left (isMemberMark e) (owned b e) q), eqb-true (e .owner) b (and-right (isMemberMark e) (owned b e) q))
 
 -- which transactions: by sort
 pub touched-cases : (t : Table) → Sound t → (a : Deed) (es : List Entry) (r : ℕ) (ps : List ℕ) → Tests t a es (react r ps) → begins (ruleAt t r) ≡ false → (a .touched ≡ []) ⊎ (a .touched ≡ owners es)

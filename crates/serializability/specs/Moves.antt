@@ -9,7 +9,7 @@ use lib.Dec.{eqb}
 use borrow.Author.Tests.{eqb-true, eq-eqb}
 use lib.ListN.{length}
 use Rattle.lists.specs.Lists.{distinct, least, without, keep}
-use Rattle.lists.specs.Bools.{is-false, and-l, and-r}
+use Rattle.lists.specs.Choices.{is-false, and-left, and-right}
 use Rattle.lists.specs.Each.{All}
 use Rattle.semantics.specs.Table.{Table, Rule, ruleAt, consumed, productAtoms}
 use Rattle.semantics.specs.State.{Origin, Entry, State, owned}
@@ -151,8 +151,8 @@ react-passes t s r ps h =
     let b = both-allowed (unless (ownersFit (R .class) (ownersAt s ps)) _) (unless (hasId R s) _) (a .1) in
     let p = unless-allowed (picksOk R s ps) _ (a .0) in
     record {
-      distinct = and-l (distinct ps) (onPorts (consumed R) (picked s ps)) p;
-      ports = and-r (distinct ps) (onPorts (consumed R) (picked s ps)) p;
+      distinct = and-left (distinct ps) (onPorts (consumed R) (picked s ps)) p;
+      ports = and-right (distinct ps) (onPorts (consumed R) (picked s ps)) p;
       fit = unless-allowed (ownersFit (R .class) (ownersAt s ps)) _ (b .0);
       room = unless-allowed (hasId R s) _ (b .1);
     }

@@ -10,8 +10,8 @@ use lib.Dec.{eqb, ltb}
 use borrow.Author.Tests.{eqb-true, eqb-false, eq-eqb, ne-eqb}
 use lib.ListN.{length}
 use Rattle.lists.specs.Lists.{all, isIn, least, keep}
-use Rattle.lists.specs.Bools.{by-bool, clash, is-false}
-use Rattle.lists.specs.Members.{isIn-head, isIn-cons, isIn-cases, least-pos, least-le, least-is}
+use Rattle.lists.specs.Choices.{by-bool, clash, is-false}
+use Rattle.lists.specs.Numbers.{isIn-head, isIn-cons, isIn-cases, least-pos, least-le, least-is}
 use Rattle.lists.specs.Each.{All}
 use Rattle.semantics.specs.Table.{Rule, consumed, productAtoms, begins}
 use Rattle.semantics.specs.State.{Origin, Entry, State, isMessage, isMemberMark, owned, markValues}

@@ -7,11 +7,12 @@ use mathlib.Core.List.{List, [], _∷_, _++_, append-assoc}
 use Prim.Native.Nat.{ℕ, suc, _+_, _≤_, _<_}
 use native.Mathlib.Omega.{arith}
 use lib.Dec.{eqb}
-use borrow.Author.Tests.{eqb-true, eqb-false, ne-eqb}
+use borrow.Author.Tests.{eqb-true, eqb-false, ne-eqb, not-true}
 use lib.ListN.{length}
 use Rattle.lists.specs.Lists.{any, isEmpty, count, oneIf, least}
-use Rattle.lists.specs.Bools.{by-bool, is-false, and-l, and-r, not-true}
-use Rattle.lists.specs.Each.{All, any-found, count-same, count-append, count-none}
+use Rattle.lists.specs.Choices.{by-bool, is-false, and-left, and-right}
+use Rattle.lists.specs.Counting.{count-append}
+use Rattle.lists.specs.Each.{All, any-found, count-same, count-none}
 use Rattle.semantics.specs.Table.{Table}
 use Rattle.semantics.specs.State.{Origin}
 use Rattle.semantics.specs.Serial.{isEnd, isInner, sameOrigin, belongsTo}
@@ -51,8 +52,8 @@ module _ (t : Table) (sd : Sound t) (G : Seen) where
   -- x shares no member with an end before it
   pub ended-before : (i : ℕ) (F : Seen) (b : Deed) (zs ys : List Deed) (x : Deed) → Good i F → LogRuns t i F (b ∷ zs ++ x ∷ ys) G → isEnd (x .move) ≡ false → endsMemberOf (actOf x) (actOf b) ≡ false
   ended-before i F b zs ys x g r nx = is-false (endsMemberOf (actOf x) (actOf b)) (λ h.
-      let en = and-l (isEnd (b .move)) (belongsTo (actOf b) (actOf x)) h in
-      let sh = and-r (isInner (actOf x)) (shares x b) (and-r (isEnd (b .move)) (belongsTo (actOf b) (actOf x)) h) in
+      let en = and-left (isEnd (b .move)) (belongsTo (actOf b) (actOf x)) h in
+      let sh = and-right (isInner (actOf x)) (shares x b) (and-right (isEnd (b .move)) (belongsTo (actOf b) (actOf x)) h) in
       go en (any-found (λ o. MarkAt (astep t (seenAfter t (astep t F b) zs) x .cell) o (least (x .touched))) (λ o. any (sameOrigin o) (b .members)) (x .members) sh (rest .0 .marked nx .0)))
     where
       rest : LogRuns t (suc i + length zs) (seenAfter t (astep t F b) zs) (x ∷ ys) G
@@ -91,9 +92,9 @@ module _ (t : Table) (sd : Sound t) (G : Seen) where
   pub one-block-of : (xs : List Deed) (F : Seen) (x : Deed) (ys : List Deed) → Good 0 F → LogRuns t 0 F (xs ++ x ∷ ys) G → NoneOpen G → isInner (actOf x) ≡ true
       → (count (λ a. endsMemberOf (actOf x) (actOf a)) (xs ++ x ∷ ys) ≡ 1) × (count (λ a. endsMemberOf (actOf x) (actOf a)) ys ≡ 1)
   one-block-of xs F x ys g r n h =
-      let nx = not-true (isEnd (x .move)) (and-l (not (isEnd (x .move))) (not (isEmpty (x .members))) h) in
+      let nx = not-true (isEnd (x .move)) (and-left (not (isEnd (x .move))) (not (isEmpty (x .members))) h) in
       let rest = log-rest t sd 0 F G xs (x ∷ ys) g r (0 + length xs) refl in
-      let ne = sym (rest .0 .0 .marked nx .1) ∙ not-true (isEmpty (x .members)) (and-r (not (isEnd (x .move))) (not (isEmpty (x .members))) h) in
+      let ne = sym (rest .0 .0 .marked nx .1) ∙ not-true (isEmpty (x .members)) (and-right (not (isEnd (x .move))) (not (isEmpty (x .members))) h) in
       let one = one-after (0 + length xs) (seenAfter t F xs) x ys (rest .1) (rest .0) n nx ne in
       (total xs ys (none-before xs 0 F x ys g r nx) nx one, one)
     where

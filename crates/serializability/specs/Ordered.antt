@@ -3,7 +3,7 @@ use mathlib.Core.Path.{_≡_, refl, sym, ap, _∙_}
 use mathlib.Core.Bool.{Bool, true, false, cond, not, _&&_}
 use mathlib.Core.List.{List, [], _∷_, _++_, append-assoc, append-nil}
 use Rattle.lists.specs.Lists.{any, keep, keepIf}
-use Rattle.lists.specs.Each.{keep-append}
+use Rattle.lists.specs.Parts.{keep-append}
 use Rattle.semantics.specs.Serial.{Act, isEnd, isInner, sameOrigin, belongsTo, block, ordered}
 
 pub ordered-append : (us xs zs : List Act) → ordered us (xs ++ zs) ≡ ordered us xs ++ ordered (us ++ xs) zs

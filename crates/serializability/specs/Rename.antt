@@ -10,8 +10,8 @@ use lib.Dec.{eqb, ltb}
 use borrow.Author.Tests.{eqb-true, eq-eqb, ltb-true, lt-ltb}
 use lib.ListN.{length}
 use Rattle.lists.specs.Lists.{all, isIn, least}
-use Rattle.lists.specs.Bools.{and-l, and-r, and-intro}
-use Rattle.lists.specs.Members.{least-some, all-intro, all-use, isIn-unmap}
+use Rattle.lists.specs.Choices.{and-left, and-right, and-intro}
+use Rattle.lists.specs.Numbers.{least-some, all-intro, all-use, isIn-unmap}
 use Rattle.lists.specs.Each.{All, head-eq, tail-eq}
 use Rattle.semantics.specs.State.{Origin, Entry, State, isMessage}
 use Rattle.semantics.specs.Move.{isZero, entryAt, onPorts, ownersFit, valueIn, kindMade}
@@ -69,13 +69,13 @@ fit-rename ρ k ns z nz = go (eqb k 0) (eqb k 1)
     go true b h = all-intro isZero (map ρ ns) (λ w q. let r = isIn-unmap ρ w ns q in eq-eqb w 0 (sym (r .2) ∙ ap ρ (zeros ns h (r .0) (r .1)) ∙ z))
     go false false h = all-intro (λ o. ltb 0 o) (map ρ ns) (λ w q. positive w (isIn-unmap ρ w ns q) (λ v k. all-use (λ o. ltb 0 o) ns v h k))
     go false true h = all-intro (λ o. ltb 0 o && eqb o (least (map ρ ns))) (map ρ ns)
-        (λ w q. and-intro (positive w (isIn-unmap ρ w ns q) (λ v k. and-l (ltb 0 v) (eqb v (least ns)) (test v k))) (eq-eqb w (least (map ρ ns)) (alike w (isIn-unmap ρ w ns q) ∙ sym (alike (least (map ρ ns)) (isIn-unmap ρ (least (map ρ ns)) ns (least-some w (map ρ ns) q))))))
+        (λ w q. and-intro (positive w (isIn-unmap ρ w ns q) (λ v k. and-left (ltb 0 v) (eqb v (least ns)) (test v k))) (eq-eqb w (least (map ρ ns)) (alike w (isIn-unmap ρ w ns q) ∙ sym (alike (least (map ρ ns)) (isIn-unmap ρ (least (map ρ ns)) ns (least-some w (map ρ ns) q))))))
       where
         test : (v : ℕ) → isIn v ns ≡ true → (ltb 0 v && eqb v (least ns)) ≡ true
         test v q = all-use (λ o. ltb 0 o && eqb o (least ns)) ns v h q
 
         alike : (w : ℕ) → (v : ℕ) × (isIn v ns ≡ true) × (ρ v ≡ w) → w ≡ ρ (least ns)
-        alike w (v, q, r) = sym r ∙ ap ρ (eqb-true v (least ns) (and-r (ltb 0 v) (eqb v (least ns)) (test v q)))
+        alike w (v, q, r) = sym r ∙ ap ρ (eqb-true v (least ns) (and-right (ltb 0 v) (eqb v (least ns)) (test v q)))
 
 pub make-rename : (ρ : ℕ → ℕ) (i w : ℕ) (vs : List ℕ) (q : ℕ) (ats : List Atom) → map strip (make i (ρ w) vs q ats) ≡ map (rename ρ) (map strip (make i w vs q ats))
 make-rename ρ i w vs q [] = refl
@@ -113,8 +113,8 @@ module _ (c : State) (F : Seen) (ρ : ℕ → ℕ) (rel : Rel c F ρ) where
   picked-again [] (e ∷ es) h k = absurd (let z : _≡_ {A = ℕ} 0 1 = cc in omega arith)
   picked-again (o ∷ os) [] h k = absurd (let z : _≡_ {A = ℕ} 0 1 = cc in omega arith)
   picked-again (o ∷ os) (e ∷ es) h k =
-      let ih = picked-again os es (tail-eq h) (and-r (isMessage e) (all isMessage es) k) in
-      let l = message-there o e (head-eq h) (and-l (isMessage e) (all isMessage es) k) in
+      let ih = picked-again os es (tail-eq h) (and-right (isMessage e) (all isMessage es) k) in
+      let l = message-there o e (head-eq h) (and-left (isMessage e) (all isMessage es) k) in
       let p = place-found o (c .entries) (rename ρ e) l in
       ((λ j. p .1 j ∷ ih .0 j), (λ j. (ap (λ (x : Entry). x .origin) (p .1) ∙ look-origin o (c .entries) l) j ∷ ih .1 j), (p .0, ih .2))
 

@@ -9,8 +9,9 @@ use native.Mathlib.Omega.{arith}
 use lib.Dec.{eqb}
 use borrow.Author.Tests.{eqb-true, eq-eqb, lt-ltb}
 use Rattle.lists.specs.Lists.{any, isIn, keep, least}
-use Rattle.lists.specs.Bools.{clash, same-test, and-l, and-r, and-intro}
-use Rattle.lists.specs.Members.{isIn-head, isIn-cons, isIn-cases, least-is}
+use Rattle.lists.specs.Tests.{same-test}
+use Rattle.lists.specs.Choices.{clash, and-left, and-right, and-intro}
+use Rattle.lists.specs.Numbers.{isIn-head, isIn-cons, isIn-cases, least-is}
 use Rattle.semantics.specs.Table.{Table}
 use Rattle.semantics.specs.State.{Origin, Entry, State, isAbortMark, isMemberMark, owned}
 use Rattle.semantics.specs.Move.{toGlobal, isOpen, entriesIn, mayCommit, mayAbort, ended}
@@ -84,8 +85,8 @@ module _ (c : State) (F : Seen) (ρ : ℕ → ℕ) (rel : Rel c F ρ) (a : Deed)
   pub picked-mark : (o : Origin) → isInO o (a .picks) ≡ true → (d : Entry) × (look o (c .entries) ≡ some d) × (d .kind ≡ 3) × (d .owner ≡ b′)
   picked-mark o h =
       let q = found-at (F .cell) (markOf b) o (a .picks) (E .es) (E .found) (E .marks) h in
-      let d = ours o (q .0) (q .1) (eqb-true (q .0 .owner) b (and-r (isMemberMark (q .0)) (owned b (q .0)) (q .2))) in
-      (d .0, d .1, ap (λ (x : Entry). x .kind) (d .3) ∙ eqb-true (q .0 .kind) 3 (and-l (isMemberMark (q .0)) (owned b (q .0)) (q .2)), d .2)
+      let d = ours o (q .0) (q .1) (eqb-true (q .0 .owner) b (and-right (isMemberMark (q .0)) (owned b (q .0)) (q .2))) in
+      (d .0, d .1, ap (λ (x : Entry). x .kind) (d .3) ∙ eqb-true (q .0 .kind) 3 (and-left (isMemberMark (q .0)) (owned b (q .0)) (q .2)), d .2)
 
   pub members-same : (o : Origin) → isInO o (marksIn (b′ ∷ []) c) ≡ isInO o (a .picks)
   members-same o = same-test (isInO o (marksIn (b′ ∷ []) c)) (isInO o (a .picks)) forth back
@@ -95,7 +96,7 @@ module _ (c : State) (F : Seen) (ρ : ℕ → ℕ) (rel : Rel c F ρ) (a : Deed)
           let q = origin-look o (keep (marked b′) (c .entries)) h in
           let k = kept-look (marked b′) o (c .entries) (q .0) (rel .uniq) (q .1) in
           let m = marked-mark b′ (q .0) (k .1) in
-          mark-picked o (q .0) (k .0) (eqb-true (q .0 .kind) 3 (and-l (isMemberMark (q .0)) (owned b′ (q .0)) m)) (eqb-true (q .0 .owner) b′ (and-r (isMemberMark (q .0)) (owned b′ (q .0)) m))
+          mark-picked o (q .0) (k .0) (eqb-true (q .0 .kind) 3 (and-left (isMemberMark (q .0)) (owned b′ (q .0)) m)) (eqb-true (q .0 .owner) b′ (and-right (isMemberMark (q .0)) (owned b′ (q .0)) m))
 
       back : isInO o (a .picks) ≡ true → isInO o (marksIn (b′ ∷ []) c) ≡ true
       back h = let d = picked-mark o h in look-isIn o (keep (marked b′) (c .entries)) (d .0) (look-kept (marked b′) o (c .entries) (d .0) (rel .uniq) (d .1) (mark-marked b′ (d .0) (d .2) (d .3)))

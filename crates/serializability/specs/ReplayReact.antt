@@ -11,8 +11,8 @@ use lib.Dec.{eqb, ltb}
 use borrow.Author.Tests.{eqb-true, eqb-false, eq-eqb, ne-eqb}
 use lib.ListN.{length}
 use Rattle.lists.specs.Lists.{isIn, distinct, least}
-use Rattle.lists.specs.Bools.{by-bool, clash, is-false}
-use Rattle.lists.specs.Members.{least-in, least-some, least-pos, isIn-map, isIn-unmap}
+use Rattle.lists.specs.Choices.{by-bool, clash, is-false}
+use Rattle.lists.specs.Numbers.{least-in, least-some, least-pos, isIn-map, isIn-unmap}
 use Rattle.lists.specs.Each.{All}
 use Rattle.semantics.specs.Table.{Table, Rule, ruleAt, consumed, productAtoms, begins}
 use Rattle.semantics.specs.State.{Origin, Entry, State}

@@ -8,9 +8,10 @@ use lib.Dec.{eqb, leb, ltb}
 use borrow.Author.Tests.{eqb-true, leb-true, le-leb, ltb-true}
 use lib.ListN.{length, getD, take, drop, length-map}
 use Rattle.lists.specs.Lists.{all, any, keep, keepIf, isIn, least, without}
-use Rattle.lists.specs.Bools.{and-l, and-r, and-intro}
-use Rattle.lists.specs.Members.{least-in, all-use}
-use Rattle.lists.specs.Each.{All, all-append, all-without, any-found, All-of}
+use Rattle.lists.specs.Choices.{and-left, and-right, and-intro}
+use Rattle.lists.specs.Counting.{all-append}
+use Rattle.lists.specs.Numbers.{least-in, all-use}
+use Rattle.lists.specs.Each.{All, all-without, any-found, All-of}
 use Rattle.semantics.specs.Words.{headKind, headNumber}
 use Rattle.semantics.specs.Table.{Table, Rule, ruleAt, consumed, productAtoms}
 use Rattle.semantics.specs.State.{Entry, State, isMessage, isCompensation, owned}
@@ -60,8 +61,8 @@ run-accepted ceiling t i s (w ∷ ws) e h = go (λ s′ k. run-accepted ceiling 
 
 pub along-head : (p : State → Bool) (t : Table) (i : ℕ) (s : State) (ms : List Move) → all p (along t i s ms) ≡ true → p s ≡ true
 unfolding along
-along-head p t i s [] h = and-l (p s) true h
-along-head p t i s (m ∷ ms) h = and-l (p s) (all p (along t (suc i) (after t (suc i) s m) ms)) h
+along-head p t i s [] h = and-left (p s) true h
+along-head p t i s (m ∷ ms) h = and-left (p s) (all p (along t (suc i) (after t (suc i) s m) ms)) h
 
 pub accepted-run : (ceiling : ℕ) (t : Table) (i : ℕ) (s : State) (ms : List Move) (e : State) → Accepted t i s ms e → all (fits ceiling) (along t i s ms) ≡ true → All (Holdable t) ms
     → run ceiling t i s (map moveWords ms) ≡ Log.ended e
@@ -70,7 +71,7 @@ accepted-run ceiling t i s [] e a f h = ap Log.ended a
 accepted-run ceiling t i s (m ∷ ms) e a f h =
     let q = after-allowed t (suc i) s m (a .0) in
     let s1 = applied t (suc i) s m in
-    let rest : all (fits ceiling) (along t (suc i) s1 ms) ≡ true = subst (λ (x : State). all (fits ceiling) (along t (suc i) x ms) ≡ true) q (and-r (fits ceiling s) (all (fits ceiling) (along t (suc i) (after t (suc i) s m) ms)) f) in
+    let rest : all (fits ceiling) (along t (suc i) s1 ms) ≡ true = subst (λ (x : State). all (fits ceiling) (along t (suc i) x ms) ≡ true) q (and-right (fits ceiling s) (all (fits ceiling) (along t (suc i) (after t (suc i) s m) ms)) f) in
     let small : leb (length (s1 .entries)) ceiling ≡ true = along-head (fits ceiling) t (suc i) s1 ms rest in
     go (moveOf t (moveWords m)) (words-ok t m (h .0)) (words-back t m (h .0)) (a .0) small (accepted-run ceiling t (suc i) s1 ms e (a .1) rest (h .1))
   where
@@ -85,8 +86,8 @@ isId e = leb (e .owner) 65535
 
 pub at-all : (p : Entry → Bool) (l : List Entry) (n : ℕ) → p nothing ≡ true → all p l ≡ true → p (entryAt l n) ≡ true
 at-all p [] n z h = z
-at-all p (x ∷ l) zero z h = and-l (p x) (all p l) h
-at-all p (x ∷ l) (suc n) z h = at-all p l n z (and-r (p x) (all p l) h)
+at-all p (x ∷ l) zero z h = and-left (p x) (all p l) h
+at-all p (x ∷ l) (suc n) z h = at-all p l n z (and-right (p x) (all p l) h)
 
 pub owners-small : (s : State) (ps : List ℕ) → all isId (s .entries) ≡ true → all (λ o. leb o 65535) (ownersAt s ps) ≡ true
 owners-small s [] h = refl
@@ -98,11 +99,11 @@ least-small (o ∷ os) h = leb-true (least (o ∷ os)) 65535 (all-use (λ o. leb
 
 pub merged-small : (os : List ℕ) (l : List Entry) → least os ≤ 65535 → all isId l ≡ true → all isId (map (merged os) l) ≡ true
 merged-small os [] n h = refl
-merged-small os (e ∷ l) n h = and-intro (go (isIn (e .owner) os)) (merged-small os l n (and-r (isId e) (all isId l) h))
+merged-small os (e ∷ l) n h = and-intro (go (isIn (e .owner) os)) (merged-small os l n (and-right (isId e) (all isId l) h))
   where
     go : (b : Bool) → leb (cond b (least os) (e .owner)) 65535 ≡ true
     go true = le-leb (least os) 65535 n
-    go false = and-l (isId e) (all isId l) h
+    go false = and-left (isId e) (all isId l) h
 
 pub ended-small : (p : Entry → Bool) (b : ℕ) (s : State) → all isId (s .entries) ≡ true → all isId (ended p b s .entries) ≡ true
 unfolding ended
@@ -117,10 +118,10 @@ ended-small p b s h = go (s .entries) h
 
     go : (l : List Entry) → all isId l ≡ true → all isId (map (freed p b) (keep (λ e. not (owned b e) || p e) l)) ≡ true
     go [] h = refl
-    go (e ∷ l) h = two (not (owned b e) || p e) (go l (and-r (isId e) (all isId l) h))
+    go (e ∷ l) h = two (not (owned b e) || p e) (go l (and-right (isId e) (all isId l) h))
       where
         two : (c : Bool) → all isId (map (freed p b) (keep (λ e. not (owned b e) || p e) l)) ≡ true → all isId (map (freed p b) (keepIf c e (keep (λ e. not (owned b e) || p e) l))) ≡ true
-        two true ih = and-intro (freed-small e (and-l (isId e) (all isId l) h)) ih
+        two true ih = and-intro (freed-small e (and-left (isId e) (all isId l) h)) ih
         two false ih = ih
 
 pub home-small : (R : Rule) → Shape R → (s : State) (os : List ℕ) → hasId R s ≡ true → all (λ o. leb o 65535) os ≡ true → least (touchedBy R (s .next) os) ≤ 65535
@@ -158,13 +159,13 @@ pub ports-length : (ts : List ℕ) (es : List Entry) → onPorts ts es ≡ true 
 ports-length [] [] h = refl
 ports-length [] (e ∷ es) h = absurd (false≢true h)
 ports-length (t ∷ ts) [] h = absurd (false≢true h)
-ports-length (t ∷ ts) (e ∷ es) h = ap suc (ports-length ts es (and-r (isMessage e && eqb (e .port) t) (onPorts ts es) h))
+ports-length (t ∷ ts) (e ∷ es) h = ap suc (ports-length ts es (and-right (isMessage e && eqb (e .port) t) (onPorts ts es) h))
 
 module _ (t : Table) (sd : Sound t) (few : length (t .rules) ≤ 64) (four : (r : ℕ) → r < length (t .rules) → length (consumed (ruleAt t r)) ≤ 4) where
   pub open-id : (b : ℕ) (s : State) → all isId (s .entries) ≡ true → isOpen b s ≡ true → (1 ≤ b) × (b ≤ 65535)
   open-id b s h o =
-      let l = ltb-true 0 b (and-l (ltb 0 b) (any (owned b) (s .entries)) o) in
-      let q = any-found (λ e. isId e ≡ true) (owned b) (s .entries) (and-r (ltb 0 b) (any (owned b) (s .entries)) o) (All-of isId (s .entries) h) in
+      let l = ltb-true 0 b (and-left (ltb 0 b) (any (owned b) (s .entries)) o) in
+      let q = any-found (λ e. isId e ≡ true) (owned b) (s .entries) (and-right (ltb 0 b) (any (owned b) (s .entries)) o) (All-of isId (s .entries) h) in
       let w = eqb-true (q .0 .owner) b (q .1) in let x = leb-true (q .0 .owner) 65535 (q .2) in (omega arith, omega arith)
 
   pub holdable : (s : State) (m : Move) → allowed t s m ≡ Allowed → all isId (s .entries) ≡ true → RuleIn t m → Holdable t m
@@ -182,7 +183,7 @@ module _ (t : Table) (sd : Sound t) (few : length (t .rules) ≤ 64) (four : (r 
 
 pub decoded-rule : (t : Table) (w : List ℕ) → moveOk t w ≡ true → RuleIn t (moveOf t w)
 unfolding moveOk moveOf
-decoded-rule t w h = go (eqb (headKind head) 0) (eqb (headKind head) 1) (and-r (eqb (length w) 5) (headOk t head) (and-l (eqb (length w) 5 && headOk t head) (all isZero (drop (picksUsed t head) (drop 1 w))) h))
+decoded-rule t w h = go (eqb (headKind head) 0) (eqb (headKind head) 1) (and-right (eqb (length w) 5) (headOk t head) (and-left (eqb (length w) 5 && headOk t head) (all isZero (drop (picksUsed t head) (drop 1 w))) h))
   where
     head : ℕ
     head = getD w 0 0

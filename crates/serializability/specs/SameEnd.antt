@@ -7,7 +7,7 @@ use Prim.Native.Nat.{ℕ, _+_}
 use native.Mathlib.Omega.{arith}
 use borrow.Author.Tests.{eq-eqb}
 use Rattle.lists.specs.Lists.{all, any, count, oneIf}
-use Rattle.lists.specs.Bools.{and-l, and-r}
+use Rattle.lists.specs.Choices.{and-left, and-right}
 use Rattle.semantics.specs.State.{Origin, Entry, State, isMessage, owned}
 use Rattle.semantics.specs.Serial.{sameOrigin, anyOpen}
 use Rattle.serializability.specs.Base.{omap, look, some-inj, none-some, same-eq, same-refl}
@@ -71,7 +71,7 @@ count-alike p (e ∷ l) r u v h =
 
 pub closed-all : (l : List Entry) → all (owned 0) l ≡ true → any (λ e. not (owned 0 e)) l ≡ false
 closed-all [] h = refl
-closed-all (e ∷ l) h = rw (and-l (owned 0 e) (all (owned 0) l) h) (closed-all l (and-r (owned 0 e) (all (owned 0) l) h))
+closed-all (e ∷ l) h = rw (and-left (owned 0 e) (all (owned 0) l) h) (closed-all l (and-right (owned 0 e) (all (owned 0) l) h))
 
 module _ (c e : State) (ρ : ℕ → ℕ) (rel : Rel c (view e) ρ) (n : NoneOpen (view e)) (u : Uniq (e .entries)) where
   pub cells-same : (o : Origin) → look o (map strip (c .entries)) ≡ look o (map strip (e .entries))
@@ -98,7 +98,7 @@ module _ (c e : State) (ρ : ℕ → ℕ) (rel : Rel c (view e) ρ) (n : NoneOpe
     where
       strip-all : (l : List Entry) → all isMessage l ≡ true → map strip l ≡ l
       strip-all [] h = refl
-      strip-all (x ∷ l) h = λ j. strip-message x (and-l (isMessage x) (all isMessage l) h) j ∷ strip-all l (and-r (isMessage x) (all isMessage l) h) j
+      strip-all (x ∷ l) h = λ j. strip-message x (and-left (isMessage x) (all isMessage l) h) j ∷ strip-all l (and-right (isMessage x) (all isMessage l) h) j
 
       seen-kind : (o : Origin) (d : Entry) → look o (map strip (e .entries)) ≡ some (strip d) → isMessage d ≡ true
       seen-kind o d h = eq-eqb (d .kind) 0 (T o (strip d) h (n o (strip d) h))

@@ -7,7 +7,7 @@ use native.Mathlib.Omega.{arith}
 use lib.Dec.{eqb, leb}
 use borrow.Author.Tests.{eqb-true, eqb-false, ne-eqb, leb-false, le-leb, lt-leb}
 use Rattle.lists.specs.Lists.{keep, count, oneIf}
-use Rattle.lists.specs.Bools.{by-bool}
+use Rattle.lists.specs.Choices.{by-bool}
 use Rattle.lists.specs.Each.{All, All-map, All-append, All-keep}
 use Rattle.semantics.specs.Table.{Table}
 use Rattle.serializability.specs.Key.{Deed}

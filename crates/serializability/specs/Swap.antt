@@ -6,7 +6,7 @@ use mathlib.Core.List.{List, [], _∷_, map}
 use Prim.Native.Nat.{ℕ, suc, _≤_, _<_}
 use native.Mathlib.Omega.{arith}
 use Rattle.lists.specs.Lists.{isIn, least}
-use Rattle.lists.specs.Bools.{clash, is-false}
+use Rattle.lists.specs.Choices.{clash, is-false}
 use Rattle.semantics.specs.Table.{Table}
 use Rattle.semantics.specs.State.{Origin, Entry}
 use Rattle.semantics.specs.Move.{Move, react, commit, abort}

@@ -6,19 +6,23 @@ use mathlib.Core.List.{List, [], _∷_, map}
 use Prim.Native.Nat.{ℕ, zero, suc, _+_, _*_, _≤_, _<_}
 use native.Mathlib.Omega.{arith}
 use lib.Dec.{eqb, leb, ltb}
-use borrow.Author.Tests.{eqb-true, eqb-false, eq-eqb, ne-eqb, leb-true, leb-false, le-leb, ltb-true, ltb-false}
+use borrow.Author.Tests.{eqb-true, eqb-false, eq-eqb, ne-eqb, leb-true, leb-false, le-leb, ltb-true, ltb-false, not-true}
 use lib.ListN.{length, getD, length-map, List·getD-eq-default}
 use Rattle.lists.specs.Lists.{all, any, isEmpty, count, oneIf, keep, keepIf, risesFrom, upFrom}
-use Rattle.lists.specs.Bools.{by-bool, clash, and-l, and-r, or-cases, or-l-false, or-r-false, not-true}
-use Rattle.lists.specs.Walk.{below-each}
-use Rattle.lists.specs.Each.{All, All-map, All-two, All-of, all-of, All-keep, All-unmap, any-none, any-found, count-none, count-zero, keep-map, any-map, count-map}
-use Rattle.lists.specs.UpFrom.{length-up, getD-up, rises-all}
+use Rattle.lists.specs.Choices.{by-bool, clash, and-left, and-right, or-cases}
+use Rattle.lists.specs.Neither.{or-left-false, or-right-false}
+use Rattle.lists.specs.Parts.{keep-map, any-map}
+use Rattle.lists.specs.Counting.{count-map}
+use Rattle.lists.specs.Walk.{below-each, length-upFrom, getD-upFrom}
+use Rattle.lists.specs.Each.{All, All-map, All-two, All-of, all-of, All-keep, All-unmap, any-none, any-found, count-none, count-zero}
+use Rattle.lists.specs.UpFrom.{rises-all}
 use Rattle.semantics.specs.Words.{atomRole, portOf}
-use Rattle.semantics.specs.Table.{sizesOf, numbersOf, atomWordsOf, ruleWords, classOf, sizesWithin, tableSizesOk, numbersOk, isRole, Shape, modeOk, consumeOk, emitOk, markOk, beginOk, innerOk, compensateOk, atomOk, shapeOf, ruleOk, rulesOk, tableContentsOk, atomOf, Rule, ruleOf, tableOf, noRule, ruleAt, hasRole, consumed, productAtoms, begins, emits, portCount}
+use Rattle.semantics.specs.Table.{sizesOf, numbersOf, atomWordsOf, ruleWords, classOf, sizesWithin, tableSizesOk, numbersOk, isRole, modeOk, consumeOk, emitOk, markOk, beginOk, innerOk, compensateOk, atomOk, shapeOf, ruleOk, rulesOk, tableContentsOk, atomOf, Rule, ruleOf, tableOf, noRule, ruleAt, hasRole, consumed, productAtoms, begins, emits, portCount}
 use Rattle.semantics.specs.Move.{unless}
 use Rattle.semantics.specs.Serial.{beginsEmit}
 use Rattle.semantics.specs.Answers.{tableVerdict}
 use Rattle.semantics.specs.declared.Sizes.{Sizes}
+use Rattle.semantics.specs.declared.Shape.{Shape}
 use Rattle.semantics.specs.declared.Atom.{Atom}
 use Rattle.semantics.specs.declared.Refusal.the-variants.{TableSizes, TableContents}
 use Rattle.semantics.specs.declared.Verdict.the-variants.{Allowed}
@@ -35,9 +39,9 @@ pub atom-facts : (z : Sizes) (s : Shape) (w : ℕ) → atomOk z s w ≡ true →
 unfolding atomOk
 atom-facts z s w h =
     let a = leb (atomRole w) 5 && modeOk s w && ltb (portOf w) (portCount z) && consumeOk z s w && emitOk z s w && markOk w in
-    let p = and-l (a && beginOk s w && innerOk s w) (compensateOk z w) h in
-    let q = and-l (a && beginOk s w) (innerOk s w) p in
-    record { opens = and-r a (beginOk s w) q; inside = and-r (a && beginOk s w) (innerOk s w) p }
+    let p = and-left (a && beginOk s w && innerOk s w) (compensateOk z w) h in
+    let q = and-left (a && beginOk s w) (innerOk s w) p in
+    record { opens = and-right a (beginOk s w) q; inside = and-right (a && beginOk s w) (innerOk s w) p }
 
 pub record RuleFacts (z : Sizes) (ws : List ℕ) : Type 0 where
   pub rises : risesFrom 0 atomRole ws ≡ true
@@ -56,17 +60,17 @@ rule-facts z ws h =
     let d = leb (count (isRole 2) ws) 1 in
     let e = leb (count (isRole 5) ws) 1 in
     let f = all (atomOk z (shapeOf z ws)) ws in
-    let p4 = and-l (a && b && c && d && e) f h in
-    let p3 = and-l (a && b && c && d) e p4 in
-    let p2 = and-l (a && b && c) d p3 in
-    let p1 = and-l (a && b) c p2 in
-    let pc = and-r (a && b) c p2 in
+    let p4 = and-left (a && b && c && d && e) f h in
+    let p3 = and-left (a && b && c && d) e p4 in
+    let p2 = and-left (a && b && c) d p3 in
+    let p1 = and-left (a && b) c p2 in
+    let pc = and-right (a && b) c p2 in
     record {
-      rises = and-r a b p1;
-      consumes-some = leb-true 1 c0 (and-l (leb 1 c0) (leb c0 4) pc);
-      consumes-four = leb-true c0 4 (and-r (leb 1 c0) (leb c0 4) pc);
-      begins-one = leb-true (count (isRole 2) ws) 1 (and-r (a && b && c) d p3);
-      atoms = All-map {P = λ w. atomOk z (shapeOf z ws) w ≡ true} {Q = AtomFacts (shapeOf z ws)} (λ w k. atom-facts z (shapeOf z ws) w k) ws (All-of (atomOk z (shapeOf z ws)) ws (and-r (a && b && c && d && e) f h));
+      rises = and-right a b p1;
+      consumes-some = leb-true 1 c0 (and-left (leb 1 c0) (leb c0 4) pc);
+      consumes-four = leb-true c0 4 (and-right (leb 1 c0) (leb c0 4) pc);
+      begins-one = leb-true (count (isRole 2) ws) 1 (and-right (a && b && c) d p3);
+      atoms = All-map {P = λ w. atomOk z (shapeOf z ws) w ≡ true} {Q = AtomFacts (shapeOf z ws)} (λ w k. atom-facts z (shapeOf z ws) w k) ws (All-of (atomOk z (shapeOf z ws)) ws (and-right (a && b && c && d && e) f h));
     }
 
 -- ---- rising roles
@@ -78,10 +82,10 @@ makes w = not (isRole 0 w)
 pub begin-first : (m : ℕ) (ws : List ℕ) → risesFrom m atomRole ws ≡ true → any (isRole 2) ws ≡ true → any (isRole 1) ws ≡ false → count (isRole 2) ws ≤ 1
     → (w : ℕ) × (rest : List ℕ) × (keep makes ws ≡ w ∷ rest) × (atomRole w ≡ 2) × All (λ v. leb 3 (atomRole v) ≡ true) rest
 begin-first m [] h a e c = absurd (false≢true a)
-begin-first m (w ∷ ws) h a e c = go (λ a′. begin-first (atomRole w) ws up a′ (or-r-false (isRole 1 w) (any (isRole 1) ws) e) (omega arith)) (isRole 0 w) refl (isRole 2 w) refl
+begin-first m (w ∷ ws) h a e c = go (λ a′. begin-first (atomRole w) ws up a′ (or-right-false (isRole 1 w) (any (isRole 1) ws) e) (omega arith)) (isRole 0 w) refl (isRole 2 w) refl
   where
     up : risesFrom (atomRole w) atomRole ws ≡ true
-    up = and-r (leb m (atomRole w)) (risesFrom (atomRole w) atomRole ws) h
+    up = and-right (leb m (atomRole w)) (risesFrom (atomRole w) atomRole ws) h
 
     later-one : isRole 2 w ≡ false → any (isRole 2) ws ≡ true
     later-one q = pick (or-cases (isRole 2 w) (any (isRole 2) ws) a)
@@ -106,7 +110,7 @@ begin-first m (w ∷ ws) h a e c = go (λ a′. begin-first (atomRole w) ws up a
     )
     go ih false p false q =
         let x = any-found (λ v. atomRole w ≤ atomRole v) (isRole 2) ws (later-one q) (rises-all atomRole (atomRole w) ws up) in
-        let k0 = eqb-false (atomRole w) 0 p in let k1 = eqb-false (atomRole w) 1 (or-l-false (isRole 1 w) (any (isRole 1) ws) e) in let k2 = eqb-false (atomRole w) 2 q in
+        let k0 = eqb-false (atomRole w) 0 p in let k1 = eqb-false (atomRole w) 1 (or-left-false (isRole 1 w) (any (isRole 1) ws) e) in let k2 = eqb-false (atomRole w) 2 q in
         let y = eqb-true (atomRole (x .0)) 2 (x .1) in let z = x .2 in absurd (omega arith)
 
 -- ---- the sort of a rule
@@ -209,21 +213,21 @@ module _ (T : List ℕ) (ok : tableVerdict T ≡ Allowed) where
   pub rules-64 : z .rules ≤ 64
   unfolding tableSizesOk
   rules-64 =
-      let p = and-r (leb 5 (length T)) (sizesWithin z && eqb (length T) (5 + 2 * z .atoms)) sizes-ok in
-      let q = and-l (sizesWithin z) (eqb (length T) (5 + 2 * z .atoms)) p in
-      leb-true (z .rules) 64 (and-r (leb (portCount z) 256) (leb (z .rules) 64) (and-l (leb (portCount z) 256 && leb (z .rules) 64) (leb (z .atoms) 512) q))
+      let p = and-right (leb 5 (length T)) (sizesWithin z && eqb (length T) (5 + 2 * z .atoms)) sizes-ok in
+      let q = and-left (sizesWithin z) (eqb (length T) (5 + 2 * z .atoms)) p in
+      leb-true (z .rules) 64 (and-right (leb (portCount z) 256) (leb (z .rules) 64) (and-left (leb (portCount z) 256 && leb (z .rules) 64) (leb (z .atoms) 512) q))
 
   pub rule-ok : (r : ℕ) → r < z .rules → ruleOk z (wordsOf r) ≡ true
   unfolding tableContentsOk rulesOk
-  rule-ok r h = below-each (λ r. ruleOk z (wordsOf r)) (z .rules) r (and-r (numbersOk (z .rules) (numbersOf T)) (rulesOk z (numbersOf T) (atomWordsOf T)) contents-ok) h
+  rule-ok r h = below-each (λ r. ruleOk z (wordsOf r)) (z .rules) r (and-right (numbersOk (z .rules) (numbersOf T)) (rulesOk z (numbersOf T) (atomWordsOf T)) contents-ok) h
 
   pub rule-at : (r : ℕ) → r < z .rules → ruleAt (tableOf T) r ≡ ruleOf z (wordsOf r)
   unfolding tableOf
-  rule-at r h = getD-up (λ r. ruleOf z (wordsOf r)) noRule (z .rules) 0 r h ∙ ap (λ (n : ℕ). ruleOf z (wordsOf n)) (omega arith)
+  rule-at r h = getD-upFrom (λ r. ruleOf z (wordsOf r)) noRule 0 (z .rules) r h ∙ ap (λ (n : ℕ). ruleOf z (wordsOf n)) (omega arith)
 
   pub rule-count : length (tableOf T .rules) ≡ z .rules
   unfolding tableOf
-  rule-count = length-map (upFrom 0 (z .rules)) (λ r. ruleOf z (wordsOf r)) ∙ length-up (z .rules) 0
+  rule-count = length-map (upFrom 0 (z .rules)) (λ r. ruleOf z (wordsOf r)) ∙ length-upFrom 0 (z .rules)
 
   pub rule-past : (r : ℕ) → z .rules ≤ r → ruleAt (tableOf T) r ≡ noRule
   rule-past r h = List·getD-eq-default (tableOf T .rules) noRule (let k = rule-count in omega arith)
@@ -233,8 +237,8 @@ module _ (T : List ℕ) (ok : tableVerdict T ≡ Allowed) where
 
   pub any-at : (p : Rule → Bool) (l : List Rule) (r : ℕ) → any p l ≡ false → r < length l → p (getD l r noRule) ≡ false
   any-at p [] r h k = absurd (omega arith)
-  any-at p (x ∷ l) zero h k = or-l-false (p x) (any p l) h
-  any-at p (x ∷ l) (suc r) h k = any-at p l r (or-r-false (p x) (any p l) h) (omega arith)
+  any-at p (x ∷ l) zero h k = or-left-false (p x) (any p l) h
+  any-at p (x ∷ l) (suc r) h k = any-at p l r (or-right-false (p x) (any p l) h) (omega arith)
 
   pub table-sound : beginsEmit (tableOf T) ≡ false → Rules.Sound (tableOf T)
   table-sound ne r = by-bool (ltb r (z .rules))

@@ -8,8 +8,8 @@ use Prim.Native.Nat.{ℕ, suc}
 use lib.Dec.{eqb}
 use borrow.Author.Tests.{eqb-true}
 use Rattle.lists.specs.Lists.{isIn, least}
-use Rattle.lists.specs.Bools.{by-bool, clash}
-use Rattle.lists.specs.Members.{least-some, least-full}
+use Rattle.lists.specs.Choices.{by-bool, clash}
+use Rattle.lists.specs.Numbers.{least-some, least-full}
 use Rattle.semantics.specs.Table.{Table, ruleAt, consumed, productAtoms}
 use Rattle.semantics.specs.State.{Origin, Entry, owned}
 use Rattle.semantics.specs.Move.{Move, react, commit, abort, toGlobal}

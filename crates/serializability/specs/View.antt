@@ -10,7 +10,8 @@ use lib.Dec.{eqb, ltb}
 use borrow.Author.Tests.{eqb-true, eqb-false, ltb-true, ltb-false}
 use lib.ListN.{length, List·getD-eq-default}
 use Rattle.lists.specs.Lists.{all, any, isIn, keep, keepIf, distinct, without}
-use Rattle.lists.specs.Bools.{by-bool, is-false, and-l, and-r, and-intro, or-r}
+use Rattle.lists.specs.Tests.{or-right-true}
+use Rattle.lists.specs.Choices.{by-bool, is-false, and-left, and-right, and-intro}
 use Rattle.lists.specs.Each.{All}
 use Rattle.semantics.specs.State.{Origin, Entry, isMessage}
 use Rattle.semantics.specs.Move.{nothing, entryAt, onPorts}
@@ -112,10 +113,10 @@ in-range l p h = by-bool (ltb p (length l)) (λ q. ltb-true p (length l) q)
 
 -- the parts of onPorts
 pub ports-head : (t : ℕ) (ts : List ℕ) (e : Entry) (es : List Entry) → onPorts (t ∷ ts) (e ∷ es) ≡ true → isMessage e ≡ true
-ports-head t ts e es h = and-l (isMessage e) (eqb (e .port) t) (and-l (isMessage e && eqb (e .port) t) (onPorts ts es) h)
+ports-head t ts e es h = and-left (isMessage e) (eqb (e .port) t) (and-left (isMessage e && eqb (e .port) t) (onPorts ts es) h)
 
 pub ports-tail : (t : ℕ) (ts : List ℕ) (e : Entry) (es : List Entry) → onPorts (t ∷ ts) (e ∷ es) ≡ true → onPorts ts es ≡ true
-ports-tail t ts e es h = and-r (isMessage e && eqb (e .port) t) (onPorts ts es) h
+ports-tail t ts e es h = and-right (isMessage e && eqb (e .port) t) (onPorts ts es) h
 
 pub ports-messages : (ts : List ℕ) (es : List Entry) → onPorts ts es ≡ true → all isMessage es ≡ true
 ports-messages [] [] h = refl
@@ -125,7 +126,7 @@ ports-messages (t ∷ ts) (e ∷ es) h = and-intro (ports-head t ts e es h) (por
 
 pub ports-range : (l : List Entry) (ps : List ℕ) → all isMessage (map (entryAt l) ps) ≡ true → All (λ p. p < length l) ps
 ports-range l [] h = tt
-ports-range l (p ∷ ps) h = (in-range l p (and-l (isMessage (entryAt l p)) (all isMessage (map (entryAt l) ps)) h), ports-range l ps (and-r (isMessage (entryAt l p)) (all isMessage (map (entryAt l) ps)) h))
+ports-range l (p ∷ ps) h = (in-range l p (and-left (isMessage (entryAt l p)) (all isMessage (map (entryAt l) ps)) h), ports-range l ps (and-right (isMessage (entryAt l p)) (all isMessage (map (entryAt l) ps)) h))
 
 pub picks-same : (l : List Entry) (ps : List ℕ) (j : ℕ) → Uniq l → All (λ p. p < length l) ps → j < length l → isIn j ps ≡ isInO (entryAt l j .origin) (originsOf (map (entryAt l) ps))
 picks-same l [] j u h k = refl
@@ -186,7 +187,7 @@ look-any p o (x ∷ l) e h k = go (look-any p o l e) (sameOrigin o (x .origin)) 
   where
     go : (look o l ≡ some e → p e ≡ true → any p l ≡ true) → (b : Bool) → cond b (some x) (look o l) ≡ some e → any p (x ∷ l) ≡ true
     go ih true w = let z : p x ≡ true = subst (λ (z : Entry). p z ≡ true) (sym (some-inj w)) k in rw z
-    go ih false w = or-r (p x) (ih w k)
+    go ih false w = or-right-true (p x) (ih w k)
 
 pub any-look : (p : Entry → Bool) (l : List Entry) → Uniq l → any p l ≡ true → (o : Origin) × (e : Entry) × (look o l ≡ some e) × (p e ≡ true)
 any-look p [] u h = absurd (false≢true h)

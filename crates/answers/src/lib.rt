@@ -1,0 +1,60 @@
+// Document 01's numbers, as code.
+ghost use mathlib.Core.Path.{_≡_};
+ghost use Rattle.semantics.specs.Answers.{number, answerOf};
+use semantics::Answer;
+use semantics::Outcome;
+use semantics::Refusal;
+
+pub fn number_of(refusal: Refusal) -> u32
+    ensures { λ r. ⌜ r ≡ number refusal ⌝ }
+{
+    match refusal {
+        Refusal::TableSizes => 1,
+        Refusal::TableContents => 2,
+        Refusal::StateSizes => 3,
+        Refusal::StateContents => 4,
+        Refusal::MoveForm => 5,
+        Refusal::TargetTooShort => 6,
+        Refusal::WrongPick => 7,
+        Refusal::WrongOwner => 8,
+        Refusal::NoTransaction => 9,
+        Refusal::EndNotAllowed => 10,
+        Refusal::NoMoreIds => 11,
+        Refusal::TooManyEntries => 12,
+        Refusal::LogSizes => 13,
+        Refusal::BeginEmits => 14,
+        Refusal::TransactionOpen => 15,
+        Refusal::SerialTooManyEntries => 17,
+    }
+}
+
+pub fn answer_of(outcome: Outcome) -> Answer
+    ensures { λ r. ⌜ r ≡ answerOf outcome ⌝ }
+{
+    match outcome {
+        Outcome::Passed => Answer {
+            number: 0,
+            words: 0,
+            place: 0,
+            own: 0,
+        },
+        Outcome::Written(words) => Answer {
+            number: 0,
+            words,
+            place: 0,
+            own: 0,
+        },
+        Outcome::Refused(refusal) => Answer {
+            number: number_of(refusal),
+            words: 0,
+            place: 0,
+            own: 0,
+        },
+        Outcome::MoveRefused(place, refusal) => Answer {
+            number: 16,
+            words: 0,
+            place,
+            own: number_of(refusal),
+        },
+    }
+}

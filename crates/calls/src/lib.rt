@@ -1,0 +1,36 @@
+// The public calls, on word slices of any length and content. None asks anything of its caller; each
+// says its answer and the target's whole contents by an equation with semantics' Answers.
+ghost use mathlib.Core.Path.{_≡_};
+ghost use Rattle.semantics.specs.Answers.{answerOf, outcomeOfCheck, checkTable, checkState};
+use semantics::Outcome;
+use semantics::Verdict;
+
+fn outcome_of_check(verdict: Verdict) -> Outcome
+    ensures { λ r. ⌜ r ≡ outcomeOfCheck verdict ⌝ }
+{
+    match verdict {
+        Verdict::Allowed => Outcome::Passed,
+        Verdict::Denied(refusal) => Outcome::Refused(refusal),
+    }
+}
+
+// Whether a table is well formed: 0, or 1, 2.
+pub fn check_table(table: &[u32]) -> Outcome
+    ensures { λ r. ⌜ answerOf r ≡ checkTable (now (table .entry)) ⌝ }
+{
+    let checked = table::check(table);
+    let verdict = checked.verdict;
+    outcome_of_check(verdict)
+}
+
+// Whether a state is well formed under its table: 0, or 1 to 4.
+pub fn check_state(table: &[u32], state: &[u32]) -> Outcome
+    ensures { λ r. ⌜ answerOf r ≡ checkState (now (table .entry)) (now (state .entry)) ⌝ }
+{
+    let checked = table::check(table);
+    let verdict = checked.verdict;
+    match verdict {
+        Verdict::Allowed => outcome_of_check(state::check(table::sizes_of(table), state)),
+        Verdict::Denied(refusal) => Outcome::Refused(refusal),
+    }
+}

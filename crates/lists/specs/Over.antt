@@ -1,0 +1,58 @@
+-- Code that writes a list over the beginning of another, part by part.
+use Prim.Native.Nat.{ℕ, _+_, _≤_, _<_}
+use mathlib.Core.Path.{_≡_, refl, ap, _∙_}
+use mathlib.Core.List.{List, [], _∷_, _++_}
+use native.Mathlib.Numerals.{add-one}
+use native.Mathlib.Omega.{arith}
+use lib.ListN.{length, getD, take, drop, set, length-append, length-set}
+use lib.Seq.{paste, paste-zero, paste-suc, take-append-seam, drop-append-add, drop-drop, length-take-le}
+use Rattle.lists.specs.Lists.{over}
+
+module _ {A : Type 0} where
+  -- the first two elements
+  pub over-two : (a b : A) (old : List A) → 2 ≤ length old → set (set old 0 a) 1 b ≡ over (a ∷ b ∷ []) old
+  over-two a b [] h = absurd (omega arith)
+  over-two a b (x ∷ []) h = absurd (omega arith)
+  over-two a b (x ∷ y ∷ old) h = refl
+
+  -- n elements of a column after what is written
+  pub over-column : (new old column : List A) (n : ℕ) → n ≤ length column → paste (over new old) (length new) column n ≡ over (new ++ take n column) old
+  over-column new old column n h =
+      rw (
+        take-append-seam new (drop (length new) old),
+        drop-append-add new (drop (length new) old) n,
+        drop-drop n (length new) old,
+        length-append new (take n column),
+        length-take-le n column h,
+      )
+
+  -- `new` is `old` with n elements of a source from place `at` on.
+  pub record Pasted (old : List A) (at : ℕ) (source : List A) (n : ℕ) (new : List A) : Type 0 where
+    pub value : new ≡ paste old at source n
+    pub size : length new ≡ length old
+
+  -- A loop that copies n elements of a source into `old` from place `at` on, with i of them done.
+  pub record Pasting (old : List A) (at : ℕ) (source : List A) (n i : ℕ) (new : List A) : Type 0 where
+    pub within : i ≤ n
+    pub enough : n ≤ length source
+    pub room : at + n ≤ length old
+    pub size : length new ≡ length old
+    pub so-far : new ≡ paste old at source i
+
+  pub pasting-start : (old : List A) (at : ℕ) (source : List A) (n : ℕ) → n ≤ length source → at + n ≤ length old → Pasting old at source n 0 old
+  pasting-start old at source n h r = record { within = omega arith; enough = h; room = r; size = refl; so-far = paste-zero old at source }
+
+  module _ {old source new : List A} {at n i : ℕ} (p : Pasting old at source n i new) where
+    pub pasting-next : (d : A) → i < n → Pasting old at source n (i + 1) (set new (at + i) (getD source i d))
+    pasting-next d h = record {
+      within = omega arith;
+      enough = p .enough;
+      room = p .room;
+      size = length-set new (at + i) (getD source i d) ∙ p .size;
+      so-far = ap (λ (l : List A). set l (at + i) (getD source i d)) (p .so-far) ∙ rw (add-one i) (paste-suc old at source i d (omega arith) (omega arith));
+    }
+
+    pub pasting-done : n ≤ i → Pasted old at source n new
+    pasting-done h =
+        let e : i ≡ n = omega arith in
+        record { value = p .so-far ∙ rw e; size = p .size }

@@ -1,0 +1,18 @@
+-- A function's values at i, i + 1, .. as a list: its length, and the value at a place.
+use Prim.Native.Nat.{ℕ, zero, suc, _+_, _<_}
+use mathlib.Core.List.{map}
+use mathlib.Core.Path.{_≡_, refl, ap, _∙_}
+use native.Mathlib.Nat.{le-of-suc-le-suc, not-suc-le-zero}
+use native.Mathlib.Omega.{arith}
+use lib.ListN.{length, getD}
+use Rattle.lists.specs.Lists.{upFrom}
+
+module _ {A : Type 0} (f : ℕ → A) where
+  pub length-upFrom : (i n : ℕ) → length (map f (upFrom i n)) ≡ n
+  length-upFrom i zero = refl
+  length-upFrom i (suc n) = ap suc (length-upFrom (suc i) n)
+
+  pub getD-upFrom : (d : A) (i n r : ℕ) → r < n → getD (map f (upFrom i n)) r d ≡ f (i + r)
+  getD-upFrom d i zero r h = absurd (not-suc-le-zero h)
+  getD-upFrom d i (suc n) zero h = ap f (omega arith)
+  getD-upFrom d i (suc n) (suc r) h = getD-upFrom d (suc i) n r (le-of-suc-le-suc h) ∙ ap f (omega arith)

@@ -1,0 +1,73 @@
+-- Counts and lengths: of `keep`, `map`, `++`; and how often a number occurs in a list without repetitions.
+use Prim.Native.Nat.{ℕ, suc, _+_, _≤_}
+use mathlib.Core.Bool.{Bool, true, false, _||_, not, true≢false}
+use mathlib.Core.List.{List, [], _∷_, map}
+use mathlib.Core.Path.{_≡_, refl}
+use native.Mathlib.Omega.{arith}
+use lib.Dec.{eqb}
+use lib.ListN.{length}
+use Rattle.lists.specs.Lists.{all, keepIf, keep, oneIf, count, isIn, distinct}
+use Rattle.lists.specs.Choices.{and-left, and-right}
+use borrow.Author.Tests.{eqb-true, not-true}
+
+module _ {A : Type 0} where
+  module _ (p : A → Bool) where
+    pub length-keep : (xs : List A) → length (keep p xs) ≡ count p xs
+    length-keep [] = refl
+    length-keep (x ∷ xs) = go (p x) (length-keep xs)
+      where
+        go : (b : Bool) → length (keep p xs) ≡ count p xs → length (keepIf b x (keep p xs)) ≡ oneIf b + count p xs
+        go true e = omega arith
+        go false e = omega arith
+
+    pub count-le : (xs : List A) → count p xs ≤ length xs
+    count-le [] = omega arith
+    count-le (x ∷ xs) = go (p x) (count-le xs)
+      where
+        go : (b : Bool) → count p xs ≤ length xs → oneIf b + count p xs ≤ suc (length xs)
+        go true e = omega arith
+        go false e = omega arith
+
+    pub count-keep-le : (q : A → Bool) (xs : List A) → count p (keep q xs) ≤ count p xs
+    count-keep-le q [] = omega arith
+    count-keep-le q (x ∷ xs) = go (q x) (count-keep-le q xs)
+      where
+        go : (b : Bool) → count p (keep q xs) ≤ count p xs → count p (keepIf b x (keep q xs)) ≤ oneIf (p x) + count p xs
+        go true e = omega arith
+        go false e = omega arith
+
+module _ {A B : Type 0} (p : B → Bool) (f : A → B) where
+  pub count-map : (xs : List A) → count p (map f xs) ≡ count (λ x. p (f x)) xs
+  count-map [] = refl
+  count-map (x ∷ xs) = rw (count-map xs)
+
+module _ {A : Type 0} where
+  pub count-all : (p : A → Bool) (xs : List A) → all p xs ≡ true → count p xs ≡ length xs
+  count-all p [] h = refl
+  count-all p (x ∷ xs) h = rw (and-left (p x) (all p xs) h, count-all p xs (and-right (p x) (all p xs) h)) (omega arith)
+
+  pub count-none : (p : A → Bool) → ((x : A) → p x ≡ false) → (xs : List A) → count p xs ≡ 0
+  count-none p f [] = refl
+  count-none p f (x ∷ xs) = rw (f x, count-none p f xs)
+
+  pub count-sum : (p q r : A → Bool) → ((x : A) → oneIf (p x) ≡ oneIf (q x) + oneIf (r x)) → (xs : List A) → count p xs ≡ count q xs + count r xs
+  count-sum p q r f [] = refl
+  count-sum p q r f (x ∷ xs) = let h = f x in let k = count-sum p q r f xs in omega arith
+
+pub count-absent : (n : ℕ) (ns : List ℕ) → isIn n ns ≡ false → count (eqb n) ns ≡ 0
+count-absent n [] h = refl
+count-absent n (m ∷ ms) h = go (count-absent n ms) (eqb n m) h
+  where
+    go : (isIn n ms ≡ false → count (eqb n) ms ≡ 0) → (b : Bool) → b || isIn n ms ≡ false → oneIf b + count (eqb n) ms ≡ 0
+    go ih true k = absurd (true≢false k)
+    go ih false k = let e = ih k in omega arith
+
+-- a number occurs once or not at all where none occurs twice
+pub count-distinct : (n : ℕ) (ns : List ℕ) → distinct ns ≡ true → count (eqb n) ns ≡ oneIf (isIn n ns)
+count-distinct n [] h = refl
+count-distinct n (m ∷ ms) h = go (count-distinct n ms (and-right (not (isIn m ms)) (distinct ms) h)) (eqb n m) refl
+  where
+    go : count (eqb n) ms ≡ oneIf (isIn n ms) → (b : Bool) → eqb n m ≡ b → oneIf b + count (eqb n) ms ≡ oneIf (b || isIn n ms)
+    go ih true e = let k : isIn n ms ≡ false = rw (eqb-true n m e) (not-true (isIn m ms) (and-left (not (isIn m ms)) (distinct ms) h)) in
+        let c = count-absent n ms k in omega arith
+    go ih false e = omega arith

@@ -1,0 +1,39 @@
+// A log: its form, and the words of each of its moves.
+ghost use Prim.Native.Nat.{ℕ, _+_, _*_, _<_};
+ghost use mathlib.Core.Path.{_≡_};
+ghost use mathlib.Core.Bool.{true};
+ghost use lib.ListN.{length, getD, take, drop};
+ghost use Rattle.semantics.specs.Log.{moveCount, logSizesOk};
+ghost use Rattle.log.specs.Form.{Place};
+
+// How many moves a log says it has; 0 of no words.
+fn count_of(log: &[u32]) -> usize
+    ensures { λ r. ⌜ (r ≡ moveCount (now (log .entry))) × (r < 4294967296) ⌝ }
+{
+    if 0 < log.len() { log[0] as usize } else { 0 }
+}
+
+// The count and the length.
+pub fn sizes_ok(log: &[u32]) -> bool
+    ensures { λ r. ⌜ r ≡ logSizesOk (now (log .entry)) ⌝ }
+{
+    let moves = count_of(log);
+    (1 <= log.len()) & ((moves <= 1024) & (log.len() == 1 + 5 * moves))
+}
+
+// The head of the move at place i.
+pub fn head_at(log: &[u32], i: usize) -> u32
+    requires { ⌜ Place (now log) i ⌝ }
+    ensures { λ r. ⌜ r ≡ getD (now (log .entry)) (1 + i) 0 ⌝ }
+{
+    log[1 + i]
+}
+
+// Its four picks.
+pub fn picks_at(log: &[u32], i: usize) -> [u32; 4]
+    requires { ⌜ Place (now log) i ⌝ }
+    ensures { λ r. ⌜ r ≡ take 4 (drop (1 + moveCount (now (log .entry)) + 4 * i) (now (log .entry))) ⌝ }
+{
+    let at = 1 + count_of(log) + 4 * i;
+    [log[at], log[at + 1], log[at + 2], log[at + 3]]
+}

@@ -1,0 +1,75 @@
+-- Laws of the two columns in which words hold entries: what a loop over both has ahead of it, what depends on owners alone,
+-- and what sizes in order say of the columns.
+use Prim.Native.Nat.{ℕ, suc, _+_, _-_, _*_, _≤_, _<_}
+use mathlib.Core.Path.{_≡_, refl}
+use mathlib.Core.Bool.{Bool, true, _&&_}
+use mathlib.Core.List.{List, [], _∷_}
+use native.Mathlib.Numerals.{add-one}
+use native.Mathlib.Omega.{arith}
+use lib.Dec.{leb, eqb}
+use borrow.Author.Tests.{leb-true, eqb-true}
+use lib.ListN.{length, getD, take, drop, length-take, length-drop, drop-of-length-le}
+use lib.Seq.{take-all}
+use Rattle.lists.specs.Lists.{all}
+use Rattle.lists.specs.Tests.{and-both}
+use Rattle.lists.specs.Walk.{drop-step}
+use Rattle.lists.specs.Ahead.{Tails}
+use Rattle.semantics.specs.State.{Entry, entryOf, entriesOf, entryCount, nextOf, ownersOf, itemsOf, stateSizesOk}
+
+-- the entries from place i on
+unfoldable pub entriesFrom : List ℕ → List ℕ → ℕ → List Entry
+entriesFrom os ws i = entriesOf i (drop i os) (drop i ws)
+
+abbrev pub entryAt : List ℕ → List ℕ → ℕ → Entry
+entryAt os ws i = entryOf i (getD os i 0) (getD ws i 0)
+
+pub entries-tails : (os ws : List ℕ) → length os ≡ length ws → Tails (entryAt os ws) (entriesFrom os ws) (length os)
+unfolding entriesFrom
+entries-tails os ws e = record { more = more; none = λ i h. rw (drop-of-length-le os h) }
+  where
+    more : (i : ℕ) → i < length os → entriesOf i (drop i os) (drop i ws) ≡ entryAt os ws i ∷ entriesOf (i + 1) (drop (i + 1) os) (drop (i + 1) ws)
+    more i h =
+        let l : i < length ws = omega arith in
+        rw (drop-step os i 0 h, drop-step ws i 0 l, add-one i)
+
+pub all-owners : (p : ℕ → Bool) (i : ℕ) (os ws : List ℕ) → length os ≡ length ws → all (λ e. p (e .owner)) (entriesOf i os ws) ≡ all p os
+all-owners p i [] ws h = refl
+all-owners p i (o ∷ os) [] h = absurd (omega arith)
+all-owners p i (o ∷ os) (w ∷ ws) h = rw (all-owners p (suc i) os ws (omega arith))
+
+-- what sizes in order say
+pub record Sized (s : List ℕ) : Type 0 where
+  pub count : entryCount s ≤ 1024
+  pub first : 1 ≤ nextOf s
+  pub last : nextOf s ≤ 65536
+  pub size : length s ≡ 2 + 2 * entryCount s
+  pub owners : length (ownersOf s) ≡ entryCount s
+  pub items : length (itemsOf s) ≡ entryCount s
+
+pub sized : (s : List ℕ) → stateSizesOk s ≡ true → Sized s
+unfolding stateSizesOk
+sized s h =
+    let n = entryCount s in
+    let next = leb 1 (nextOf s) && leb (nextOf s) 65536 in
+    let (two, rest) = and-both (leb 2 (length s)) (leb n 1024 && next && eqb (length s) (2 + 2 * n)) h in
+    let (front, long) = and-both (leb n 1024 && next) (eqb (length s) (2 + 2 * n)) rest in
+    let (few, ids) = and-both (leb n 1024) next front in
+    let (low, high) = and-both (leb 1 (nextOf s)) (leb (nextOf s) 65536) ids in
+    let size = eqb-true (length s) (2 + 2 * n) long in
+    record {
+      count = leb-true n 1024 few;
+      first = leb-true 1 (nextOf s) low;
+      last = leb-true (nextOf s) 65536 high;
+      size = size;
+      owners = simp (length-take, length-drop) (omega arith);
+      items = simp length-drop (omega arith);
+    }
+
+-- the columns as parts of the words, in the form in which code slices
+pub owners-part : (s : List ℕ) (n : ℕ) → n ≡ entryCount s → take (2 + n - 2) (drop 2 s) ≡ ownersOf s
+owners-part s n e =
+    let k : 2 + n - 2 ≡ entryCount s = omega arith in
+    rw k
+
+pub items-part : (s : List ℕ) (n : ℕ) → n ≡ entryCount s → take (length s - (2 + n)) (drop (2 + n) s) ≡ itemsOf s
+items-part s n e = rw (take-all (length s - (2 + n)) (drop (2 + n) s) (simp length-drop (omega arith)), e)

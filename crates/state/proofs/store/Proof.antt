@@ -1,0 +1,36 @@
+-- `store` meets its contract: what is written grows part by part.
+use mathlib.Core.Path.{_∙_}
+use native.Mathlib.Omega.{arith}
+use borrow.Author.Needs.{needs}
+use lib.ListN.{length-set}
+use Rattle.state.proofs.Working.{stored-words}
+use Rattle.state.proofs.store.Statement.{statement}
+use Rattle.state.proofs.store.Tie as tie
+
+slice-write-target-2 : tie.Need-slice-write-target-2
+slice-write-target-2 c = simp length-set (omega arith)
+
+put-column-requires : tie.Need-put-column-requires
+put-column-requires c κs = (c .before .before .before .before .pre .0, search needs, simp length-set (omega arith))
+
+put-column-requires-2 : tie.Need-put-column-requires-2
+put-column-requires-2 c κs = (
+  c .before .before .before .before .before .before .before .before .before .before .pre .0,
+  search needs,
+  omega (arith, simp length-set at (c .before .before .before .before .before .put-column .ensures .size)),
+)
+
+same-length : tie.Need-same-length
+same-length c = simp length-set at (c .before .before .put-column2 .ensures .size ∙ c .before .before .before .before .before .before .before .before .put-column .ensures .size)
+
+returns : tie.Need-returns
+returns c =
+    let first = c .before .before .before .before .before .before .before .before in
+    let start = first .before .before .before .before .before in
+    stored-words (start .args .t1) _ _ _ (search needs) (start .pre .0) (start .pre .1) (first .put-column .ensures) (c .before .before .put-column2 .ensures)
+
+pub store-spec : {M : Type 1} → statement M
+store-spec =
+    tie.close
+    (tie.spec (λ c. search needs) (λ c. search needs) slice-write-target-2 put-column-requires (λ c. search needs) put-column-requires-2
+    (λ c. search needs) (λ c. search needs) (λ c. search needs) same-length returns)

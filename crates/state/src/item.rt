@@ -1,0 +1,34 @@
+// The fields of an item, kind × 2^24 + port × 2^16 + value: the only code that knows how it holds
+// them; and its kinds.
+ghost use mathlib.Core.Path.{_≡_};
+ghost use Rattle.semantics.specs.Words.{itemKind, portOf, valueOf};
+
+// 01's note
+pub const MESSAGE: u32 = 0;
+
+// call-off note
+pub const COMPENSATION: u32 = 1;
+
+// stop mark
+pub const ABORT_MARK: u32 = 2;
+
+// lot mark
+pub const MEMBER_MARK: u32 = 3;
+
+pub fn kind_of(item: u32) -> u32
+    ensures { λ r. ⌜ r ≡ itemKind item ⌝ }
+{
+    item / 16777216
+}
+
+pub fn port_of(item: u32) -> u32
+    ensures { λ r. ⌜ r ≡ portOf item ⌝ }
+{
+    item / 65536 % 256
+}
+
+pub fn value_of(item: u32) -> u32
+    ensures { λ r. ⌜ r ≡ valueOf item ⌝ }
+{
+    item % 65536
+}

@@ -1,0 +1,91 @@
+// A rule of a well-formed table, decoded.
+ghost use mathlib.Core.Path.{_≡_};
+ghost use mathlib.Core.List.{map};
+ghost use Prim.Native.Nat.{_≤_, _<_};
+ghost use lib.Dec.{eqb};
+ghost use lib.ListN.{length, take};
+ghost use Rattle.semantics.specs.Words.{atomMode, valueOf};
+ghost use Rattle.semantics.specs.Table.{sizesOf, numbersOf, atomValue, atomOf, ruleOf, tableOf, ruleAt};
+ghost use Rattle.semantics.specs.TableLaws.{RuleFits};
+ghost use Rattle.semantics.specs.Answers.{tableVerdict};
+ghost use Rattle.semantics.specs.declared.Verdict.the-variants.{Allowed};
+ghost use Rattle.table.specs.Index.{Starts};
+ghost use Rattle.table.specs.Decode.{Decodes};
+use crate::parts::atom_words_of;
+use crate::parts::rule_words;
+use crate::parts::sizes_of;
+use crate::rule::shape_of;
+use semantics::Atom;
+use semantics::AtomValue;
+use semantics::Sizes;
+
+// The first count atoms are the rule's, the consumes (takes) first among them.
+pub struct Rule {
+    pub atoms: [Atom; 16],
+    pub count: usize,
+    pub consumes: usize,
+    pub class: u32,
+    pub begins: bool,
+}
+
+fn value_of(w: u32) -> AtomValue
+    ensures { λ r. ⌜ r ≡ atomValue (eqb (atomMode w) 1) (valueOf w) ⌝ }
+{
+    if w / 16777216 % 16 == 1 {
+        AtomValue::Received((w % 65536) as usize)
+    } else {
+        AtomValue::Constant((w % 65536) as u16)
+    }
+}
+
+pub fn atom_of(w: u32) -> Atom
+    ensures { λ r. ⌜ r ≡ atomOf w ⌝ }
+{
+    let value = value_of(w);
+    Atom {
+        role: w / 268435456,
+        port: w / 65536 % 256,
+        value: value,
+    }
+}
+
+fn atoms_of(ws: &[u32]) -> [Atom; 16]
+    requires { ⌜ length (now ws) ≤ 16 ⌝ }
+    ensures { λ r. ⌜ (length r ≡ 16) × (take (length (now (ws .entry))) r ≡ map atomOf (now (ws .entry))) ⌝ }
+{
+    let blank = atom_of(0);
+    let mut atoms = [blank; 16];
+    let mut i = 0;
+    while i < ws.len() {
+        atoms[i] = atom_of(ws[i]);
+        i += 1;
+    }
+    atoms
+}
+
+fn rule_of(ws: &[u32], z: Sizes) -> Rule
+    requires { ⌜ RuleFits z (now ws) ⌝ }
+    ensures { λ x. ⌜ Decodes x (ruleOf z (now (ws .entry))) ⌝ }
+{
+    let s = shape_of(ws, z);
+    let atoms = atoms_of(ws);
+    let count = ws.len();
+    let consumes = s.consumes;
+    let class = s.class;
+    let begins = 1 <= s.begins;
+    Rule {
+        atoms,
+        count,
+        consumes,
+        class,
+        begins,
+    }
+}
+
+pub fn rule_at<'a>(table: &'a [u32], starts: &'a [u32; 65], r: u32) -> Rule
+    requires { ⌜ (tableVerdict (now table) ≡ Allowed) × (r < sizesOf (now table) .rules) × Starts (numbersOf (now table)) (sizesOf (now table) .rules) (now starts) ⌝ }
+    ensures { λ x. ⌜ Decodes x (ruleAt (tableOf (now (table .entry))) r) ⌝ }
+{
+    let z = sizes_of(table);
+    rule_of(rule_words(atom_words_of(table), starts, r as usize), z)
+}

@@ -1,0 +1,13 @@
+// The table: its check (01, "Recipe table"), and a rule decoded from its words.
+mod atom;
+pub mod decode;
+pub mod index;
+pub mod parts;
+mod rule;
+pub mod verdict;
+
+pub use decode::Rule;
+pub use decode::rule_at;
+pub use parts::sizes_of;
+pub use verdict::Checked;
+pub use verdict::check;

@@ -1,0 +1,91 @@
+// The check of a whole table. The index that it makes on the way serves later calls.
+ghost use mathlib.Core.Path.{_≡_};
+ghost use Prim.Native.Nat.{ℕ, _<_};
+ghost use lib.ListN.{length};
+ghost use Rattle.lists.specs.Lists.{allBelow};
+ghost use Rattle.semantics.specs.Table.{sizesOf, numbersOf, tableSizesOk, tableContentsOk, ruleOk};
+ghost use Rattle.semantics.specs.TableLaws.{Sized};
+ghost use Rattle.table.specs.Index.{Cut, cut, Indexed};
+ghost use Rattle.table.specs.Check.{CheckedAs};
+use crate::index::Index;
+use crate::index::index_rules;
+use crate::parts::atom_words_of;
+use crate::parts::numbers_of;
+use crate::parts::rule_words;
+use crate::parts::sizes_of;
+use crate::rule::rule_ok;
+use semantics::Refusal;
+use semantics::Sizes;
+use semantics::Verdict;
+
+// Where the verdict is Allowed, the atoms of rule r stand from starts[r] on, up to starts[r + 1].
+pub struct Checked {
+    pub verdict: Verdict,
+    pub starts: [u32; 65],
+}
+
+fn sizes_ok(table: &[u32]) -> bool
+    ensures { λ r. ⌜ r ≡ tableSizesOk (now (table .entry)) ⌝ }
+{
+    if table.len() < 5 {
+        return false;
+    }
+    let z = sizes_of(table);
+    let ports = z.globals as usize + z.locals as usize + z.merges as usize;
+    let rules = z.rules;
+    let atoms = z.atoms;
+    ((ports <= 256) & (rules <= 64) & (atoms <= 512)) & (table.len() == 5 + 2 * (atoms as usize))
+}
+
+fn rules_ok<'a>(words: &'a [u32], starts: &'a [u32; 65], z: Sizes) -> bool
+    requires { ⌜ ((r : ℕ) → r < z .rules → Cut (now starts) r (length (now words))) ⌝ }
+    ensures { λ b. ⌜ b ≡ allBelow (z .rules) (λ r. ruleOk z (cut (now (starts .entry)) r (now (words .entry)))) ⌝ }
+{
+    let rules = z.rules as usize;
+    let mut r = 0;
+    while r < rules {
+        if !rule_ok(rule_words(words, starts, r), z) {
+            return false;
+        }
+        r += 1;
+    }
+    true
+}
+
+// The rule numbers, then the rules.
+fn contents(table: &[u32]) -> Index
+    requires { ⌜ Sized (now table) ⌝ }
+    ensures { λ x. ⌜ Indexed (tableContentsOk (now (table .entry))) (numbersOf (now (table .entry))) (sizesOf (now (table .entry)) .rules) x ⌝ }
+{
+    let z = sizes_of(table);
+    let found = index_rules(numbers_of(table), z.rules);
+    let starts = found.starts;
+    if !found.ok {
+        return Index { ok: false, starts };
+    }
+    let ok = rules_ok(atom_words_of(table), &starts, z);
+    Index { ok, starts }
+}
+
+pub fn check(table: &[u32]) -> Checked
+    ensures { λ c. ⌜ CheckedAs (now (table .entry)) c ⌝ }
+{
+    if !sizes_ok(table) {
+        return Checked {
+            verdict: Verdict::Denied(Refusal::TableSizes),
+            starts: [0u32; 65],
+        };
+    }
+    let found = contents(table);
+    let starts = found.starts;
+    if found.ok {
+        return Checked {
+            verdict: Verdict::Allowed,
+            starts,
+        };
+    }
+    Checked {
+        verdict: Verdict::Denied(Refusal::TableContents),
+        starts,
+    }
+}

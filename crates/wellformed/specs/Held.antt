@@ -1,0 +1,105 @@
+-- What every state of a log is: read from accepted words, left by an accepted move, and its words are accepted again.
+use Prim.Native.Nat.{ℕ, suc, _+_, _*_, _≤_, _<_}
+use mathlib.Core.Bool.{true}
+use mathlib.Core.List.{List, [], _∷_}
+use mathlib.Core.Path.{_≡_, refl, ap, subst, _∙_}
+use native.Mathlib.Omega.{arith}
+use lib.Dec.{eqb}
+use lib.ListN.{length}
+use borrow.Author.Tests.{eqb-true, eqb-false, le-leb, eq-eqb}
+use Rattle.lists.specs.Choices.{by-bool, and-intro}
+use Rattle.semantics.specs.Table.{sizesOf, tableOf, portCount}
+use Rattle.semantics.specs.State.{Entry, State, stateOf, stateWords, stateSizesOk}
+use Rattle.semantics.specs.Move.{moveOf, Stepped, to, refused, stepWords}
+use Rattle.semantics.specs.Log.{ended, onward, run}
+use Rattle.semantics.specs.Answers.{tableVerdict, stateOwnVerdict, stateVerdict}
+use Rattle.semantics.specs.declared.Sizes.{Sizes}
+use Rattle.semantics.specs.declared.Refusal.the-variants.{StateSizes, StateContents}
+use Rattle.semantics.specs.declared.Verdict.the-variants.{Allowed}
+use Rattle.wellformed.specs.Verdicts.{both-intro, unless-intro, sizes-tableOf, table-given, sizes-given, state-given, state-sizes-given}
+use Rattle.wellformed.specs.Rules.{table-right}
+use Rattle.wellformed.specs.Entries.{EntryRight, state-right, state-tests, Sound, Small}
+use Rattle.wellformed.specs.Step.{accepted}
+use Rattle.wellformed.specs.Preservation.{rule-known, applied-keeps, applied-small}
+use Rattle.wellformed.specs.Bare.{bareState, entriesOk-same}
+use Rattle.wellformed.specs.RoundTrip.{bare-numbered, Fits, stateOf-stateWords, stateWords-stateOf, length-stateWords, entryCount-stateWords, nextOf-stateWords, next-stateOf, stateOf-small}
+
+-- what the states of a log keep: well formed, values small, few enough entries
+pub record Held (z : Sizes) (s : State) : Type 0 where
+  pub sound : Sound z s
+  pub small : Small (s .entries)
+  pub few : length (s .entries) ≤ 1024
+
+-- ---- from words
+
+pub stateOf-held : (T S : List ℕ) → stateVerdict T S ≡ Allowed → Held (sizesOf T) (stateOf S)
+stateOf-held T S h =
+    let (t, k, e) = state-given S T h in
+    let g = state-sizes-given S k in
+    let w = length-stateWords (stateOf S) in
+    let l = ap length (stateWords-stateOf S k) in
+    let m = g .words in
+    let n = g .entries in
+    record {
+      sound = record { right = state-right (sizesOf T) (stateOf S) e; next-low = rw (next-stateOf S) (g .next-low); next-high = rw (next-stateOf S) (g .next-high) };
+      small = stateOf-small S;
+      few = omega arith;
+    }
+
+-- ---- to words
+
+port-lt : (z : Sizes) (next : ℕ) (e : Entry) → portCount z ≤ 256 → EntryRight z next e → e .port < 256
+port-lt z next e p r =
+    by-bool (eqb (e .kind) 0) (λ a. let l = r .message (eqb-true (e .kind) 0 a) in omega arith)
+    (λ a. by-bool (eqb (e .kind) 1) (λ b. let l = r .compensation (eqb-true (e .kind) 1 b) in omega arith)
+    (λ b. by-bool (eqb (e .kind) 2) (λ c. let l = r .abort-mark (eqb-true (e .kind) 2 c) .0 in omega arith)
+    (λ c. let a = eqb-false (e .kind) 0 a in let b = eqb-false (e .kind) 1 b in let c = eqb-false (e .kind) 2 c in let d = r .kind-le in
+    let k : e .kind ≡ 3 = omega arith in let l = r .member-mark k .port-zero in omega arith)))
+
+sizes-pass : {z : Sizes} (s : State) → Held z s → stateSizesOk (stateWords s) ≡ true
+unfolding stateSizesOk
+sizes-pass s h =
+    let l = length-stateWords s in
+    rw (entryCount-stateWords s, nextOf-stateWords s)
+    (and-intro (le-leb 2 (length (stateWords s)) (omega arith))
+    (and-intro (and-intro (le-leb (length (s .entries)) 1024 (h .few)) (and-intro (le-leb 1 (s .next) (h .sound .next-low)) (le-leb (s .next) 65536 (h .sound .next-high))))
+    (eq-eqb (length (stateWords s)) (2 + 2 * length (s .entries)) l)))
+
+module _ (T : List ℕ) (table : tableVerdict T ≡ Allowed) where
+  pub held-fits : (s : State) → Held (sizesOf T) s → Fits (s .entries)
+  held-fits s h e m = (port-lt (sizesOf T) (s .next) e (sizes-given T (table-given T table .0) .ports) (h .sound .right .each e m), h .small e m)
+
+  -- words read back differ from the state in origins alone
+  pub reread : (s : State) → Held (sizesOf T) s → bareState (stateOf (stateWords s)) ≡ bareState s
+  reread s h = ap bareState (stateOf-stateWords s (held-fits s h)) ∙ (λ k. record { next = s .next; entries = bare-numbered 0 (s .entries) k })
+
+  pub words-pass : (s : State) → Held (sizesOf T) s → stateVerdict T (stateWords s) ≡ Allowed
+  unfolding stateVerdict stateOwnVerdict
+  words-pass s h = both-intro table (both-intro (unless-intro StateSizes (sizes-pass s h))
+      (unless-intro StateContents (entriesOk-same (stateOf (stateWords s)) s (reread s h) (sizesOf T) ∙ state-tests (sizesOf T) s (h .sound .right))))
+
+  -- an accepted move leaves such a state
+  pub step-holds : (ceiling i : ℕ) (s : State) (m : List ℕ) (s′ : State) → ceiling ≤ 1024 → Held (sizesOf T) s → stepWords ceiling (tableOf T) i s m ≡ to s′ → Held (sizesOf T) s′
+  step-holds ceiling i s m s′ c h e =
+      let a = accepted ceiling (tableOf T) i s m s′ e in
+      let k = rule-known (tableOf T) m (a .form) in
+      let sound : Sound (tableOf T .sizes) s = rw (sizes-tableOf T) (h .sound) in
+      record {
+        sound = rw (a .result, sizes-tableOf T) at (applied-keeps (table-right T table) sound i (moveOf (tableOf T) m) k (a .allows));
+        small = rw (a .result) at (applied-small (table-right T table) sound i (moveOf (tableOf T) m) k (a .allows) (h .small));
+        few = let l = a .fits in omega arith;
+      }
+
+  pub run-holds : (ceiling i : ℕ) (s : State) (ms : List (List ℕ)) (s′ : State) → ceiling ≤ 1024 → Held (sizesOf T) s → run ceiling (tableOf T) i s ms ≡ ended s′ → Held (sizesOf T) s′
+  unfolding run
+  run-holds ceiling i s [] s′ c h e = subst (Held (sizesOf T)) (same e) h
+    where
+      same : {a b : State} → ended a ≡ ended b → a ≡ b
+      same h = cc
+  run-holds ceiling i s (m ∷ ms) s′ c h e = go (stepWords ceiling (tableOf T) (suc i) s m) refl (λ x k. run-holds ceiling (suc i) x ms s′ c k) e
+    where
+      go : (x : Stepped) → stepWords ceiling (tableOf T) (suc i) s m ≡ x
+          → ((x : State) → Held (sizesOf T) x → run ceiling (tableOf T) (suc i) x ms ≡ ended s′ → Held (sizesOf T) s′)
+          → onward x i (λ x. run ceiling (tableOf T) (suc i) x ms) ≡ ended s′ → Held (sizesOf T) s′
+      go (to x) q ih k = ih x (step-holds ceiling (suc i) s m x c h q) k
+      go (refused r) q ih k = absurd (let z : _≡_ {A = ℕ} 0 1 = cc in omega arith)

@@ -1,0 +1,79 @@
+-- A refused move's own number is 5, or 7 to 12.
+use Prim.Native.Nat.{ℕ, suc, _≤_}
+use mathlib.Core.Bool.{Bool, true, false, cond}
+use mathlib.Core.List.{List, [], _∷_}
+use mathlib.Core.Logic.{_⊎_, inl, inr}
+use mathlib.Core.Path.{_≡_, refl, sym, subst, _∙_}
+use native.Mathlib.Omega.{arith}
+use lib.Dec.{leb}
+use lib.ListN.{length}
+use Rattle.semantics.specs.Table.{Table, ruleAt}
+use Rattle.semantics.specs.State.{State}
+use Rattle.semantics.specs.Move.{unless, both, Move, react, commit, abort, moveOk, moveOf, picksOk, ownersAt, ownersFit, hasId, isOpen, mayCommit, mayAbort, allowed, applied, Stepped, to, refused, steppedBy, stepWords, moveVerdict}
+use Rattle.semantics.specs.Log.{stopped, onward, run}
+use Rattle.semantics.specs.Answers.{number}
+use Rattle.semantics.specs.declared.Refusal.{Refusal}
+use Rattle.semantics.specs.declared.Refusal.the-variants.{MoveForm, WrongPick, WrongOwner, NoTransaction, EndNotAllowed, NoMoreIds, TooManyEntries}
+use Rattle.semantics.specs.declared.Verdict.{Verdict}
+use Rattle.semantics.specs.declared.Verdict.the-variants.{Allowed, Denied}
+use Rattle.wellformed.specs.Step.{stepWords-verdict, refused≢to}
+
+abbrev pub OwnNumber : Refusal → Type 0
+OwnNumber r = (number r ≡ 5) ⊎ ((7 ≤ number r) × (number r ≤ 12))
+
+abbrev Owns : Verdict → Type 0
+Owns Allowed = Unit
+Owns (Denied r) = OwnNumber r
+
+owns-both : (a b : Verdict) → Owns a → Owns b → Owns (both a b)
+owns-both Allowed b h k = k
+owns-both (Denied r) b h k = h
+
+owns-unless : (b : Bool) (r : Refusal) → 7 ≤ number r → number r ≤ 12 → Owns (unless b r)
+owns-unless true r h k = tt
+owns-unless false r h k = inr (h, k)
+
+allowed-owns : (t : Table) (s : State) (m : Move) → Owns (allowed t s m)
+unfolding allowed
+allowed-owns t s (react r ps) =
+    let R = ruleAt t r in
+    owns-both (unless (picksOk R s ps) WrongPick) (both (unless (ownersFit (R .class) (ownersAt s ps)) WrongOwner) (unless (hasId R s) NoMoreIds))
+    (owns-unless (picksOk R s ps) WrongPick (omega arith) (omega arith))
+    (owns-both (unless (ownersFit (R .class) (ownersAt s ps)) WrongOwner) (unless (hasId R s) NoMoreIds)
+    (owns-unless (ownersFit (R .class) (ownersAt s ps)) WrongOwner (omega arith) (omega arith)) (owns-unless (hasId R s) NoMoreIds (omega arith) (omega arith)))
+allowed-owns t s (commit b) =
+    owns-both (unless (isOpen b s) NoTransaction) (unless (mayCommit t b s) EndNotAllowed)
+    (owns-unless (isOpen b s) NoTransaction (omega arith) (omega arith)) (owns-unless (mayCommit t b s) EndNotAllowed (omega arith) (omega arith))
+allowed-owns t s (abort b) =
+    owns-both (unless (isOpen b s) NoTransaction) (unless (mayAbort b s) EndNotAllowed)
+    (owns-unless (isOpen b s) NoTransaction (omega arith) (omega arith)) (owns-unless (mayAbort b s) EndNotAllowed (omega arith) (omega arith))
+
+-- 5, or 7 to 12
+pub refused-number : (ceiling : ℕ) (t : Table) (i : ℕ) (s : State) (m : List ℕ) (r : Refusal) → stepWords ceiling t i s m ≡ refused r → OwnNumber r
+unfolding moveVerdict
+refused-number ceiling t i s m r h =
+    go (moveOk t m) (moveVerdict ceiling t s (moveOf t m))
+    (owns-both (allowed t s (moveOf t m)) (unless (leb (length (applied t 0 s (moveOf t m) .entries)) ceiling) TooManyEntries) (allowed-owns t s (moveOf t m))
+    (owns-unless (leb (length (applied t 0 s (moveOf t m) .entries)) ceiling) TooManyEntries (omega arith) (omega arith)))
+    (sym (stepWords-verdict ceiling t i s m) ∙ h)
+  where
+    same : {a b : Refusal} → refused a ≡ refused b → a ≡ b
+    same h = cc
+
+    go : (b : Bool) (v : Verdict) → Owns v → cond b (steppedBy v (applied t i s (moveOf t m))) (refused MoveForm) ≡ refused r → OwnNumber r
+    go false v o k = subst OwnNumber (same k) (inl refl)
+    go true Allowed o k = absurd (refused≢to (sym k))
+    go true (Denied q) o k = subst OwnNumber (same k) o
+
+pub stopped-number : (ceiling : ℕ) (t : Table) (i : ℕ) (s : State) (ms : List (List ℕ)) (j : ℕ) (r : Refusal) → run ceiling t i s ms ≡ stopped j r → OwnNumber r
+unfolding run
+stopped-number ceiling t i s [] j r h = absurd (let z : _≡_ {A = ℕ} 0 1 = cc in omega arith)
+stopped-number ceiling t i s (m ∷ ms) j r h = go (stepWords ceiling t (suc i) s m) refl (λ s′. stopped-number ceiling t (suc i) s′ ms j r) h
+  where
+    same : {a b : ℕ} {p q : Refusal} → stopped a p ≡ stopped b q → p ≡ q
+    same h = cc
+
+    go : (x : Stepped) → stepWords ceiling t (suc i) s m ≡ x → ((s′ : State) → run ceiling t (suc i) s′ ms ≡ stopped j r → OwnNumber r)
+        → onward x i (λ s′. run ceiling t (suc i) s′ ms) ≡ stopped j r → OwnNumber r
+    go (to s′) e ih k = ih s′ k
+    go (refused q) e ih k = subst OwnNumber (same k) (refused-number ceiling t (suc i) s m q e)

@@ -1,0 +1,55 @@
+-- What a call comes to, told from its answer: words written, or the number of a refusal.
+use Prim.Native.Nat.{ℕ, _≤_}
+use mathlib.Core.List.{List}
+use mathlib.Core.Path.{_≡_, refl}
+use native.Mathlib.Omega.{arith}
+use lib.ListN.{length, take, drop}
+use lib.Seq.{take-append-seam}
+use Rattle.semantics.specs.Answers.{number, answerOf, Result, write, refuse, refuseMove, outcomeOf, targetAfter, unlessDenied}
+use Rattle.semantics.specs.declared.Refusal.{Refusal}
+use Rattle.semantics.specs.declared.Refusal.the-variants.{TableSizes, TableContents, StateSizes, StateContents, MoveForm, TargetTooShort, WrongPick, WrongOwner, NoTransaction, EndNotAllowed, NoMoreIds, TooManyEntries, LogSizes, BeginEmits, TransactionOpen, SerialTooManyEntries}
+use Rattle.semantics.specs.declared.Verdict.{Verdict}
+use Rattle.semantics.specs.declared.Verdict.the-variants.{Allowed, Denied}
+
+pub refuse≢write : {r : Refusal} {ws : List ℕ} → refuse r ≡ write ws → ⊥
+refuse≢write h = let z : _≡_ {A = ℕ} 0 1 = cc in omega arith
+
+pub unlessDenied-write : (v : Verdict) (x : Result) (ws : List ℕ) → unlessDenied v x ≡ write ws → (v ≡ Allowed) × (x ≡ write ws)
+unlessDenied-write Allowed x ws h = (refl, h)
+unlessDenied-write (Denied r) x ws h = absurd (refuse≢write h)
+
+pub write-same : {a b : List ℕ} → write a ≡ write b → a ≡ b
+write-same h = cc
+
+-- no refusal has the number 0, and none but that of a log's move 16
+pub number-own : (r : Refusal) → (1 ≤ number r) × (number r ≡ 16 → ⊥)
+number-own TableSizes = omega arith
+number-own TableContents = omega arith
+number-own StateSizes = omega arith
+number-own StateContents = omega arith
+number-own MoveForm = omega arith
+number-own TargetTooShort = omega arith
+number-own WrongPick = omega arith
+number-own WrongOwner = omega arith
+number-own NoTransaction = omega arith
+number-own EndNotAllowed = omega arith
+number-own NoMoreIds = omega arith
+number-own TooManyEntries = omega arith
+number-own LogSizes = omega arith
+number-own BeginEmits = omega arith
+number-own TransactionOpen = omega arith
+number-own SerialTooManyEntries = omega arith
+
+pub write-accepted : (x : Result) → answerOf (outcomeOf x) .number ≡ 0 → (ws : List ℕ) × (x ≡ write ws)
+write-accepted (write ws) h = (ws, refl)
+write-accepted (refuse r) h = absurd (let p = number-own r .0 in omega arith)
+write-accepted (refuseMove i r) h = absurd (omega arith)
+
+pub move-refused : (x : Result) → answerOf (outcomeOf x) .number ≡ 16 → (i : ℕ) × (r : Refusal) × (x ≡ refuseMove i r)
+move-refused (write ws) h = absurd (omega arith)
+move-refused (refuse r) h = absurd (number-own r .1 h)
+move-refused (refuseMove i r) h = (i, r, refl)
+
+-- the words that an accepted call wrote stand at the target's beginning, as many as its answer says
+pub written : (x : Result) (target ws : List ℕ) → x ≡ write ws → take (answerOf (outcomeOf x) .words) (targetAfter x target) ≡ ws
+written x target ws h = rw h (take-append-seam ws (drop (length ws) target))

@@ -1,0 +1,1 @@
+// Theorems about the definitions of the crate semantics. No code: see specs/.

@@ -1,0 +1,36 @@
+//! What a public call answers: one type for the model, the plain code and the library.
+
+#[derive(Clone, Copy, Debug, PartialEq, Eq)]
+pub enum Answer {
+    /// The words written; 0 for a check.
+    Accepted(u32),
+    /// 01's number, other than 16.
+    Refused(u32),
+    /// Number 16: the move at `place` is refused with its `own` number.
+    MoveRefused { place: u32, own: u32 },
+}
+
+impl Answer {
+    /// 01's number, 0 for an accepted call.
+    pub fn number(self) -> u32 {
+        match self {
+            Answer::Accepted(_) => 0,
+            Answer::Refused(number) => number,
+            Answer::MoveRefused { .. } => 16,
+        }
+    }
+
+    /// The answer of a check.
+    pub fn of_check<T>(checked: Result<T, u32>) -> Answer {
+        match checked {
+            Ok(_) => Answer::Accepted(0),
+            Err(number) => Answer::Refused(number),
+        }
+    }
+
+    /// Puts accepted words at the front of the target, which the caller has found long enough.
+    pub fn write(words: &[u32], target: &mut [u32]) -> Answer {
+        target[..words.len()].copy_from_slice(words);
+        Answer::Accepted(words.len() as u32)
+    }
+}

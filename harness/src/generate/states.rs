@@ -1,0 +1,77 @@
+//! Random well-formed states.
+use crate::random::Random;
+use crate::words::{kind, Entry, State, Table, MAX_ENTRIES, MAX_NEXT};
+
+/// A state of at most `most` entries; with transactions (merged, marked to abort) if `open`.
+pub fn state(random: &mut Random, table: &Table, most: usize, open: bool) -> State {
+    assert!(most <= MAX_ENTRIES);
+    let wanted = random.index(most + 1);
+    let mut entries: Vec<Entry> = Vec::new();
+    let mut free = free_ids(random, wanted);
+    if open {
+        let transactions = random.pick(&[0, 1, 2, 4, 30, 400]);
+        for _ in 0..transactions {
+            if entries.len() < wanted {
+                transaction(random, table, &mut free, wanted, &mut entries);
+            }
+        }
+    }
+    while entries.len() < wanted && table.global > 0 {
+        entries.push(Entry::new(0, kind::MESSAGE, random.below(table.global), value(random)));
+    }
+    let highest =
+        entries.iter().filter(|entry| entry.kind == kind::MEMBER_MARK).map(|entry| entry.value).max().unwrap_or(0);
+    let next = match random.below(4) {
+        0 => MAX_NEXT,
+        1 => random.between(highest + 1, MAX_NEXT),
+        _ => highest + 1,
+    };
+    if random.chance(80) {
+        random.shuffle(&mut entries);
+    }
+    State { next, entries }
+}
+
+/// Ids in falling order, so that the last is the smallest left; few gaps or many.
+fn free_ids(random: &mut Random, wanted: usize) -> Vec<u32> {
+    let top = random.pick(&[wanted as u32 + 1, 2_000, 65_535]).max(wanted as u32 + 1);
+    let mut ids: Vec<u32> = (0..=wanted).map(|_| random.between(1, top)).collect();
+    ids.sort_unstable();
+    ids.dedup();
+    ids.reverse();
+    ids
+}
+
+fn value(random: &mut Random) -> u32 {
+    match random.below(3) {
+        0 => random.pick(&[0, 1, 65_534, 65_535]),
+        1 => random.below(65_536),
+        _ => random.below(10),
+    }
+}
+
+fn transaction(random: &mut Random, table: &Table, free: &mut Vec<u32>, wanted: usize, entries: &mut Vec<Entry>) {
+    let Some(id) = free.pop() else { return };
+    entries.push(Entry::new(id, kind::MEMBER_MARK, 0, id));
+    let more = random.pick(&[0, 1, 3, 6, 12]).min(wanted - entries.len());
+    for _ in 0..more {
+        let entry = match random.below(10) {
+            0 | 1 => {
+                // A merged member has a larger id.
+                let Some(member) = (!free.is_empty()).then(|| free.remove(random.index(free.len()))) else { continue };
+                Entry::new(id, kind::MEMBER_MARK, 0, member)
+            }
+            2 if random.chance(40) => Entry::new(id, kind::ABORT_MARK, 0, 0),
+            3 if table.global > 0 => Entry::new(id, kind::COMPENSATION, random.below(table.global), value(random)),
+            _ if table.ports() > 0 => Entry::new(id, kind::MESSAGE, random.below(table.ports()), value(random)),
+            _ => continue,
+        };
+        entries.push(entry);
+    }
+}
+
+/// Exactly `n` global messages and nothing open; the table has a global port.
+pub fn messages(random: &mut Random, table: &Table, n: usize) -> State {
+    let message = |random: &mut Random| Entry::new(0, kind::MESSAGE, random.below(table.global), value(random));
+    State { next: random.pick(&[1, 1, 7, 65_000]), entries: (0..n).map(|_| message(random)).collect() }
+}

@@ -1,0 +1,10 @@
+//! Tests of the proved coordinator against two independent opinions: `model`, written from the
+//! calculus of the source paper, and `plain`, written from document 01 as ordinary fast Rust.
+pub mod answer;
+pub mod generate;
+#[cfg(feature = "library")]
+pub mod library;
+pub mod model;
+pub mod plain;
+pub mod random;
+pub mod words;

@@ -1,0 +1,12 @@
+//! The model: flat cJoin as in the source paper (document 004, figures 5 and 12).
+//!
+//! A solution holds messages and transactions `{{ M, abort?, ⌊Q⌋ }}`; rules are definitions
+//! `J ▷ P` and `J ▶ P`. Molecules are told apart by name, never by place: `ordered` is the thin
+//! layer that keeps the entry order of document 01.
+pub mod calls;
+pub mod colours;
+pub mod definitions;
+pub mod ordered;
+pub mod solution;
+
+pub use calls::*;

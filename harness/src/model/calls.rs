@@ -1,0 +1,94 @@
+//! The five public calls, on words and a target.
+use super::colours;
+use super::definitions::{Definitions, Product};
+use super::ordered::{Made, Ordered};
+use crate::answer::Answer;
+use crate::words::{log_from_words, log_words, Move, MAX_ENTRIES, MAX_MOVES, STATE_TARGET};
+
+pub fn check_table(table: &[u32]) -> Answer {
+    Answer::of_check(Definitions::read(table))
+}
+
+pub fn check_state(table: &[u32], state: &[u32]) -> Answer {
+    Answer::of_check(Definitions::read(table).and_then(|definitions| Ordered::read(&definitions, state)))
+}
+
+pub fn make_move(table: &[u32], state: &[u32], mv: &[u32], target: &mut [u32]) -> Answer {
+    let made = || {
+        let definitions = Definitions::read(table)?;
+        let mut ordered = Ordered::read(&definitions, state)?;
+        // 6 stands between 5 and 7.
+        match ordered.make_words(&definitions, mv, 0, MAX_ENTRIES) {
+            Err(5) => Err(5),
+            _ if target.len() < STATE_TARGET => Err(6),
+            Err(number) => Err(number),
+            Ok(_) => Ok(ordered.state().words()),
+        }
+    };
+    match made() {
+        Ok(words) => Answer::write(&words, target),
+        Err(number) => Answer::Refused(number),
+    }
+}
+
+/// What the calls on logs read, up to refusal 13.
+fn read(table: &[u32], state: &[u32], log: &[u32]) -> Result<(Definitions, Ordered, Vec<Move>), Answer> {
+    let definitions = Definitions::read(table).map_err(Answer::Refused)?;
+    let start = Ordered::read(&definitions, state).map_err(Answer::Refused)?;
+    let log = log_from_words(log).filter(|log| log.len() <= MAX_MOVES).ok_or(Answer::Refused(13))?;
+    Ok((definitions, start, log))
+}
+
+/// The moves in order, each on what the one before left.
+fn follow(definitions: &Definitions, mut ordered: Ordered, log: &[Move]) -> Result<(Vec<Made>, Ordered), Answer> {
+    let mut history = Vec::new();
+    for (place, mv) in log.iter().enumerate() {
+        match ordered.make_words(definitions, &mv.words(), place, MAX_ENTRIES) {
+            Ok(made) => history.push(made),
+            Err(own) => return Err(Answer::MoveRefused { place: place as u32, own }),
+        }
+    }
+    Ok((history, ordered))
+}
+
+pub fn run(table: &[u32], state: &[u32], log: &[u32], target: &mut [u32]) -> Answer {
+    let end = || {
+        let (definitions, start, log) = read(table, state, log)?;
+        if target.len() < STATE_TARGET {
+            return Err(Answer::Refused(6));
+        }
+        Ok(follow(&definitions, start, &log)?.1)
+    };
+    match end() {
+        Ok(end) => Answer::write(&end.state().words(), target),
+        Err(answer) => answer,
+    }
+}
+
+pub fn serialize(table: &[u32], state: &[u32], log: &[u32], target: &mut [u32]) -> Answer {
+    let serial = || {
+        let (definitions, start, log) = read(table, state, log)?;
+        if target.len() < 1 + 5 * log.len() {
+            return Err(Answer::Refused(6));
+        }
+        let emits_at_begin = definitions
+            .rules
+            .iter()
+            .any(|rule| matches!(rule.product, Product::Global(Some(_))) && !rule.emits.is_empty());
+        if emits_at_begin {
+            return Err(Answer::Refused(14));
+        }
+        if !start.solution.transactions.is_empty() {
+            return Err(Answer::Refused(15));
+        }
+        let (history, end) = follow(&definitions, start.clone(), &log)?;
+        if !end.solution.transactions.is_empty() {
+            return Err(Answer::Refused(15));
+        }
+        colours::serial(&definitions, start, &history, MAX_ENTRIES).ok_or(Answer::Refused(17))
+    };
+    match serial() {
+        Ok(serial) => Answer::write(&log_words(&serial), target),
+        Err(answer) => answer,
+    }
+}

@@ -1,0 +1,104 @@
+//! The five public calls as ordinary fast Rust straight from document 01: a second opinion, and
+//! the baseline of the benchmark.
+mod serial;
+mod state;
+mod step;
+mod table;
+
+use crate::answer::Answer;
+use crate::words::{MAX_ENTRIES, MAX_MOVES, STATE_TARGET};
+use state::State;
+use step::Call;
+use table::Table;
+
+pub fn check_table(table: &[u32]) -> Answer {
+    Answer::of_check(Table::read(table))
+}
+
+pub fn check_state(table: &[u32], state: &[u32]) -> Answer {
+    Answer::of_check(Table::read(table).and_then(|table| State::read(&table, state)))
+}
+
+pub fn make_move(table: &[u32], state: &[u32], mv: &[u32], target: &mut [u32]) -> Answer {
+    match moved(table, state, mv, target.len()) {
+        Ok(state) => state.write(target),
+        Err(number) => Answer::Refused(number),
+    }
+}
+
+fn moved(table: &[u32], state: &[u32], mv: &[u32], room: usize) -> Result<State, u32> {
+    let table = Table::read(table)?;
+    let mut state = State::read(&table, state)?;
+    let &[head, ref picks @ ..] = <&[u32; 5]>::try_from(mv).map_err(|_| 5u32)?;
+    let call = Call::read(&table, head, picks)?;
+    if room < STATE_TARGET {
+        return Err(6);
+    }
+    state.make(&table, call, picks)?;
+    Ok(state)
+}
+
+/// A log's heads and picks, found to be of the right length.
+#[derive(Clone, Copy)]
+struct Log<'a> {
+    heads: &'a [u32],
+    picks: &'a [u32],
+}
+
+impl<'a> Log<'a> {
+    fn read(words: &'a [u32]) -> Result<Log<'a>, u32> {
+        let (&k, rest) = words.split_first().ok_or(13u32)?;
+        let k = k as usize;
+        if k > MAX_MOVES || rest.len() != 5 * k {
+            return Err(13);
+        }
+        let (heads, picks) = rest.split_at(k);
+        Ok(Log { heads, picks })
+    }
+
+    fn len(self) -> usize {
+        self.heads.len()
+    }
+
+    fn moves(self) -> impl Iterator<Item = (u32, &'a [u32; 4])> {
+        let picks = self.picks.chunks_exact(4).map(|four| <&[u32; 4]>::try_from(four).unwrap());
+        self.heads.iter().copied().zip(picks)
+    }
+}
+
+fn ready<'a>(table: &'a [u32], state: &[u32], log: &'a [u32]) -> Result<(Table<'a>, State, Log<'a>), u32> {
+    let table = Table::read(table)?;
+    let state = State::read(&table, state)?;
+    Ok((table, state, Log::read(log)?))
+}
+
+pub fn run(table: &[u32], state: &[u32], log: &[u32], target: &mut [u32]) -> Answer {
+    let (table, mut state, log) = match ready(table, state, log) {
+        Ok(ready) => ready,
+        Err(number) => return Answer::Refused(number),
+    };
+    if target.len() < STATE_TARGET {
+        return Answer::Refused(6);
+    }
+    for (place, (head, picks)) in log.moves().enumerate() {
+        let made = Call::read(&table, head, picks).and_then(|call| state.make(&table, call, picks));
+        if let Err(own) = made {
+            return Answer::MoveRefused { place: place as u32, own };
+        }
+    }
+    state.write(target)
+}
+
+pub fn serialize(table: &[u32], state: &[u32], log: &[u32], target: &mut [u32]) -> Answer {
+    let (table, state, log) = match ready(table, state, log) {
+        Ok(ready) => ready,
+        Err(number) => return Answer::Refused(number),
+    };
+    if target.len() < 1 + 5 * log.len() {
+        return Answer::Refused(6);
+    }
+    match serial::serial(&table, state, log, MAX_ENTRIES) {
+        Ok(words) => Answer::write(&words, target),
+        Err(answer) => answer,
+    }
+}

@@ -1,0 +1,83 @@
+//! The state check, loading and storing.
+use super::table::Table;
+use crate::answer::Answer;
+use crate::words::{kind, MAX_ENTRIES, MAX_NEXT};
+
+#[derive(Clone, Debug)]
+pub struct State {
+    pub next: u32,
+    pub owners: Vec<u32>,
+    pub items: Vec<u32>,
+}
+
+/// A set of 16-bit numbers.
+struct Marks(Box<[u64; 1024]>);
+
+impl Marks {
+    fn new() -> Marks {
+        Marks(Box::new([0; 1024]))
+    }
+
+    fn has(&self, value: u32) -> bool {
+        self.0[value as usize / 64] >> (value % 64) & 1 != 0
+    }
+
+    fn add(&mut self, value: u32) {
+        self.0[value as usize / 64] |= 1 << (value % 64);
+    }
+}
+
+impl State {
+    pub fn read(table: &Table, words: &[u32]) -> Result<State, u32> {
+        let &[n, next, ref rest @ ..] = words else { return Err(3) };
+        let n = n as usize;
+        if n > MAX_ENTRIES || next == 0 || next > MAX_NEXT || rest.len() != 2 * n {
+            return Err(3);
+        }
+        let (owners, items) = rest.split_at(n);
+        // Room for one reaction's products, so that a move does not reallocate.
+        let mut state = State { next, owners: Vec::with_capacity(n + 16), items: Vec::with_capacity(n + 16) };
+        state.owners.extend_from_slice(owners);
+        state.items.extend_from_slice(items);
+        if state.fits(table) {
+            Ok(state)
+        } else {
+            Err(4)
+        }
+    }
+
+    fn fits(&self, table: &Table) -> bool {
+        let mut members = Marks::new();
+        let mut named = Marks::new();
+        for (&owner, &item) in self.owners.iter().zip(&self.items) {
+            let (port, value) = (item >> 16 & 0xFF, item & 0xFFFF);
+            let fits = match item >> 24 {
+                kind::MESSAGE => port < if owner == 0 { table.global } else { table.ports },
+                kind::COMPENSATION => owner != 0 && port < table.global,
+                kind::ABORT_MARK => owner != 0 && item << 8 == 0,
+                kind::MEMBER_MARK => {
+                    let fits = port == 0 && owner != 0 && owner <= value && value < self.next && !members.has(value);
+                    members.add(value);
+                    if owner == value {
+                        named.add(value);
+                    }
+                    fits
+                }
+                _ => false,
+            };
+            if !fits {
+                return false;
+            }
+        }
+        self.owners.iter().all(|&owner| owner == 0 || (owner < MAX_NEXT && named.has(owner)))
+    }
+
+    pub fn write(&self, target: &mut [u32]) -> Answer {
+        let n = self.items.len();
+        target[0] = n as u32;
+        target[1] = self.next;
+        target[2..2 + n].copy_from_slice(&self.owners);
+        target[2 + n..2 + 2 * n].copy_from_slice(&self.items);
+        Answer::Accepted(2 + 2 * n as u32)
+    }
+}

@@ -1,0 +1,178 @@
+//! The model by itself, as the paper has it, and its molecules beside the plain code's entries.
+mod common;
+
+use std::collections::BTreeMap;
+
+use harness::generate::logs::{accepted, closed};
+use harness::generate::states::{messages, state};
+use harness::generate::tables::{table, Shape};
+use harness::model::colours;
+use harness::model::definitions::{Channel, Definitions};
+use harness::model::ordered::{Made, Ordered};
+use harness::model::solution::{Message, Origin, Solution};
+use harness::plain;
+use harness::random::Random;
+use harness::words::{act, kind, log_words, role, Atom, Entry, Move, State, Table};
+
+const C1: u32 = 0;
+const C2: u32 = 1;
+const OK: u32 = 2;
+const Q: u32 = 3;
+const A: u32 = 4;
+const B: u32 = 5;
+
+/// Example 8 of the paper without names as values: `a | b ▶ ok`, `a | b ▶ abort`,
+/// `c1⟨x⟩ ▷ [a⟨x⟩ : q⟨x⟩]`, `c2⟨x⟩ ▷ [b⟨x⟩ : q⟨x⟩]`.
+fn example_8() -> Definitions {
+    let begin = |from: u32, inside: u32| {
+        vec![
+            Atom::new(role::CONSUME, 0, from, 0),
+            Atom::new(role::BEGIN, 0, 0, 0),
+            Atom::new(role::BODY, 1, inside, 0),
+            Atom::new(role::COMPENSATE, 1, Q, 0),
+        ]
+    };
+    let join = |product: Atom| vec![Atom::new(role::CONSUME, 0, A, 0), Atom::new(role::CONSUME, 0, B, 0), product];
+    let rules =
+        vec![begin(C1, A), begin(C2, B), join(Atom::new(role::EMIT, 0, OK, 0)), join(Atom::new(role::ABORT, 0, 0, 0))];
+    Definitions::read(&Table { global: 4, local: 0, merge: 2, rules }.words()).unwrap()
+}
+
+fn start(values: &[(u32, u32)]) -> Solution {
+    let named = |(place, &(port, value)): (usize, &(u32, u32))| {
+        (Origin::Start(place), Message { channel: Channel::Global(port), value })
+    };
+    Solution { messages: values.iter().enumerate().map(named).collect(), transactions: BTreeMap::new(), next: 1 }
+}
+
+fn values(messages: &BTreeMap<Origin, Message>) -> Vec<(u32, u32)> {
+    let mut values: Vec<(u32, u32)> =
+        messages.values().map(|message| (message.channel.port(), message.value)).collect();
+    values.sort_unstable();
+    values
+}
+
+/// Both transactions begun, then merged by this rule.
+fn merged(rule: usize) -> Solution {
+    let definitions = example_8();
+    let mut solution = start(&[(C1, 10), (C2, 20)]);
+    solution.fire(&definitions.rules[0], &[Origin::Start(0)], 0).unwrap();
+    solution.fire(&definitions.rules[1], &[Origin::Start(1)], 1).unwrap();
+    assert_eq!(solution.transactions.len(), 2);
+    // Neither can commit alone: a merge name is left inside. Nothing has aborted.
+    for id in [1, 2] {
+        assert_eq!(solution.commit(id), Err(10));
+        assert_eq!(solution.abort(id), Err(10));
+    }
+    let inside = |by| Origin::Made { by, product: 1 };
+    solution.fire(&definitions.rules[rule], &[inside(0), inside(1)], 2).unwrap();
+    assert_eq!(solution.transactions.len(), 1);
+    assert_eq!(values(&solution.transactions[&1].compensation), [(Q, 10), (Q, 20)]);
+    solution
+}
+
+// Catches a merge that loses a compensation, or a commit that frees one: the paper's P → P4.
+#[test]
+fn example_8_commits() {
+    let mut solution = merged(2);
+    assert_eq!(solution.abort(1), Err(10));
+    solution.commit(1).unwrap();
+    assert_eq!(values(&solution.messages), [(OK, 0)]);
+    assert!(solution.transactions.is_empty());
+}
+
+// Catches an abort that frees only one party's compensation: the paper's P → P6.
+#[test]
+fn example_8_aborts() {
+    let mut solution = merged(3);
+    assert_eq!(solution.commit(1), Err(10));
+    solution.abort(1).unwrap();
+    assert_eq!(values(&solution.messages), [(Q, 10), (Q, 20)]);
+    assert!(solution.transactions.is_empty());
+}
+
+// Catches colours that follow the begins: both transactions have the colour of their one end.
+#[test]
+fn example_8_has_one_colour() {
+    let definitions = example_8();
+    let entries = vec![Entry::new(0, 0, C1, 1), Entry::new(0, 0, C2, 2), Entry::new(0, 0, C1, 3)];
+    let mut ordered = Ordered::read(&definitions, &State { next: 1, entries }.words()).unwrap();
+    let moves =
+        [Move::react(0, &[0]), Move::react(0, &[1]), Move::react(1, &[0]), Move::react(3, &[4, 7]), Move::abort(2)];
+    let history: Vec<Made> = moves
+        .iter()
+        .enumerate()
+        .map(|(place, mv)| ordered.make_words(&definitions, &mv.words(), place, 1_024).unwrap())
+        .collect();
+    // The first transaction is still open, so it is ended here by hand for the colouring.
+    let mut history_closed = history;
+    history_closed.push(Made::Ended { kind: act::ABORT, id: 1 });
+    assert_eq!(colours::colours(&history_closed), [Some(5), Some(4), Some(4), Some(4), Some(4), Some(5)]);
+}
+
+/// The molecules of a solution as entries, without any order.
+fn molecules(solution: &Solution) -> Vec<Entry> {
+    let message = |owner, kind| move |message: &Message| Entry::new(owner, kind, message.channel.port(), message.value);
+    let mut entries: Vec<Entry> = solution.messages.values().map(message(0, kind::MESSAGE)).collect();
+    for (&id, transaction) in &solution.transactions {
+        entries.extend(transaction.messages.values().map(message(id, kind::MESSAGE)));
+        entries.extend(transaction.compensation.values().map(message(id, kind::COMPENSATION)));
+        entries.extend(transaction.aborts.iter().map(|_| Entry::new(id, kind::ABORT_MARK, 0, 0)));
+        entries.extend(transaction.members.values().map(|&member| Entry::new(id, kind::MEMBER_MARK, 0, member)));
+    }
+    entries.sort_unstable();
+    entries
+}
+
+// Catches a difference between the calculus and the entries that the order layer would hide.
+#[test]
+fn molecules_are_the_entries() {
+    let mut random = Random::new(601);
+    for round in 0..400 {
+        let table = table(&mut random, if round % 2 == 0 { Shape::Small } else { Shape::Closable });
+        let start = state(&mut random, &table, 40, true);
+        let log = accepted(&mut random, &table, &start, 40);
+        let definitions = Definitions::read(&table.words()).unwrap();
+        let mut ordered = Ordered::read(&definitions, &start.words()).unwrap();
+        for (place, mv) in log.iter().enumerate() {
+            ordered.make_words(&definitions, &mv.words(), place, 1_024).unwrap();
+        }
+        let mut target = vec![0; 2_050];
+        let words = match plain::run(&table.words(), &start.words(), &log_words(&log), &mut target) {
+            harness::answer::Answer::Accepted(words) => words as usize,
+            other => panic!("{other:?}"),
+        };
+        let end = State::from_words(&target[..words]).unwrap();
+        let mut entries = end.entries.clone();
+        entries.sort_unstable();
+        assert_eq!((molecules(&ordered.solution), ordered.solution.next), (entries, end.next));
+    }
+}
+
+// Catches a serial order after which the calculus is elsewhere: the named molecules, not only
+// their words, are the same at the end of both orders (the paper's theorem).
+#[test]
+fn both_orders_end_in_the_same_named_molecules() {
+    let mut random = Random::new(602);
+    let mut moves = 0;
+    for _ in 0..600 {
+        let table = table(&mut random, Shape::Closable);
+        let n = random.between(1, 25) as usize;
+        let start = messages(&mut random, &table, n);
+        let log = closed(&mut random, &table, &start, 25);
+        let definitions = Definitions::read(&table.words()).unwrap();
+        let first = Ordered::read(&definitions, &start.words()).unwrap();
+        let mut ordered = first.clone();
+        let made = |(place, mv): (usize, &Move)| ordered.make_words(&definitions, &mv.words(), place, 1_024).unwrap();
+        let history: Vec<Made> = log.iter().enumerate().map(made).collect();
+        let order = colours::order(&history);
+        let serial = colours::serial(&definitions, first.clone(), &history, 1_024).unwrap();
+        let mut again = first;
+        for (&place, mv) in order.iter().zip(&serial) {
+            again.make_words(&definitions, &mv.words(), place, 1_024).unwrap();
+        }
+        assert_eq!(again.solution, ordered.solution);
+        moves += log.len();
+    }
+    assert!(moves > 5_000, "{moves}");
+}

@@ -1,0 +1,430 @@
+//! The single move: all implementations on right, damaged and random input.
+//! The library takes part with the feature `move`.
+mod common;
+
+use common::{check_state, gives, make_move, on_target, refused, two_lot_start, two_lot_table, MAKE_MOVE};
+use harness::answer::Answer;
+use harness::generate::moves::{allowed, changed, consumes};
+use harness::generate::states::state;
+use harness::generate::tables::{table, Shape};
+use harness::random::Random;
+use harness::words::{act, kind, mode, role, Atom, Entry, Move, State, Table};
+
+fn react(rule: u32, picks: &[u32]) -> Vec<u32> {
+    Move::react(rule, picks).words()
+}
+
+/// The state of the two-lot plant after these moves.
+fn after(moves: &[Vec<u32>]) -> Vec<u32> {
+    moves.iter().fold(two_lot_start(), |state, mv| {
+        let (answer, words) = make_move(&two_lot_table(), &state, mv);
+        assert_eq!(answer.number(), 0);
+        words
+    })
+}
+
+/// 01's case (a), move by move.
+fn case_a() -> Vec<Vec<u32>> {
+    vec![react(0, &[0]), react(0, &[0]), react(1, &[1]), react(1, &[3]), react(2, &[4, 5]), Move::commit(1).words()]
+}
+
+// Catches a coordinator that refuses all, gives the start back or has one fixed end state.
+#[test]
+fn case_a_and_c_by_single_moves() {
+    assert_eq!(after(&case_a()), [2, 3, 0, 0, 0x0001_0007, 0x0001_0009]);
+    // After the first move: n = 4, N = 2, as the program's second line shows.
+    assert_eq!(after(&case_a()[..1])[..2], [4, 2]);
+    let mut c = case_a()[..3].to_vec();
+    c.push(react(3, &[3]));
+    c.push(Move::abort(2).words());
+    assert_eq!(after(&c), [4, 3, 1, 1, 0, 1, 0x0300_0001, 0x0100_0007, 0x0000_0009, 0x0003_0007]);
+}
+
+// Catches a commit with a merge message inside (b), a pick used twice (e), an abort without an
+// abort mark (f), and an id that is not open (g).
+#[test]
+fn cases_b_e_f_g() {
+    let table = two_lot_table();
+    let four = after(&case_a()[..4]);
+    refused(make_move(&table, &four, &Move::commit(1).words()), 10);
+    refused(make_move(&table, &four, &react(2, &[4, 4])), 7);
+    refused(make_move(&table, &after(&case_a()[..1]), &Move::abort(1).words()), 10);
+    refused(make_move(&table, &after(&case_a()[..2]), &Move::commit(3).words()), 9);
+}
+
+// Catches a merge that relabels only what was picked, and one that keeps the larger id.
+#[test]
+fn a_merge_takes_everything_of_each_transaction() {
+    let table = two_lot_table();
+    let state = State {
+        next: 9,
+        entries: vec![
+            Entry::new(7, kind::MESSAGE, 3, 70),
+            Entry::new(4, kind::MEMBER_MARK, 0, 4),
+            Entry::new(0, kind::MESSAGE, 1, 1),
+            Entry::new(7, kind::ABORT_MARK, 0, 0),
+            Entry::new(7, kind::MEMBER_MARK, 0, 7),
+            Entry::new(4, kind::MESSAGE, 3, 40),
+            Entry::new(7, kind::MEMBER_MARK, 0, 8),
+            Entry::new(7, kind::COMPENSATION, 0, 5),
+            Entry::new(7, kind::MESSAGE, 2, 6),
+            Entry::new(2, kind::MEMBER_MARK, 0, 2),
+        ],
+    };
+    let expected = State {
+        next: 9,
+        entries: vec![
+            Entry::new(4, kind::MEMBER_MARK, 0, 4),
+            Entry::new(0, kind::MESSAGE, 1, 1),
+            Entry::new(4, kind::ABORT_MARK, 0, 0),
+            Entry::new(4, kind::MEMBER_MARK, 0, 7),
+            Entry::new(4, kind::MEMBER_MARK, 0, 8),
+            Entry::new(4, kind::COMPENSATION, 0, 5),
+            Entry::new(4, kind::MESSAGE, 2, 6),
+            Entry::new(2, kind::MEMBER_MARK, 0, 2),
+            Entry::new(4, kind::MESSAGE, 1, 70),
+            Entry::new(4, kind::MESSAGE, 1, 40),
+        ],
+    };
+    gives(make_move(&table, &state.words(), &react(2, &[0, 5])), &expected.words());
+    // An aborting transaction may still react and merge; after it only the smallest id names it.
+    refused(make_move(&table, &expected.words(), &Move::abort(7).words()), 9);
+    let ended = State {
+        next: 9,
+        entries: vec![
+            Entry::new(0, kind::MESSAGE, 1, 1),
+            Entry::new(0, kind::MESSAGE, 0, 5),
+            Entry::new(2, kind::MEMBER_MARK, 0, 2),
+        ],
+    };
+    gives(make_move(&table, &expected.words(), &Move::abort(4).words()), &ended.words());
+}
+
+// Catches a commit that drops or moves messages, keeps compensations, or looks at the wrong class.
+#[test]
+fn a_commit_frees_messages_in_their_places() {
+    let table = two_lot_table();
+    let mut state = State {
+        next: 4,
+        entries: vec![
+            Entry::new(3, kind::COMPENSATION, 0, 1),
+            Entry::new(3, kind::MESSAGE, 1, 2),
+            Entry::new(0, kind::MESSAGE, 0, 3),
+            Entry::new(3, kind::MEMBER_MARK, 0, 3),
+            Entry::new(3, kind::MESSAGE, 0, 4),
+        ],
+    };
+    let freed = [Entry::new(0, 0, 1, 2), Entry::new(0, 0, 0, 3), Entry::new(0, 0, 0, 4)];
+    let end = State { next: 4, entries: freed.to_vec() };
+    gives(make_move(&table, &state.words(), &Move::commit(3).words()), &end.words());
+    for port in [2, 3] {
+        state.entries[4].port = port;
+        refused(make_move(&table, &state.words(), &Move::commit(3).words()), 10);
+    }
+    state.entries[4] = Entry::new(3, kind::ABORT_MARK, 0, 0);
+    refused(make_move(&table, &state.words(), &Move::commit(3).words()), 10);
+}
+
+// Catches a global rule that takes a message still inside a transaction, a local rule over two
+// transactions, and a compensation taken for a message.
+#[test]
+fn owners_and_kinds_of_picks() {
+    let table = Table {
+        global: 1,
+        local: 1,
+        merge: 0,
+        rules: vec![vec![Atom::new(0, 0, 0, 0)], vec![Atom::new(0, 0, 1, 0), Atom::new(0, 0, 1, 0)]],
+    };
+    let entries = vec![
+        Entry::new(1, kind::MEMBER_MARK, 0, 1),
+        Entry::new(2, kind::MEMBER_MARK, 0, 2),
+        Entry::new(1, kind::MESSAGE, 0, 5),
+        Entry::new(1, kind::COMPENSATION, 0, 5),
+        Entry::new(1, kind::MESSAGE, 1, 5),
+        Entry::new(2, kind::MESSAGE, 1, 5),
+        Entry::new(1, kind::MESSAGE, 1, 6),
+        Entry::new(1, kind::ABORT_MARK, 0, 0),
+    ];
+    let (table, state) = (table.words(), State { next: 3, entries }.words());
+    refused(make_move(&table, &state, &react(0, &[2])), 8);
+    for place in [0, 3, 4, 7, 8, u32::MAX] {
+        refused(make_move(&table, &state, &react(0, &[place])), 7);
+    }
+    refused(make_move(&table, &state, &react(1, &[4, 5])), 8);
+    assert_eq!(make_move(&table, &state, &react(1, &[6, 4])).0, Answer::Accepted(2 + 2 * 6));
+}
+
+// Catches a wrong order or owner of products, a mark left out, a value from the wrong consume.
+#[test]
+fn products_of_a_begin() {
+    let rule = vec![
+        Atom::new(role::CONSUME, 0, 0, 0),
+        Atom::new(role::CONSUME, 0, 1, 0),
+        Atom::new(role::EMIT, mode::RECEIVED, 1, 1),
+        Atom::new(role::BEGIN, 0, 0, 0),
+        Atom::new(role::BODY, mode::RECEIVED, 2, 0),
+        Atom::new(role::BODY, mode::CONSTANT, 0, 65_535),
+        Atom::new(role::COMPENSATE, mode::RECEIVED, 0, 1),
+        Atom::new(role::ABORT, 0, 0, 0),
+    ];
+    let table = Table { global: 2, local: 1, merge: 0, rules: vec![rule] };
+    let state =
+        State { next: 40, entries: vec![Entry::new(0, 0, 1, 11), Entry::new(0, 0, 0, 3), Entry::new(0, 0, 0, 22)] };
+    let end = State {
+        next: 41,
+        entries: vec![
+            Entry::new(0, 0, 0, 3),
+            Entry::new(0, 0, 1, 11),
+            Entry::new(40, kind::MEMBER_MARK, 0, 40),
+            Entry::new(40, kind::MESSAGE, 2, 22),
+            Entry::new(40, kind::MESSAGE, 0, 65_535),
+            Entry::new(40, kind::COMPENSATION, 0, 11),
+            Entry::new(40, kind::ABORT_MARK, 0, 0),
+        ],
+    };
+    gives(make_move(&table.words(), &state.words(), &react(0, &[2, 0])), &end.words());
+}
+
+// Catches any difference on allowed moves, and a move after which the state is not well formed.
+#[test]
+fn random_allowed_moves() {
+    let mut random = Random::new(301);
+    let mut made = [0; 3];
+    for round in 0..12_000 {
+        let table = table(&mut random, if round % 4 == 0 { Shape::Any } else { Shape::Small });
+        let most = random.pick(&[6, 20, 60, 1_024]);
+        let state = state(&mut random, &table, most, true);
+        let Some(mv) = allowed(&mut random, &table, &state, 30) else { continue };
+        let (answer, words) = make_move(&table.words(), &state.words(), &mv.words());
+        match answer {
+            Answer::Accepted(_) => {
+                assert_eq!(check_state(&table.words(), &words), Answer::Accepted(0));
+                made[mv.kind as usize] += 1;
+            }
+            // Only the limits may refuse it.
+            Answer::Refused(number) => assert!([11, 12].contains(&number), "{number}"),
+            Answer::MoveRefused { .. } => unreachable!(),
+        }
+    }
+    assert!(made.iter().all(|&count| count > 400), "{made:?}");
+}
+
+// Catches a result that depends on where entries stand: the same move on a shuffled state leaves
+// the same entries, as often.
+#[test]
+fn the_order_of_entries_is_free() {
+    let mut random = Random::new(305);
+    let mut made = 0;
+    for _ in 0..6_000 {
+        let table = table(&mut random, Shape::Small);
+        let state = state(&mut random, &table, 30, true);
+        let Some(mut mv) = allowed(&mut random, &table, &state, 30) else { continue };
+        let entries_after = |state: &State, mv: Move| {
+            let (_, words) = make_move(&table.words(), &state.words(), &mv.words());
+            let mut entries = State::from_words(&words)?.entries;
+            entries.sort_unstable();
+            Some(entries)
+        };
+        let Some(expected) = entries_after(&state, mv) else { continue };
+        let mut order: Vec<usize> = (0..state.entries.len()).collect();
+        random.shuffle(&mut order);
+        let shuffled = State { next: state.next, entries: order.iter().map(|&place| state.entries[place]).collect() };
+        if mv.kind == act::REACT {
+            let used = consumes(&table.rules[mv.number as usize]).len();
+            for pick in &mut mv.picks[..used] {
+                *pick = order.iter().position(|&place| place == *pick as usize).unwrap() as u32;
+            }
+        }
+        assert_eq!(entries_after(&shuffled, mv), Some(expected));
+        made += 1;
+    }
+    assert!(made > 2_000, "{made}");
+}
+
+// Catches any difference on moves near allowed ones; every refusal of the plant's state and 5
+// must come up.
+#[test]
+fn random_changed_moves() {
+    let mut random = Random::new(302);
+    let mut answers = [0; 13];
+    for round in 0..40_000 {
+        let table = table(&mut random, if round % 6 == 0 { Shape::Any } else { Shape::Small });
+        let most = random.pick(&[6, 20, 60, 1_024]);
+        let mut state = state(&mut random, &table, most, true);
+        if round % 8 == 0 && table.global > 0 {
+            state.entries.resize(1_024, Entry::new(0, 0, 0, 1));
+        }
+        let mv = changed(&mut random, &table, &state);
+        answers[make_move(&table.words(), &state.words(), &mv).0.number() as usize] += 1;
+    }
+    for number in [0, 5, 7, 8, 9, 10, 11, 12] {
+        assert!(answers[number] > 100, "{number}: {answers:?}");
+    }
+}
+
+// Catches a wrong range of kinds, rules or ids, a used "unused" pick, and a wrong length.
+#[test]
+fn words_of_a_move() {
+    let (table, state) = (two_lot_table(), after(&case_a()[..2]));
+    let head = |head: u32| make_move(&table, &state, &[head, 0, 0, 0, 0]);
+    for head_word in
+        [0x0000_0004, 0x0001_0000, 0x00FF_FFFF, 0x0100_0000, 0x0200_0000, 0x0101_0000, 0x0201_0000, 0x01FF_FFFF]
+    {
+        refused(head(head_word), 5);
+    }
+    for kind in 3..256 {
+        refused(head(kind << 24 | 1), 5);
+        refused(head(kind << 24), 5);
+    }
+    for head_word in [0x0100_0003, 0x0100_FFFF, 0x0200_FFFF] {
+        refused(head(head_word), 9);
+    }
+    for unused in 0..4 {
+        for word in [1, u32::MAX] {
+            let mut end = Move::commit(1).words();
+            end[1 + unused] = word;
+            refused(make_move(&table, &state, &end), 5);
+            if unused > 0 {
+                let mut one = react(1, &[1]);
+                one[1 + unused] = word;
+                refused(make_move(&table, &state, &one), 5);
+            }
+        }
+    }
+    let mut random = Random::new(303);
+    for length in (0..=12).chain([100, 100_000]) {
+        for _ in 0..200 {
+            let words: Vec<u32> = (0..length).map(|_| random.edge_word()).collect();
+            let (answer, _) = make_move(&table, &state, &words);
+            assert!(length == 5 || answer == Answer::Refused(5));
+        }
+    }
+}
+
+// Catches a limit that is off by one: 1,024 entries and 1,025, ids 65,535 and 65,536.
+#[test]
+fn limits_of_a_move() {
+    let grow = |gives: usize| {
+        let mut rule = vec![Atom::new(0, 0, 0, 0); 4];
+        rule.extend(vec![Atom::new(1, 0, 0, 1); gives]);
+        Table { global: 1, local: 0, merge: 0, rules: vec![rule] }.words()
+    };
+    let full = |n: usize| State { next: 1, entries: vec![Entry::new(0, 0, 0, 1); n] }.words();
+    let mv = react(0, &[1_019, 3, 0, 700]);
+    // Four go and four come in a full state; one more is too many.
+    assert_eq!(make_move(&grow(4), &full(1_024), &mv).0, Answer::Accepted(2_050));
+    refused(make_move(&grow(5), &full(1_024), &mv), 12);
+    assert_eq!(make_move(&grow(5), &full(1_023), &mv).0, Answer::Accepted(2_050));
+    refused(make_move(&grow(6), &full(1_023), &mv), 12);
+    refused(make_move(&grow(9), &full(1_020), &mv), 12);
+    assert_eq!(make_move(&grow(8), &full(1_020), &mv).0, Answer::Accepted(2_050));
+
+    let table = two_lot_table();
+    let at = |next: u32| vec![1, next, 0, 7];
+    let (answer, words) = make_move(&table, &at(65_535), &react(0, &[0]));
+    assert_eq!(answer, Answer::Accepted(8));
+    assert_eq!(words, [3, 65_536, 65_535, 65_535, 65_535, 0x0300_FFFF, 0x0002_0007, 0x0100_0007]);
+    assert_eq!(check_state(&table, &words), Answer::Accepted(0));
+    refused(make_move(&table, &at(65_536), &react(0, &[0])), 11);
+    // Other moves go on with the last id used up.
+    assert_eq!(make_move(&table, &words, &react(1, &[1])).0.number(), 0);
+}
+
+// Catches a target that is asked for too much or too little, and one that is written on 6.
+#[test]
+fn targets_of_a_move() {
+    let (table, state) = (two_lot_table(), two_lot_start());
+    for room in (0..12).chain(2_040..2_060).chain([5_000]) {
+        let (answer, _) = on_target(MAKE_MOVE, [&table, &state, &react(0, &[0])], room);
+        assert_eq!(answer, if room < 2_050 { Answer::Refused(6) } else { Answer::Accepted(10) });
+    }
+}
+
+/// Input of a move that has exactly the faults asked for: 1 to 6 and those of its kind of move.
+fn faulty(faults: &[u32], reaction: bool) -> ([Vec<u32>; 3], usize) {
+    let has = |number| faults.contains(&number);
+    let begin = vec![
+        Atom::new(role::CONSUME, 0, 0, 0),
+        Atom::new(role::CONSUME, 0, 0, 0),
+        Atom::new(role::BEGIN, 0, 0, 0),
+        Atom::new(role::BODY, 0, 1, 0),
+        Atom::new(role::BODY, 0, 1, 0),
+    ];
+    let other = vec![Atom::new(role::CONSUME, if has(2) { 1 } else { 0 }, 0, 0)];
+    let mut table = Table { global: 1, local: 1, merge: 0, rules: vec![begin, other] }.words();
+    if has(1) {
+        table.push(0);
+    }
+    let mut entries = vec![
+        Entry::new(0, kind::MESSAGE, 0, 1),
+        Entry::new(if has(8) { 3 } else { 0 }, kind::MESSAGE, 0, 2),
+        Entry::new(3, kind::MEMBER_MARK, 0, 3),
+        Entry::new(3, kind::MESSAGE, if has(10) { 1 } else { 0 }, 2),
+    ];
+    let n = if has(12) { 1_024 } else { 900 };
+    entries.resize(n, Entry::new(0, kind::MESSAGE, 0, 9));
+    if has(4) {
+        entries[n - 1].kind = 4;
+    }
+    let mut state = State { next: if has(11) { 65_536 } else { 4 }, entries }.words();
+    if has(3) {
+        state.pop();
+    }
+    let mut mv = if reaction {
+        react(0, &[if has(7) { 1_024 } else { 0 }, 1])
+    } else {
+        Move::commit(if has(9) { 2 } else { 3 }).words()
+    };
+    if has(5) {
+        mv[4] = 1;
+    }
+    ([table, state, mv], if has(6) { 2_049 } else { 2_050 })
+}
+
+// Catches refusals in another order than 01's: every set of faults that can meet in one move.
+#[test]
+fn the_first_fault_counts() {
+    let kinds: [(&[u32], bool); 3] = [
+        (&[1, 2, 3, 4, 5, 6, 7, 8, 11, 12], true),
+        (&[1, 2, 3, 4, 5, 6, 9, 12], false),
+        (&[1, 2, 3, 4, 5, 6, 10, 11], false),
+    ];
+    for (numbers, reaction) in kinds {
+        for set in 0..1u32 << numbers.len() {
+            let faults: Vec<u32> =
+                (0..numbers.len()).filter(|bit| set >> bit & 1 == 1).map(|bit| numbers[bit]).collect();
+            let ([table, state, mv], room) = faulty(&faults, reaction);
+            let (answer, _) = on_target(MAKE_MOVE, [&table, &state, &mv], room);
+            // A full state and a used-up id are no faults of a commit.
+            let first = faults.iter().copied().find(|&number| reaction || number < 11).unwrap_or(0);
+            assert_eq!(answer.number(), first, "{faults:?}");
+        }
+    }
+}
+
+// Catches a trap on noise in any part.
+#[test]
+fn noise_gets_one_answer() {
+    let mut random = Random::new(304);
+    let (table, state) = (two_lot_table(), after(&case_a()[..4]));
+    for _ in 0..3_000 {
+        let mut parts = [table.clone(), state.clone(), react(1, &[1])];
+        let part = random.index(3);
+        let length = random.pick(&[0, 1, 4, 5, 6, 12, 29, 200]);
+        match random.below(3) {
+            0 => parts[part] = (0..length).map(|_| random.edge_word()).collect(),
+            _ => {
+                let at = random.index(parts[part].len());
+                parts[part][at] = random.edge_word();
+            }
+        }
+        let room = random.pick(&[0, 1, 2_049, 2_050, 2_051]);
+        on_target(MAKE_MOVE, [&parts[0], &parts[1], &parts[2]], room);
+    }
+    let long: Vec<u32> = (0..100_000).map(|_| random.word()).collect();
+    for part in 0..3 {
+        let mut parts = [&table[..], &state[..], &[0, 0, 0, 0, 0][..]];
+        parts[part] = &long;
+        on_target(MAKE_MOVE, parts, 2_050);
+    }
+}

@@ -1,0 +1,205 @@
+//! The run of a log. The library takes part with the feature `run`.
+mod common;
+
+use common::{check_state, gives, make_move, on_target, refused, run, two_lot_start, two_lot_table, RUN};
+use harness::answer::Answer;
+use harness::generate::logs::accepted;
+use harness::generate::moves::changed;
+use harness::generate::states::{messages, state};
+use harness::generate::tables::{table, Shape};
+use harness::random::Random;
+use harness::words::{log_words, Atom, Entry, Move, State, Table};
+
+fn case_a() -> Vec<Move> {
+    vec![
+        Move::react(0, &[0]),
+        Move::react(0, &[0]),
+        Move::react(1, &[1]),
+        Move::react(1, &[3]),
+        Move::react(2, &[4, 5]),
+        Move::commit(1),
+    ]
+}
+
+// Catches a run that makes only its first move, gives the start back, or has one fixed end.
+#[test]
+fn cases_a_b_c() {
+    let (table, start) = (two_lot_table(), two_lot_start());
+    gives(run(&table, &start, &log_words(&case_a())), &[2, 3, 0, 0, 0x0001_0007, 0x0001_0009]);
+    let mut b = case_a()[..4].to_vec();
+    b.push(Move::commit(1));
+    b.push(Move::commit(9));
+    assert_eq!(run(&table, &start, &log_words(&b)).0, Answer::MoveRefused { place: 4, own: 10 });
+    let mut c = case_a()[..3].to_vec();
+    c.extend([Move::react(3, &[3]), Move::abort(2)]);
+    let end = [4, 3, 1, 1, 0, 1, 0x0300_0001, 0x0100_0007, 0x0000_0009, 0x0003_0007];
+    gives(run(&table, &start, &log_words(&c)), &end);
+    // The empty log gives the start.
+    gives(run(&table, &start, &[0]), &start);
+    gives(run(&table, &[0, 65_536], &[0]), &[0, 65_536]);
+}
+
+// Catches a run whose later moves do not get what the move before left.
+#[test]
+fn a_run_is_its_moves_one_after_another() {
+    let mut random = Random::new(401);
+    let mut moves = 0;
+    for round in 0..600 {
+        let table = table(&mut random, if round % 2 == 0 { Shape::Small } else { Shape::Closable });
+        let start = state(&mut random, &table, 40, true);
+        let log = accepted(&mut random, &table, &start, 30);
+        let table = table.words();
+        let mut words = start.words();
+        for mv in &log {
+            let (answer, next) = make_move(&table, &words, &mv.words());
+            assert_eq!(answer.number(), 0);
+            words = next;
+        }
+        gives(run(&table, &start.words(), &log_words(&log)), &words);
+        assert_eq!(check_state(&table, &words), Answer::Accepted(0));
+        moves += log.len();
+    }
+    assert!(moves > 6_000, "{moves}");
+}
+
+// Catches differences that only long logs and large states show.
+#[test]
+fn long_logs_get_one_answer() {
+    let mut random = Random::new(402);
+    let mut longest = 0;
+    for round in 0..24 {
+        let table = table(&mut random, Shape::Closable);
+        let n = random.pick(&[50, 500, 1_000, 1_024]);
+        let start = if round % 2 == 0 { messages(&mut random, &table, n) } else { state(&mut random, &table, n, true) };
+        let log = accepted(&mut random, &table, &start, 1_024);
+        longest = longest.max(log.len());
+        let (answer, words) = run(&table.words(), &start.words(), &log_words(&log));
+        assert_eq!(answer.number(), 0);
+        assert_eq!(check_state(&table.words(), &words), Answer::Accepted(0));
+    }
+    assert!(longest > 900, "{longest}");
+}
+
+// Catches a wrong place or own number in 16: one move of an accepted log changed.
+#[test]
+fn a_changed_move_is_named() {
+    let mut random = Random::new(403);
+    let mut own_numbers = [0; 13];
+    let mut places = 0;
+    for round in 0..12_000 {
+        let table = table(&mut random, if round % 2 == 0 { Shape::Small } else { Shape::Closable });
+        let mut start = state(&mut random, &table, 30, true);
+        if round % 4 == 0 {
+            start.entries.resize(random.pick(&[1_015, 1_024]), Entry::new(0, 0, 0, 1));
+        }
+        if round % 6 == 1 {
+            start.next = random.pick(&[65_534, 65_535, 65_536]);
+        }
+        let moves = random.index(12);
+        let mut log = accepted(&mut random, &table, &start, moves);
+        // A move for the start, put anywhere: refused there or later, or accepted.
+        let other = Move::from_words(&changed(&mut random, &table, &start)).unwrap();
+        let at = random.index(log.len() + 1);
+        log.insert(at, other);
+        match run(&table.words(), &start.words(), &log_words(&log)).0 {
+            Answer::MoveRefused { place, own } => {
+                assert!(place as usize >= at && (place as usize) < log.len());
+                own_numbers[own as usize] += 1;
+                places += usize::from(place > 3);
+            }
+            answer => assert!(matches!(answer, Answer::Accepted(_)), "{answer:?}"),
+        }
+    }
+    for own in 0..13 {
+        let possible = [5, 7, 8, 9, 10, 11, 12].contains(&own);
+        assert_eq!(own_numbers[own] > 20, possible, "{own}: {own_numbers:?}");
+    }
+    assert!(places > 500, "{places}");
+}
+
+// Catches a wrong count or length that passes, a read past the end, and a trap on noise.
+#[test]
+fn words_of_a_log() {
+    let (table, start) = (two_lot_table(), two_lot_start());
+    let words = log_words(&case_a());
+    for cut in 0..words.len() {
+        refused(run(&table, &start, &words[..cut]), 13);
+    }
+    let mut longer = words.clone();
+    longer.push(0);
+    refused(run(&table, &start, &longer), 13);
+    for count in [0, 5, 7, 1_025, 0x3333_3334 + 6, 1 << 31, u32::MAX] {
+        let mut wrong = words.clone();
+        wrong[0] = count;
+        refused(run(&table, &start, &wrong), 13);
+    }
+    let mut random = Random::new(404);
+    for length in (0..=12).chain([5_121, 100_000]) {
+        for round in 0..200 {
+            let mut words: Vec<u32> = (0..length).map(|_| random.edge_word()).collect();
+            if round % 2 == 0 && length > 0 {
+                words[0] = (length as u32 - 1) / 5;
+            }
+            run(&table, &start, &words);
+        }
+    }
+}
+
+// Catches a limit of moves that is off by one: 1,024 and 1,025.
+#[test]
+fn limits_of_a_log() {
+    let table =
+        Table { global: 1, local: 0, merge: 0, rules: vec![vec![Atom::new(0, 0, 0, 0), Atom::new(1, 1, 0, 0)]] }
+            .words();
+    let start = State { next: 1, entries: vec![Entry::new(0, 0, 0, 3), Entry::new(0, 0, 0, 4)] }.words();
+    let log = |k: usize| log_words(&vec![Move::react(0, &[0]); k]);
+    gives(run(&table, &start, &log(1_024)), &start);
+    gives(run(&table, &start, &log(1_023)), &[2, 1, 0, 0, 4, 3]);
+    refused(run(&table, &start, &log(1_025)), 13);
+}
+
+// Catches a target that is asked for too much or too little, and one written on 6.
+#[test]
+fn targets_of_a_run() {
+    let (table, start, log) = (two_lot_table(), two_lot_start(), log_words(&case_a()));
+    for room in (0..12).chain(2_040..2_060).chain([5_000]) {
+        let (answer, _) = on_target(RUN, [&table, &start, &log], room);
+        assert_eq!(answer, if room < 2_050 { Answer::Refused(6) } else { Answer::Accepted(6) });
+    }
+}
+
+// Catches refusals in another order than 01's: 1, 2, 3, 4, 13, 6, 16, every set of them.
+#[test]
+fn the_first_fault_counts() {
+    const ORDER: [u32; 7] = [1, 2, 3, 4, 13, 6, 16];
+    for set in 0..1u32 << 7 {
+        let faults: Vec<u32> = (0..7).filter(|bit| set >> bit & 1 == 1).map(|bit| ORDER[bit]).collect();
+        let has = |number| faults.contains(&number);
+        let (mut table, mut start) = (two_lot_table(), two_lot_start());
+        let mut moves = case_a();
+        if has(16) {
+            moves[2] = Move::commit(3);
+        }
+        let mut log = log_words(&moves);
+        if has(2) {
+            table[28] ^= 0x0F00_0000;
+        }
+        if has(1) {
+            table.push(0);
+        }
+        if has(4) {
+            start[5] = 0x0400_0000;
+        }
+        if has(3) {
+            start[1] = 0;
+        }
+        if has(13) {
+            log.push(0);
+        }
+        let (answer, _) = on_target(RUN, [&table, &start, &log], if has(6) { 2_049 } else { 2_050 });
+        assert_eq!(answer.number(), faults.first().copied().unwrap_or(0), "{faults:?}");
+        if answer.number() == 16 {
+            assert_eq!(answer, Answer::MoveRefused { place: 2, own: 9 });
+        }
+    }
+}
