@@ -37,8 +37,8 @@ use Rattle.serializability.specs.Begun.{begunIn, begun-before-of}
 use Rattle.serializability.specs.Named.{Named}
 use Rattle.serializability.specs.Rename.{rename, Live, Rel}
 use Rattle.serializability.specs.Replay.{Goes, Ends, replay-runs, Placed, all-placed, same-moves, serial-uniq}
-use Rattle.serializability.specs.States.{origin-once, log-uniq, along-same, words-same}
-use Rattle.serializability.specs.Bare.{bare, bareS, allowed-same, applied-same}
+use Rattle.serializability.specs.States.{origin-once, log-uniq, along-same}
+use Rattle.wellformed.specs.Bare.{bare, bareState, words-same, allowed-same, applied-same}
 use Rattle.serializability.specs.Tidy.{Tidy, tidy-end}
 use Rattle.serializability.specs.SameEnd.{end-closed, messages-same}
 
@@ -119,14 +119,14 @@ module _ (s : State) (S : Start s) where
 
 -- ---- the serial log is a run, with its own places for makers
 
-pub goes-accepted : (t : Table) (xs : List Act) (i : ℕ) (s c c′ : State) → bareS s ≡ bareS c → Goes t c xs c′ → (e : State) × Accepted t i s (replayed t c xs) e × (bareS e ≡ bareS c′)
+pub goes-accepted : (t : Table) (xs : List Act) (i : ℕ) (s c c′ : State) → bareState s ≡ bareState c → Goes t c xs c′ → (e : State) × Accepted t i s (replayed t c xs) e × (bareState e ≡ bareState c′)
 unfolding replayed
-goes-accepted t [] i s c c′ b h = (s, refl, b ∙ ap bareS h)
+goes-accepted t [] i s c c′ b h = (s, refl, b ∙ ap bareState h)
 goes-accepted t (a ∷ xs) i s c c′ b h =
     let m = again c a (a .move) in
-    let n = applied-same t (suc i) (suc (a .place)) s c m b ∙ ap bareS (sym (after-allowed t (suc (a .place)) c m (h .0))) in
+    let n = applied-same s c b t (suc i) (suc (a .place)) m ∙ ap bareState (sym (after-allowed t (suc (a .place)) c m (h .0))) in
     let r = goes-accepted t xs (suc i) (applied t (suc i) s m) (after t (suc (a .place)) c m) c′ n (h .1) in
-    (r .0, (allowed-same t s c m b ∙ h .0, r .1), r .2)
+    (r .0, (allowed-same s c b t m ∙ h .0, r .1), r .2)
 
 pub replayed-length : (t : Table) (c : State) (xs : List Act) → length (replayed t c xs) ≡ length xs
 unfolding replayed
@@ -184,7 +184,7 @@ module _ (t : Table) (sd : Sound t) (s : State) (S : Start s) (ms : List Move) (
   again-runs = replay-runs t sd (isort ds) s (view s) (view e) (λ v. v) (rel-start s S)
       (sort-runs t (view e) ds (view s) (pairs t sd (view e) 0 (view s) ds g (ran .0)) (runs t 0 (view s) ds (view e) (ran .0)))
 
-  pub accepted : (z : State) × Accepted t 0 s (replayed t s (map actOf (isort ds))) z × (bareS z ≡ bareS (again-runs .state))
+  pub accepted : (z : State) × Accepted t 0 s (replayed t s (map actOf (isort ds))) z × (bareState z ≡ bareState (again-runs .state))
   accepted = goes-accepted t (map actOf (isort ds)) 0 s s (again-runs .state) refl (again-runs .goes)
 
   pub tidy : Tidy (view e .cell)

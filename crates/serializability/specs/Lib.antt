@@ -23,7 +23,6 @@ pub mod Rename
 pub mod ReplayReact
 pub mod ReplayEnd
 pub mod Replay
-pub mod Bare
 pub mod States
 pub mod Tidy
 pub mod SameEnd

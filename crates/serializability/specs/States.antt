@@ -24,7 +24,7 @@ use Rattle.serializability.specs.Actions.{Seen}
 use Rattle.serializability.specs.Moves.{after-allowed}
 use Rattle.serializability.specs.Link.{view, Good, sim}
 use Rattle.serializability.specs.Fate.{good-next}
-use Rattle.serializability.specs.Bare.{bare, bareS, allowed-same, applied-same}
+use Rattle.wellformed.specs.Bare.{bareState, allowed-same, applied-same}
 
 -- ---- origins
 
@@ -58,36 +58,21 @@ log-uniq t sd i s (m ∷ ms) e u g h (suc j) =
 
 -- ---- the states along
 
-pub after-same : (t : Table) (i j : ℕ) (s c : State) (m : Move) → bareS s ≡ bareS c → bareS (after t i s m) ≡ bareS (after t j c m)
+pub after-same : (t : Table) (i j : ℕ) (s c : State) (m : Move) → bareState s ≡ bareState c → bareState (after t i s m) ≡ bareState (after t j c m)
 unfolding after step
-after-same t i j s c m h = go (allowed t s m) (allowed t c m) (allowed-same t s c m h)
+after-same t i j s c m h = go (allowed t s m) (allowed t c m) (allowed-same s c h t m)
   where
-    go : (v w : Verdict) → v ≡ w → bareS (stateOr s (steppedBy v (applied t i s m))) ≡ bareS (stateOr c (steppedBy w (applied t j c m)))
-    go Allowed Allowed q = applied-same t i j s c m h
+    go : (v w : Verdict) → v ≡ w → bareState (stateOr s (steppedBy v (applied t i s m))) ≡ bareState (stateOr c (steppedBy w (applied t j c m)))
+    go Allowed Allowed q = applied-same s c h t i j m
     go (Denied r) (Denied r′) q = h
     go Allowed (Denied r) q = absurd (let z : _≡_ {A = ℕ} 0 1 = cc in omega arith)
     go (Denied r) Allowed q = absurd (let z : _≡_ {A = ℕ} 0 1 = cc in omega arith)
 
-pub along-same : (t : Table) (ps : List ℕ) (ms : List Move) (i : ℕ) (s c d : State) → length ps ≡ length ms → bareS c ≡ bareS s → (j : ℕ) → j ≤ length ms
-    → bareS (stateBefore t ps c ms j) ≡ bareS (getD (along t i s ms) j d)
+pub along-same : (t : Table) (ps : List ℕ) (ms : List Move) (i : ℕ) (s c d : State) → length ps ≡ length ms → bareState c ≡ bareState s → (j : ℕ) → j ≤ length ms
+    → bareState (stateBefore t ps c ms j) ≡ bareState (getD (along t i s ms) j d)
 unfolding stateBefore along
 along-same t ps [] i s c d l h zero k = h
 along-same t ps (m ∷ ms) i s c d l h zero k = h
 along-same t ps [] i s c d l h (suc j) k = absurd (omega arith)
 along-same t [] (m ∷ ms) i s c d l h (suc j) k = absurd (omega arith)
 along-same t (p ∷ ps) (m ∷ ms) i s c d l h (suc j) k = along-same t ps ms (suc i) (after t (suc i) s m) (after t (suc p) c m) d (omega arith) (after-same t (suc p) (suc i) c s m h) j (omega arith)
-
-pub words-bare : (s : State) → stateWords s ≡ stateWords (bareS s)
-unfolding stateWords
-words-bare s = λ j. sym (length-map (s .entries) bare) j ∷ s .next ∷ owners (s .entries) j ++ items (s .entries) j
-  where
-    owners : (l : List Entry) → map (λ e. e .owner) l ≡ map (λ e. e .owner) (map bare l)
-    owners [] = refl
-    owners (e ∷ l) = λ j. e .owner ∷ owners l j
-
-    items : (l : List Entry) → map (λ e. itemWord (e .kind) (e .port) (e .value)) l ≡ map (λ e. itemWord (e .kind) (e .port) (e .value)) (map bare l)
-    items [] = refl
-    items (e ∷ l) = λ j. itemWord (e .kind) (e .port) (e .value) ∷ items l j
-
-pub words-same : (s s′ : State) → bareS s ≡ bareS s′ → stateWords s ≡ stateWords s′
-words-same s s′ h = words-bare s ∙ ap stateWords h ∙ sym (words-bare s′)
