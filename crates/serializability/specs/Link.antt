@@ -17,6 +17,7 @@ use Rattle.semantics.specs.State.{Origin, Entry, State, isMessage, isAbortMark,
 use Rattle.semantics.specs.Move.{Move, react, commit, abort, isZero, entryAt, picked, onPorts, ownersFit, merged, reacted, toGlobal, isOpen, entriesIn, mayCommit, mayAbort, ended, allowed, applied}
 use Rattle.semantics.specs.Serial.{originsOf}
 use Rattle.semantics.specs.declared.Verdict.the-variants.{Allowed}
+use Rattle.wellformed.specs.Picks.{ReactGiven}
 use Rattle.serializability.specs.Base.{orElse, orElse-none, omap, bindO, isInO, look, none-some, look-all, is-none, omap-some}
 use Rattle.serializability.specs.View.{look-map, Uniq, look-head, look-deeper, look-at, uniq-keep, ports-head, ports-tail, ports-messages, ports-range, picks-distinct, any-look, look-kept, kept-look, look-isIn}
 use Rattle.serializability.specs.Rules.{Shape, plain, begin, inner, Sound, owners, values, touchedBy, global-fit, touched-begin, touched-inner, touched-least, touched-positive, touched-merge, make}
@@ -24,7 +25,7 @@ use Rattle.serializability.specs.Key.{touched, handled, deedAt}
 use Rattle.serializability.specs.Cells.{Cells, apply, mine}
 use Rattle.serializability.specs.Actions.{StepOk, Seen, strip, cellValue, left, endAction, actionBy, astep, markOf, AllMarks, mayLeave, Ok, mine-in, mine-zero, later}
 use Rattle.serializability.specs.Commute.{values-found}
-use Rattle.serializability.specs.Moves.{productsOf, look-reacted, uniq-reacted, ofKind, look-ended, uniq-ended, ReactPasses, react-passes, commit-passes, abort-passes}
+use Rattle.serializability.specs.Moves.{productsOf, look-reacted, uniq-reacted, ofKind, look-ended, uniq-ended, react-passes, commit-passes, abort-passes}
 
 unfoldable pub view : State → Seen
 view s = record { next = s .next; cell = λ o. look o (map strip (s .entries)) }
@@ -102,7 +103,7 @@ cell-eq false none none g h p = refl
 cell-eq false none (some e) g h p = refl
 cell-eq false (some e) y g h p = ap {B = Option Entry} some (p e)
 
-module _ (t : Table) (sd : Sound t) (i k : ℕ) (s : State) (r : ℕ) (ps : List ℕ) (u : Uniq (s .entries)) (g : Good i (view s)) (P : ReactPasses (ruleAt t r) s ps) where
+module _ (t : Table) (sd : Sound t) (i k : ℕ) (s : State) (r : ℕ) (ps : List ℕ) (u : Uniq (s .entries)) (g : Good i (view s)) (P : ReactGiven (ruleAt t r) s ps) where
   abbrev pub R : Rule
   R = ruleAt t r
 
@@ -126,10 +127,10 @@ module _ (t : Table) (sd : Sound t) (i k : ℕ) (s : State) (r : ℕ) (ps : List
   ok-react = record {
     es = es;
     found = view-found (consumed R) (s .entries) ps u (P .ports);
-    tests = (P .ports, P .fit, touched-least R (s .next) (owners es), sym (picks-distinct (s .entries) ps u rng) ∙ P .distinct);
-    own = own-react R (sd r) (s .next) es (P .fit);
-    noZero = touched-positive R (s .next) (owners es) (sd r) (P .fit) (g .pos);
-    roomy = P .room;
+    tests = (P .ports, P .owners, touched-least R (s .next) (owners es), sym (picks-distinct (s .entries) ps u rng) ∙ P .different);
+    own = own-react R (sd r) (s .next) es (P .owners);
+    noZero = touched-positive R (s .next) (owners es) (sd r) (P .owners) (g .pos);
+    roomy = P .ids;
     fresh = fresh-view;
     unused = λ op o e h. unused-react R (s .next) (e .owner) (owners es) op (g .below o e h);
     whole = tt;
@@ -142,8 +143,8 @@ module _ (t : Table) (sd : Sound t) (i k : ℕ) (s : State) (r : ℕ) (ps : List
   pub cells-react : (o : Origin) → look o (map strip (reacted R (suc i) s ps .entries)) ≡ astep t (view s) (deedAt t i k s (react r ps)) .cell o
   unfolding view handled touched astep actionBy
   cells-react o = look-map strip (λ e. refl) o (reacted R (suc i) s ps .entries)
-      ∙ ap (omap strip) (look-reacted R (sd r) (suc i) s ps (P .fit) u rng fresh-list o)
-      ∙ cell-eq (isInO o (originsOf es)) (look o (s .entries)) (look o (productsOf R (suc i) s ps)) (merged (owners es)) (merged bs) (λ e. touched-merge R (s .next) (owners es) (sd r) (P .fit) (strip e))
+      ∙ ap (omap strip) (look-reacted R (sd r) (suc i) s ps (P .owners) u rng fresh-list o)
+      ∙ cell-eq (isInO o (originsOf es)) (look o (s .entries)) (look o (productsOf R (suc i) s ps)) (merged (owners es)) (merged bs) (λ e. touched-merge R (s .next) (owners es) (sd r) (P .owners) (strip e))
       ∙ (λ j. orElse (cond (isInO o (originsOf es)) none (bindO (λ e. some (merged bs e)) (sym (look-map strip (λ e. refl) o (s .entries)) j)))
       ((sym (look-map strip (λ e. refl) o (productsOf R (suc i) s ps)) ∙ ap (λ (vs : List ℕ). look o (map strip (make (suc i) (least bs) vs 0 (productAtoms R)))) values-eq) j))
 
@@ -152,7 +153,7 @@ module _ (t : Table) (sd : Sound t) (i k : ℕ) (s : State) (r : ℕ) (ps : List
   sim-react = record {
     step = record { ok = ok-react; place = refl; tick = λ b. touched-begin R (s .next) (owners es) b };
     same-cells = λ j. record { next = later (begins R) (s .next); cell = fun-ext cells-react j };
-    uniq = uniq-reacted R (sd r) (suc i) s ps (P .fit) u rng fresh-list;
+    uniq = uniq-reacted R (sd r) (suc i) s ps (P .owners) u rng fresh-list;
   }
 
 -- ---- ends

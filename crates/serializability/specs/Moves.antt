@@ -16,9 +16,11 @@ use Rattle.semantics.specs.State.{Origin, Entry, State, owned}
 use Rattle.semantics.specs.Move.{Move, react, commit, abort, unless, both, picked, onPorts, picksOk, ownersAt, ownersFit, hasId, merged, reacted, isOpen, mayCommit, mayAbort, toGlobal, freed, ended, allowed, applied, step}
 use Rattle.semantics.specs.Serial.{originsOf, sameOrigin, after}
 use Rattle.semantics.specs.declared.Atom.{Atom}
-use Rattle.semantics.specs.declared.Refusal.{Refusal}
+use Rattle.semantics.specs.declared.Refusal.the-variants.{NoTransaction, EndNotAllowed}
 use Rattle.semantics.specs.declared.Verdict.{Verdict}
 use Rattle.semantics.specs.declared.Verdict.the-variants.{Allowed, Denied}
+use Rattle.wellformed.specs.Verdicts.{both-allowed, unless-allowed}
+use Rattle.wellformed.specs.Picks.{ReactGiven, react-given}
 use Rattle.serializability.specs.Base.{orElse, omap, bindO, same-eq, isInO, look, none-some, look-origin, look-all, is-none}
 use Rattle.serializability.specs.View.{look-append, look-map, Uniq, look-keep, uniq-keep, uniq-map, uniq-append, look-without, uniq-without, onlyIf}
 use Rattle.serializability.specs.Rules.{Shape, values, touchedBy, make, make-all, products-make}
@@ -126,48 +128,21 @@ uniq-ended k b s u = uniq-map (freed (ofKind k) b) (λ e. two e (owned b e && of
 
 -- ---- allowed
 
-pub no-denied : {r : Refusal} → Denied r ≡ Allowed → ⊥
-no-denied h = let z : _≡_ {A = ℕ} 0 1 = cc in omega arith
-
-pub both-allowed : (v w : Verdict) → both v w ≡ Allowed → (v ≡ Allowed) × (w ≡ Allowed)
-both-allowed Allowed w h = (refl, h)
-both-allowed (Denied r) w h = absurd (no-denied h)
-
-pub unless-allowed : (b : Bool) (r : Refusal) → unless b r ≡ Allowed → b ≡ true
-unless-allowed true r h = refl
-unless-allowed false r h = absurd (no-denied h)
-
-pub record ReactPasses (R : Rule) (s : State) (ps : List ℕ) : Type 0 where
-  pub distinct : distinct ps ≡ true
-  pub ports : onPorts (consumed R) (picked s ps) ≡ true
-  pub fit : ownersFit (R .class) (ownersAt s ps) ≡ true
-  pub room : hasId R s ≡ true
-
-pub react-passes : (t : Table) (s : State) (r : ℕ) (ps : List ℕ) → allowed t s (react r ps) ≡ Allowed → ReactPasses (ruleAt t r) s ps
+pub react-passes : (t : Table) (s : State) (r : ℕ) (ps : List ℕ) → allowed t s (react r ps) ≡ Allowed → ReactGiven (ruleAt t r) s ps
 unfolding allowed
-react-passes t s r ps h =
-    let R = ruleAt t r in
-    let a = both-allowed (unless (picksOk R s ps) _) (both (unless (ownersFit (R .class) (ownersAt s ps)) _) (unless (hasId R s) _)) h in
-    let b = both-allowed (unless (ownersFit (R .class) (ownersAt s ps)) _) (unless (hasId R s) _) (a .1) in
-    let p = unless-allowed (picksOk R s ps) _ (a .0) in
-    record {
-      distinct = and-left (distinct ps) (onPorts (consumed R) (picked s ps)) p;
-      ports = and-right (distinct ps) (onPorts (consumed R) (picked s ps)) p;
-      fit = unless-allowed (ownersFit (R .class) (ownersAt s ps)) _ (b .0);
-      room = unless-allowed (hasId R s) _ (b .1);
-    }
+react-passes t s r ps h = react-given (ruleAt t r) s ps h
 
-pub react-allowed : (t : Table) (s : State) (r : ℕ) (ps : List ℕ) → ReactPasses (ruleAt t r) s ps → allowed t s (react r ps) ≡ Allowed
+pub react-allowed : (t : Table) (s : State) (r : ℕ) (ps : List ℕ) → ReactGiven (ruleAt t r) s ps → allowed t s (react r ps) ≡ Allowed
 unfolding allowed
-react-allowed t s r ps p = rw (p .distinct, p .ports, p .fit, p .room)
+react-allowed t s r ps p = rw (p .different, p .ports, p .owners, p .ids)
 
 pub commit-passes : (t : Table) (s : State) (b : ℕ) → allowed t s (commit b) ≡ Allowed → (isOpen b s ≡ true) × (mayCommit t b s ≡ true)
 unfolding allowed
-commit-passes t s b h = let a = both-allowed (unless (isOpen b s) _) (unless (mayCommit t b s) _) h in (unless-allowed (isOpen b s) _ (a .0), unless-allowed (mayCommit t b s) _ (a .1))
+commit-passes t s b h = let a = both-allowed (unless (isOpen b s) NoTransaction) (unless (mayCommit t b s) EndNotAllowed) h in (unless-allowed (isOpen b s) NoTransaction (a .0), unless-allowed (mayCommit t b s) EndNotAllowed (a .1))
 
 pub abort-passes : (t : Table) (s : State) (b : ℕ) → allowed t s (abort b) ≡ Allowed → (isOpen b s ≡ true) × (mayAbort b s ≡ true)
 unfolding allowed
-abort-passes t s b h = let a = both-allowed (unless (isOpen b s) _) (unless (mayAbort b s) _) h in (unless-allowed (isOpen b s) _ (a .0), unless-allowed (mayAbort b s) _ (a .1))
+abort-passes t s b h = let a = both-allowed (unless (isOpen b s) NoTransaction) (unless (mayAbort b s) EndNotAllowed) h in (unless-allowed (isOpen b s) NoTransaction (a .0), unless-allowed (mayAbort b s) EndNotAllowed (a .1))
 
 -- what an allowed move leaves
 pub after-allowed : (t : Table) (i : ℕ) (s : State) (m : Move) → allowed t s m ≡ Allowed → after t i s m ≡ applied t i s m

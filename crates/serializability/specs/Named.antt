@@ -18,11 +18,12 @@ use Rattle.semantics.specs.State.{Origin, Entry, State, isMessage, isMemberMark
 use Rattle.semantics.specs.Move.{picked, ownersAt, merged, valueIn, kindMade, reacted, toGlobal, entriesIn, ended}
 use Rattle.semantics.specs.Serial.{originsOf, sameOrigin}
 use Rattle.semantics.specs.declared.Atom.{Atom}
+use Rattle.wellformed.specs.Picks.{ReactGiven}
 use Rattle.serializability.specs.Base.{orElse, omap, bindO, isInO, look, some-inj, none-some, look-all, found-at, same-refl}
 use Rattle.serializability.specs.View.{Uniq, look-head, look-deeper, uniq-keep, look-kept, kept-look, ports-messages, ports-range, picks-found}
 use Rattle.serializability.specs.Rules.{Shape, plain, begin, inner, values, touchedBy, touched-plain, touched-inner, make, make-all, make-kinds, kinds-plain, kinds-inner, kinds-rest, kind-weaken, merged-in, merged-other}
 use Rattle.serializability.specs.Actions.{left}
-use Rattle.serializability.specs.Moves.{productsOf, look-reacted, ofKind, look-ended, ReactPasses}
+use Rattle.serializability.specs.Moves.{productsOf, look-reacted, ofKind, look-ended}
 use Rattle.serializability.specs.Marks.{owner-live}
 use Rattle.serializability.specs.Begun.{no-marks}
 
@@ -42,7 +43,7 @@ orElse-inv false (some d) y g e h = inl (d, refl, refl, some-inj h)
 -- ---- a reaction
 
 module _ (R : Rule) (sh : Shape R) (i : ℕ) (s : State) (ps : List ℕ) (u : Uniq (s .entries)) (N : Named s)
-    (fr : (o : Origin) → o .maker ≡ i → look o (s .entries) ≡ none) (P : ReactPasses R s ps) where
+    (fr : (o : Origin) → o .maker ≡ i → look o (s .entries) ≡ none) (P : ReactGiven R s ps) where
   abbrev pub os : List ℕ
   os = ownersAt s ps
 
@@ -65,7 +66,7 @@ module _ (R : Rule) (sh : Shape R) (i : ℕ) (s : State) (ps : List ℕ) (u : Un
   found = picks-found (s .entries) ps u rng
 
   pub look-new : (o : Origin) → look o left-entries ≡ orElse (cond (isInO o (originsOf es)) none (omap (merged os) (look o (s .entries)))) (look o new)
-  look-new o = look-reacted R sh i s ps (P .fit) u rng fr o
+  look-new o = look-reacted R sh i s ps (P .owners) u rng fr o
 
   abbrev pub Came : Origin → Entry → Type 0
   Came o e = ((d : Entry) × (look o (s .entries) ≡ some d) × (isInO o (originsOf es) ≡ false) × (merged os d ≡ e)) ⊎ (look o new ≡ some e)

@@ -18,6 +18,7 @@ use Rattle.semantics.specs.Table.{Table, Rule, ruleAt, consumed, productAtoms, 
 use Rattle.semantics.specs.State.{Origin, Entry, State}
 use Rattle.semantics.specs.Move.{react, picked, onPorts, ownersAt, ownersFit, merged, reacted}
 use Rattle.semantics.specs.Serial.{originsOf}
+use Rattle.wellformed.specs.Picks.{ReactGiven}
 use Rattle.serializability.specs.Base.{orElse, omap, bindO, isInO, distinctO, look, none-some, is-none}
 use Rattle.serializability.specs.View.{look-map, ports-messages, picks-distinct}
 use Rattle.serializability.specs.Rules.{Shape, plain, begin, inner, Sound, owners, values, touchedBy, touched-plain, touched-begin, touched-inner, touched-merge, make}
@@ -25,7 +26,7 @@ use Rattle.serializability.specs.Key.{Deed, withMove}
 use Rattle.serializability.specs.Cells.{apply, apply-inv}
 use Rattle.serializability.specs.Actions.{Seen, strip, received, reactAction, actionBy, later, Tests, Ok}
 use Rattle.serializability.specs.Commute.{values-found}
-use Rattle.serializability.specs.Moves.{productsOf, look-reacted, uniq-reacted, ReactPasses}
+use Rattle.serializability.specs.Moves.{productsOf, look-reacted, uniq-reacted}
 use Rattle.serializability.specs.Link.{view, view-cell, cell-eq}
 use Rattle.serializability.specs.Marks.{From, came, owner-live}
 use Rattle.serializability.specs.Fate.{later-le}
@@ -79,12 +80,12 @@ module _ (t : Table) (sd : Sound t) (c : State) (F : Seen) (ρ : ℕ → ℕ) (r
   pub fit-c : ownersFit (R .class) os′ ≡ true
   fit-c = ap (ownersFit (R .class)) owners-c ∙ fit-rename ρ (R .class) (owners es) (rel .zero-is) (λ v q x. live-zero c F ρ rel v (owner-of v q) x) (T .1)
 
-  pub passes : ReactPasses R c qs
+  pub passes : ReactGiven R c qs
   passes = record {
-    distinct = picks-distinct (c .entries) qs (rel .uniq) (seen-again .2) ∙ ap distinctO (seen-again .1) ∙ T .3;
+    different = picks-distinct (c .entries) qs (rel .uniq) (seen-again .2) ∙ ap distinctO (seen-again .1) ∙ T .3;
     ports = ap (onPorts (consumed R)) (seen-again .0) ∙ ports-rename ρ (consumed R) es ∙ T .0;
-    fit = fit-c;
-    room = ap (λ (n : ℕ). not (begins R) || ltb n 65536) (rel .next-is) ∙ K .roomy;
+    owners = fit-c;
+    ids = ap (λ (n : ℕ). not (begins R) || ltb n 65536) (rel .next-is) ∙ K .roomy;
   }
 
   -- the new name

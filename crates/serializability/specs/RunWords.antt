@@ -23,9 +23,10 @@ use Rattle.semantics.specs.declared.Refusal.{Refusal}
 use Rattle.semantics.specs.declared.Refusal.the-variants.{MoveForm, TooManyEntries}
 use Rattle.semantics.specs.declared.Verdict.{Verdict}
 use Rattle.semantics.specs.declared.Verdict.the-variants.{Allowed, Denied}
+use Rattle.wellformed.specs.Picks.{ReactGiven}
 use Rattle.serializability.specs.Statement.{Accepted}
 use Rattle.serializability.specs.Rules.{Shape, plain, begin, inner, Sound, values, touchedBy, touched-plain, touched-begin, touched-inner, make-all, products-make}
-use Rattle.serializability.specs.Moves.{after-allowed, ReactPasses, react-passes, commit-passes, abort-passes}
+use Rattle.serializability.specs.Moves.{after-allowed, react-passes, commit-passes, abort-passes}
 use Rattle.serializability.specs.LogWords.{moveWords, Holdable, words-ok, words-back}
 
 -- ---- from words to moves
@@ -131,7 +132,7 @@ home-small R (begin c b h m rest q w k) s os r o =
     let l = ltb-true (s .next) 65536 (ap (λ (x : Bool). not x || ltb (s .next) 65536) (sym b) ∙ r) in omega arith
 home-small R (inner c b h k) s os r o = let q : least (touchedBy R (s .next) os) ≡ least os = ap least (touched-inner R (s .next) os c b) in let l = least-small os o in omega arith
 
-pub react-small : (R : Rule) → Shape R → (i : ℕ) (s : State) (ps : List ℕ) → ReactPasses R s ps → all isId (s .entries) ≡ true → all isId (reacted R i s ps .entries) ≡ true
+pub react-small : (R : Rule) → Shape R → (i : ℕ) (s : State) (ps : List ℕ) → ReactGiven R s ps → all isId (s .entries) ≡ true → all isId (reacted R i s ps .entries) ≡ true
 unfolding reacted
 react-small R sh i s ps P h =
     let os = ownersAt s ps in
@@ -139,8 +140,8 @@ react-small R sh i s ps P h =
     let w = least (touchedBy R (s .next) os) in
     all-append isId (map (merged os) (without ps 0 (s .entries))) (products R s (picked s ps) i 0 (productAtoms R))
     (merged-small os (without ps 0 (s .entries)) (least-small os o) (all-without isId ps 0 (s .entries) h))
-    (subst (λ (l : List Entry). all isId l ≡ true) (sym (products-make R sh s (picked s ps) i (P .fit)))
-    (make-all isId i w (values (picked s ps)) 0 (productAtoms R) (λ e a b. le-leb (e .owner) 65535 (let k = home-small R sh s os (P .room) o in omega arith))))
+    (subst (λ (l : List Entry). all isId l ≡ true) (sym (products-make R sh s (picked s ps) i (P .owners)))
+    (make-all isId i w (values (picked s ps)) 0 (productAtoms R) (λ e a b. le-leb (e .owner) 65535 (let k = home-small R sh s os (P .ids) o in omega arith))))
 
 pub applied-small : (t : Table) → Sound t → (i : ℕ) (s : State) (m : Move) → allowed t s m ≡ Allowed → all isId (s .entries) ≡ true → all isId (applied t i s m .entries) ≡ true
 unfolding applied

@@ -17,7 +17,7 @@ use Rattle.semantics.specs.Answers.{tableVerdict, stateOwnVerdict, stateVerdict
 use Rattle.semantics.specs.declared.Sizes.{Sizes}
 use Rattle.semantics.specs.declared.Refusal.the-variants.{StateSizes, StateContents}
 use Rattle.semantics.specs.declared.Verdict.the-variants.{Allowed}
-use Rattle.serializability.specs.Moves.{both-allowed, unless-allowed}
+use Rattle.wellformed.specs.Verdicts.{both-allowed, unless-allowed}
 use Rattle.serializability.specs.Decoded.{Numbered, Start}
 
 pub entries-numbered : (q : ℕ) (os ws : List ℕ) → Numbered q (entriesOf q os ws)

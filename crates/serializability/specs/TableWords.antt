@@ -27,7 +27,7 @@ use Rattle.semantics.specs.declared.Atom.{Atom}
 use Rattle.semantics.specs.declared.Refusal.the-variants.{TableSizes, TableContents}
 use Rattle.semantics.specs.declared.Verdict.the-variants.{Allowed}
 use Rattle.serializability.specs.Rules as Rules
-use Rattle.serializability.specs.Moves.{both-allowed, unless-allowed}
+use Rattle.wellformed.specs.Verdicts.{both-allowed, unless-allowed}
 
 -- ---- what the conditions on a rule give
 
