@@ -1,8 +1,8 @@
 -- A type for each element of a list, and laws of all, any, keep and count, for every element type.
 use Prim.Native.Nat.{ℕ, suc, _+_}
 use mathlib.Core.List.{List, [], _∷_, _++_, map, nil≢cons}
-use mathlib.Core.Bool.{Bool, true, false, _&&_, _||_, not, true≢false, false≢true}
-use mathlib.Core.Path.{_≡_, refl, ap}
+use mathlib.Core.Bool.{Bool, true, false, _||_, not, true≢false, false≢true}
+use mathlib.Core.Path.{_≡_, refl}
 use native.Mathlib.Omega.{arith}
 use Rattle.lists.specs.Lists.{all, any, isIn, keep, keepIf, count, oneIf, isEmpty, without}
 use Rattle.lists.specs.Tests.{or-right-true}

@@ -18,7 +18,7 @@ use Rattle.semantics.specs.Serial.{isEnd, sameOrigin}
 use Rattle.semantics.specs.declared.Atom.{Atom}
 use Rattle.serializability.specs.Base.{isInO, isInO-head, look, some-inj, none-some, look-all, same-eq, omap-some}
 use Rattle.serializability.specs.View.{look-map}
-use Rattle.serializability.specs.Rules.{Shape, plain, begin, inner, Sound, make, make-kinds, kinds-plain, kinds-inner, kinds-rest, kind-weaken}
+use Rattle.serializability.specs.Rules.{Shape, plain, begin, inner, Shaped, make, make-kinds, kinds-plain, kinds-inner, kinds-rest, kind-weaken}
 use Rattle.serializability.specs.Key.{Deed, begun}
 use Rattle.serializability.specs.Cells.{Cells, Source, apply-inv}
 use Rattle.serializability.specs.Actions.{Seen, strip, received, left, actionBy, actionOf, astep, end-ok}
@@ -50,7 +50,7 @@ left-mark k b c d h z = go (owned b c) (eqb (c .kind) k) h
     go false y w = ap (λ (x : Entry). x .kind) (some-inj w) ∙ z
 
 -- a mark after a move was there before, or the move is its begin
-pub mark-from : (t : Table) → Sound t → (f : Cells) (a : Deed) (vs : List ℕ) (mv : Move) (o : Origin) (d : Entry) → Source f (actionBy t (a .place) (a .picks) (a .touched) vs mv) o d → d .kind ≡ 3
+pub mark-from : (t : Table) → Shaped t → (f : Cells) (a : Deed) (vs : List ℕ) (mv : Move) (o : Origin) (d : Entry) → Source f (actionBy t (a .place) (a .picks) (a .touched) vs mv) o d → d .kind ≡ 3
     → ((c : Entry) × (f o ≡ some c) × (c .kind ≡ 3)) ⊎ ((begun t mv ≡ true) × (o ≡ firstOf (a .place)))
 unfolding actionBy
 mark-from t sd f a vs (react r ps) o d (inl (c, p, g, q)) z = inl (c, p, ap (λ (x : Entry). x .kind) (some-inj q) ∙ z)
@@ -67,7 +67,7 @@ mark-from t sd f a vs (abort b) o d (inr q) z = absurd (none-some q)
 abbrev pub begunIn : Table → Origin → List Deed → Bool
 begunIn t o xs = any (λ x. begun t (x .move) && any (sameOrigin o) (x .members)) xs
 
-pub mark-source : (t : Table) → Sound t → (xs : List Deed) (i : ℕ) (F G : Seen) (ys : List Deed) → LogRuns t i F (xs ++ ys) G → (o : Origin) (d : Entry) → seenAfter t F xs .cell o ≡ some d → d .kind ≡ 3
+pub mark-source : (t : Table) → Shaped t → (xs : List Deed) (i : ℕ) (F G : Seen) (ys : List Deed) → LogRuns t i F (xs ++ ys) G → (o : Origin) (d : Entry) → seenAfter t F xs .cell o ≡ some d → d .kind ≡ 3
     → ((c : Entry) × (F .cell o ≡ some c) × (c .kind ≡ 3)) ⊎ (begunIn t o xs ≡ true)
 unfolding astep
 mark-source t sd [] i F G ys r o d h z = inl (d, h, z)
@@ -87,7 +87,7 @@ mark-source t sd (x ∷ xs) i F G ys r o d h z = go (mark-source t sd xs (suc i)
     go (inr q) = inr (or-right-true (begun t (x .move) && any (sameOrigin o) (x .members)) q)
 
 -- from a start without marks
-pub begun-before-of : (t : Table) → Sound t → (xs : List Deed) (F G : Seen) (a : Deed) (ys : List Deed) → Good 0 F → ((o : Origin) (c : Entry) → F .cell o ≡ some c → c .kind ≡ 3 → ⊥) → LogRuns t 0 F (xs ++ a ∷ ys) G → isEnd (a .move) ≡ true
+pub begun-before-of : (t : Table) → Shaped t → (xs : List Deed) (F G : Seen) (a : Deed) (ys : List Deed) → Good 0 F → ((o : Origin) (c : Entry) → F .cell o ≡ some c → c .kind ≡ 3 → ⊥) → LogRuns t 0 F (xs ++ a ∷ ys) G → isEnd (a .move) ≡ true
     → (o : Origin) → isInO o (a .members) ≡ true → begunIn t o xs ≡ true
 begun-before-of t sd xs F G a ys g none-yet r en o h =
     let k = log-rest t sd 0 F G xs (a ∷ ys) g r (0 + length xs) refl .0 .0 .step .ok in

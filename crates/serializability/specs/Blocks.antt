@@ -17,7 +17,7 @@ use Rattle.semantics.specs.Table.{Table}
 use Rattle.semantics.specs.State.{Origin, Entry, isMemberMark, owned}
 use Rattle.semantics.specs.Serial.{Act, isEnd, isInner, sameOrigin, belongsTo, block, ordered}
 use Rattle.serializability.specs.Base.{isInO, found-at}
-use Rattle.serializability.specs.Rules.{Sound}
+use Rattle.serializability.specs.Rules.{Shaped}
 use Rattle.serializability.specs.Key.{Deed, actOf, ender, keyOf, ender-ge, key-full}
 use Rattle.serializability.specs.Actions.{Seen, astep, markOf, EndOk, end-ok}
 use Rattle.serializability.specs.Link.{Good}
@@ -37,7 +37,7 @@ end-member F a E o h =
     let q = found-at (F .cell) (markOf b) o (a .picks) (E .es) (E .found) (E .marks) (subst (λ (l : List Origin). isInO o l ≡ true) (E .members) h) in
     (q .0, q .1, eqb-true (q .0 .kind) 3 (and-left (isMemberMark (q .0)) (owned b (q .0)) (q .2)), eqb-true (q .0 .owner) b (and-right (isMemberMark (q .0)) (owned b (q .0)) (q .2)))
 
-module _ (t : Table) (sd : Sound t) (G : Seen) where
+module _ (t : Table) (sd : Shaped t) (G : Seen) where
   module _ (i : ℕ) (F : Seen) (x : Deed) (zs ys : List Deed) (a : Deed) (g : Good i F) (r : LogRuns t i F (x ∷ zs ++ a ∷ ys) G) where
     pub Fa : Seen
     Fa = seenAfter t (astep t F x) zs

@@ -14,15 +14,17 @@ use Rattle.lists.specs.Choices.{is-false, and-intro}
 use Rattle.lists.specs.Neither.{or-left-false, or-right-false}
 use Rattle.lists.specs.Parts.{any-map}
 use Rattle.lists.specs.Counting.{count-map}
-use Rattle.lists.specs.Each.{All, map-split}
+use Rattle.lists.specs.Members.{all-each, all-intro}
+use Rattle.lists.specs.Each.{All, All-unmap, map-split}
 use Rattle.semantics.specs.Table.{Table}
 use Rattle.semantics.specs.State.{Origin, Entry, State, isMessage, owned, stateWords}
 use Rattle.semantics.specs.Move.{Move, react, commit, abort, applied}
-use Rattle.semantics.specs.Serial.{Act, anyOpen, sameOrigin, after, acts, isEnd, isInner, belongsTo, ordered, again, replayed, serial, along}
+use Rattle.semantics.specs.Serial.{Act, beginsEmit, anyOpen, sameOrigin, after, acts, isEnd, isInner, belongsTo, ordered, again, replayed, serial, along}
 use Rattle.serializability.specs.Statement.{Accepted, orderOf, placesOf, stateBefore, SameMove, hasOrigin, noMove, isBegin, endsMemberOf, isGlobal, Serial}
 use Rattle.serializability.specs.Base.{omap, look, same-eq, look-origin, look-all}
 use Rattle.serializability.specs.View.{Uniq}
-use Rattle.serializability.specs.Rules.{Sound}
+use Rattle.serializability.specs.Rules.{Shaped}
+use Rattle.serializability.specs.Shapes.{table-shaped}
 use Rattle.serializability.specs.Key.{Deed, begun, actOf, deeds, acts-deeds, deeds-length, deeds-places}
 use Rattle.serializability.specs.Actions.{strip}
 use Rattle.serializability.specs.Moves.{after-allowed}
@@ -34,12 +36,14 @@ use Rattle.serializability.specs.Ordered.{block-there, outer-order}
 use Rattle.serializability.specs.Blocks.{order-sorted}
 use Rattle.serializability.specs.OneBlock.{one-block-of}
 use Rattle.serializability.specs.Begun.{begunIn, begun-before-of}
-use Rattle.serializability.specs.Named.{Named}
 use Rattle.serializability.specs.Rename.{rename, Live, Rel}
-use Rattle.serializability.specs.Replay.{Goes, Ends, replay-runs, Placed, all-placed, same-moves, serial-uniq}
+use Rattle.serializability.specs.Replay.{again-known, Goes, Ends, replay-runs, Placed, all-placed, same-moves, serial-uniq}
 use Rattle.serializability.specs.States.{origin-once, log-uniq, along-same}
+use Rattle.semantics.specs.declared.Sizes.{Sizes}
+use Rattle.wellformed.specs.Rules.{TableRight}
+use Rattle.wellformed.specs.Entries.{StateRight, Sound}
+use Rattle.wellformed.specs.Preservation.{RuleKnown, applied-keeps}
 use Rattle.wellformed.specs.Bare.{bare, bareState, words-same, allowed-same, applied-same}
-use Rattle.serializability.specs.Tidy.{Tidy, tidy-end}
 use Rattle.serializability.specs.SameEnd.{end-closed, messages-same}
 
 -- ---- the start
@@ -49,10 +53,9 @@ abbrev pub Numbered : ℕ → List Entry → Type 0
 Numbered q [] = Unit
 Numbered q (e ∷ es) = (e .origin ≡ record { maker = 0; index = q }) × Numbered (suc q) es
 
-pub record Start (s : State) : Type 0 where
-  pub positive : 1 ≤ s .next
+pub record Start (z : Sizes) (s : State) : Type 0 where
+  pub sound : Sound z s
   pub numbered : Numbered 0 (s .entries)
-  pub messages : all isMessage (s .entries) ≡ true
   pub closed : anyOpen s ≡ false
 
 pub look-numbered : (q : ℕ) (l : List Entry) (o : Origin) → Numbered q l → o .index < q → look o l ≡ none
@@ -71,40 +74,40 @@ pub all-closed : (l : List Entry) → any (λ e. not (owned 0 e)) l ≡ false �
 all-closed [] h = refl
 all-closed (e ∷ l) h = and-intro (not-false (owned 0 e) (or-left-false (not (owned 0 e)) (any (λ e. not (owned 0 e)) l) h)) (all-closed l (or-right-false (not (owned 0 e)) (any (λ e. not (owned 0 e)) l) h))
 
+-- a well-formed state without open transactions has only messages
+pub closed-messages : (z : Sizes) (s : State) → StateRight z s → anyOpen s ≡ false → all isMessage (s .entries) ≡ true
+closed-messages z s right h = all-intro isMessage (s .entries) (λ e m. eq-eqb (e .kind) 0 (right .each e m .global (eqb-true (e .owner) 0 (all-each (owned 0) (s .entries) (all-closed (s .entries) h) e m)) .0))
+
 pub closed-view : (s : State) → anyOpen s ≡ false → NoneOpen (view s)
 unfolding NoneOpen
 closed-view s h o e k = let v = view-some s o e k in ap (λ (x : Entry). x .owner) (sym (v .2)) ∙ eqb-true (v .0 .owner) 0 (look-all (owned 0) o (s .entries) (all-closed (s .entries) h) (v .1))
 
-module _ (s : State) (S : Start s) where
+module _ (z : Sizes) (s : State) (S : Start z s) where
+  pub messages : all isMessage (s .entries) ≡ true
+  messages = closed-messages z s (S .sound .right) (S .closed)
+
   pub kind-start : (o : Origin) (e : Entry) → view s .cell o ≡ some e → e .kind ≡ 0
-  kind-start o e k = let v = view-some s o e k in ap (λ (x : Entry). x .kind) (sym (v .2)) ∙ eqb-true (v .0 .kind) 0 (look-all isMessage o (s .entries) (S .messages) (v .1))
+  kind-start o e k = let v = view-some s o e k in ap (λ (x : Entry). x .kind) (sym (v .2)) ∙ eqb-true (v .0 .kind) 0 (look-all isMessage o (s .entries) messages (v .1))
 
   pub good-start : Good 0 (view s)
   unfolding view NoneOpen
   good-start = record {
-    pos = S .positive;
+    pos = S .sound .next-low;
     makers = λ o e k. let v = view-some s o e k in
         let w : v .0 .origin .maker ≡ 0 = eqb-true (v .0 .origin .maker) 0 (look-all (λ e. eqb (e .origin .maker) 0) o (s .entries) (maker-numbered 0 (s .entries) (S .numbered)) (v .1)) in
         let x : v .0 .origin .maker ≡ o .maker = ap (λ (x : Origin). x .maker) (look-origin o (s .entries) (v .1)) in omega arith;
-    below = λ o e k. let w : e .owner ≡ 0 = closed-view s (S .closed) o e k in let p = S .positive in omega arith;
+    below = λ o e k. let w : e .owner ≡ 0 = closed-view s (S .closed) o e k in let p = S .sound .next-low in omega arith;
     marks = λ o e k z. absurd (z (closed-view s (S .closed) o e k));
-  }
-
-  pub named-start : Named s
-  named-start = record {
-    marks = λ o d h k. let w = eqb-true (d .kind) 0 (look-all isMessage o (s .entries) (S .messages) h) in absurd (omega arith);
-    own = λ o d h z. absurd (z (eqb-true (d .owner) 0 (look-all (owned 0) o (s .entries) (all-closed (s .entries) (S .closed)) h)));
   }
 
   pub rel-start : Rel s (view s) (λ v. v)
   unfolding view
   rel-start = record {
     uniq = uniq-numbered 0 (s .entries) (S .numbered);
-    named = named-start;
     next-is = refl;
     cells = λ o. id-rename (look o (map strip (s .entries)));
     zero-is = refl;
-    pos = S .positive;
+    pos = S .sound .next-low;
     inj = λ v w l m h. h;
     below = λ v l. low v l;
   }
@@ -116,6 +119,12 @@ module _ (s : State) (S : Start s) where
       low : (v : ℕ) → Live (view s) v → v < view s .next
       low v (inl z) = let w = good-start .pos in omega arith
       low v (inr (o, e, h, w)) = let x = good-start .below o e h in omega arith
+
+-- ---- the end
+
+pub sound-runs : (t : Table) → TableRight t → (i : ℕ) (s : State) (ms : List Move) (e : State) → Accepted t i s ms e → Sound (t .sizes) s → All (RuleKnown t) ms → Sound (t .sizes) e
+sound-runs t right i s [] e h sound known = subst (Sound (t .sizes)) h sound
+sound-runs t right i s (m ∷ ms) e h sound known = sound-runs t right (suc i) (applied t (suc i) s m) ms e (h .1) (applied-keeps right sound (suc i) m (known .0) (h .0)) (known .1)
 
 -- ---- the serial log is a run, with its own places for makers
 
@@ -137,6 +146,16 @@ pub count-bare : (p : Entry → Bool) → ((x : Entry) → p (bare x) ≡ p x) �
 count-bare p h [] = refl
 count-bare p h (x ∷ l) = rw (h x, count-bare p h l)
 
+pub deeds-known : (t : Table) (i : ℕ) (s : State) (ms : List Move) → All (RuleKnown t) ms → All (λ a. RuleKnown t (a .move)) (deeds t i s ms)
+unfolding deeds
+deeds-known t i s [] h = tt
+deeds-known t i s (m ∷ ms) h = (h .0, deeds-known t (suc i) (after t (suc i) s m) ms (h .1))
+
+pub replayed-known : (t : Table) (c : State) (xs : List Act) → All (λ a. RuleKnown t (a .move)) xs → All (RuleKnown t) (replayed t c xs)
+unfolding replayed
+replayed-known t c [] h = tt
+replayed-known t c (a ∷ xs) h = (again-known t c a (a .move) (h .0), replayed-known t (after t (suc (a .place)) c (again c a (a .move))) xs (h .1))
+
 pub begin-same : (t : Table) (m : Move) → begun t m ≡ isBegin t m
 begin-same t (react r ps) = refl
 begin-same t (commit b) = refl
@@ -144,12 +163,15 @@ begin-same t (abort b) = refl
 
 -- ---- the theorem
 
-module _ (t : Table) (sd : Sound t) (s : State) (S : Start s) (ms : List Move) (e : State) (run : Accepted t 0 s ms e) (cl : anyOpen e ≡ false) where
+module _ (t : Table) (right : TableRight t) (ne : beginsEmit t ≡ false) (s : State) (S : Start (t .sizes) s) (ms : List Move) (known : All (RuleKnown t) ms) (e : State) (run : Accepted t 0 s ms e) (cl : anyOpen e ≡ false) where
+  pub sd : Shaped t
+  sd = table-shaped t right ne
+
   unfoldable pub ds : List Deed
   ds = deeds t 0 s ms
 
   pub g : Good 0 (view s)
-  g = good-start s S
+  g = good-start (t .sizes) s S
 
   pub ran : LogRuns t 0 (view s) ds (view e) × Uniq (e .entries)
   unfolding ds
@@ -180,16 +202,20 @@ module _ (t : Table) (sd : Sound t) (s : State) (S : Start s) (ms : List Move) (
   unfolding ds
   placed-log = all-placed t s ms
 
+  pub known-log : All (λ a. RuleKnown t (a .move)) ds
+  unfolding ds
+  known-log = deeds-known t 0 s ms known
+
   pub again-runs : Ends t s (isort ds) (view e)
-  again-runs = replay-runs t sd (isort ds) s (view s) (view e) (λ v. v) (rel-start s S)
+  again-runs = replay-runs t right sd (isort ds) s (view s) (view e) (λ v. v) (rel-start (t .sizes) s S) (S .sound) (All-isort (λ a. RuleKnown t (a .move)) ds known-log)
       (sort-runs t (view e) ds (view s) (pairs t sd (view e) 0 (view s) ds g (ran .0)) (runs t 0 (view s) ds (view e) (ran .0)))
+
+  -- the serial log's rules are the table's
+  pub serial-known : All (RuleKnown t) (serial t s ms)
+  serial-known = subst (All (RuleKnown t)) (sym serial-is) (replayed-known t s (map actOf (isort ds)) (All-unmap actOf (λ a. RuleKnown t (a .move)) (isort ds) (All-isort (λ a. RuleKnown t (a .move)) ds known-log)))
 
   pub accepted : (z : State) × Accepted t 0 s (replayed t s (map actOf (isort ds))) z × (bareState z ≡ bareState (again-runs .state))
   accepted = goes-accepted t (map actOf (isort ds)) 0 s s (again-runs .state) refl (again-runs .goes)
-
-  pub tidy : Tidy (view e .cell)
-  unfolding Tidy
-  tidy = tidy-end t sd 0 (view s) (view e) ds (ran .0) (λ o x h z. kind-start s S o x h)
 
   pub sorted-length : length (isort ds) ≡ length ms
   unfolding ds
@@ -227,7 +253,7 @@ module _ (t : Table) (sd : Sound t) (s : State) (S : Start s) (ms : List Move) (
       go : (us : List Deed) × (u : Deed) × (vs : List Deed) × (ds ≡ us ++ u ∷ vs) × (map actOf us ≡ xs) × (actOf u ≡ a) × (map actOf vs ≡ ys) → any (λ x. isBegin t (x .move) && any (sameOrigin o) (x .members)) xs ≡ true
       go (us, u, vs, p, x, b, c) =
           ap (any (λ x. isBegin t (x .move) && any (sameOrigin o) (x .members))) (sym x) ∙ same us
-          ∙ begun-before-of t sd us (view s) (view e) u vs g (λ o c k z. let w = kind-start s S o c k in omega arith) (subst (λ (l : List Deed). LogRuns t 0 (view s) l (view e)) p (ran .0))
+          ∙ begun-before-of t sd us (view s) (view e) u vs g (λ o c k z. let w = kind-start (t .sizes) s S o c k in omega arith) (subst (λ (l : List Deed). LogRuns t 0 (view s) l (view e)) p (ran .0))
           (subst (λ (y : Act). isEnd (y .move) ≡ true) (sym b) h) o (subst (λ (y : Act). any (sameOrigin o) (y .members) ≡ true) (sym b) m)
 
   pub same-at : (j : ℕ) → j < length ms
@@ -269,7 +295,8 @@ module _ (t : Table) (sd : Sound t) (s : State) (S : Start s) (ms : List Move) (
   same-count k p v =
       sym (count-bare (isGlobal k p v) (λ x. refl) (accepted .0 .entries)) ∙ ap (λ (x : State). count (isGlobal k p v) (x .entries)) (accepted .2)
       ∙ count-bare (isGlobal k p v) (λ x. refl) (again-runs .state .entries)
-      ∙ messages-same (again-runs .state) e (again-runs .names) (again-runs .rel) shut (ran .1) tidy (isGlobal k p v)
+      ∙ messages-same (again-runs .state) e (again-runs .names) (again-runs .rel) shut (ran .1) (closed-messages (t .sizes) (again-runs .state) (again-runs .sound .right) (end-closed (again-runs .state) e (again-runs .names) (again-runs .rel) shut (ran .1)))
+      (closed-messages (t .sizes) e (sound-runs t right 0 s ms e run (S .sound) known .right) cl) (isGlobal k p v)
 
   pub serial-decoded : Serial t s ms e
   unfolding serial

@@ -1,41 +1,38 @@
 -- Demand 3: every accepted log has a serial log, as Statement.antt says.
-use mathlib.Core.Path.{_≡_, refl, sym, ap, subst, _∙_}
+use mathlib.Core.Path.{_≡_, refl, ap, _∙_}
 use mathlib.Core.Bool.{Bool, true, false, cond}
 use mathlib.Core.List.{List, [], _∷_}
 use Prim.Native.Nat.{ℕ, suc, _+_, _*_, _≤_}
 use native.Mathlib.Omega.{arith}
-use lib.Dec.{leb}
-use borrow.Author.Tests.{le-leb, eqb-true}
+use borrow.Author.Tests.{le-leb}
 use lib.ListN.{length, length-map}
 use Rattle.lists.specs.Lists.{all}
-use Rattle.lists.specs.Choices.{and-left, and-right, and-intro}
 use Rattle.lists.specs.Each.{All, All-map, All-unmap}
 use Rattle.semantics.specs.Table.{Table, tableOf}
-use Rattle.semantics.specs.State.{Entry, State, owned, stateOf, stateWords}
+use Rattle.semantics.specs.State.{entriesOf, ownersOf, itemsOf, State, stateOf, stateWords}
 use Rattle.semantics.specs.Move.{Move, unless, moveOk, moveOf}
 use Rattle.semantics.specs.Log.{moveCount, movesOf, logSizesOk, logWords, ended, run}
-use Rattle.semantics.specs.Serial.{beginsEmit, anyOpen, serial, along, fits, serialFits, after}
-use Rattle.semantics.specs.Answers.{stateVerdict, unlessDenied, logVerdict, runOf, ranResult, runResult, serialOf, serialFitsOf, serialResult, write, refuse}
+use Rattle.semantics.specs.Serial.{beginsEmit, anyOpen, serial, along, fits, serialFits}
+use Rattle.semantics.specs.Answers.{tableVerdict, stateVerdict, unlessDenied, logVerdict, runOf, ranResult, runResult, serialOf, serialFitsOf, serialResult, write, refuse}
 use Rattle.semantics.specs.declared.Refusal.the-variants.{SerialTooManyEntries}
 use Rattle.semantics.specs.declared.Verdict.the-variants.{Allowed}
-use Rattle.serializability.specs.Statement.{Accepted, orderOf, Serial, movesIn, roomAlong, Demand3}
-use Rattle.serializability.specs.Rules.{Sound}
-use Rattle.serializability.specs.Key.{actOf, deeds}
-use Rattle.serializability.specs.Sort.{isort, All-isort}
-use Rattle.serializability.specs.Decoded.{Start, all-closed, ds, order-is, serial-decoded}
-use Rattle.serializability.specs.TableWords.{table-sound, rules-64, rule-count, four-consumes}
-use Rattle.serializability.specs.StateWords.{table-ok, state-start}
+use Rattle.wellformed.specs.Verdicts.{table-given, sizes-given, sizes-tableOf, length-rules, state-given}
+use Rattle.wellformed.specs.Rules.{TableRight, table-right}
+use Rattle.wellformed.specs.Preservation.{RuleKnown, rule-known}
+use Rattle.wellformed.specs.Held.{stateOf-held}
+use Rattle.serializability.specs.Statement.{Accepted, Serial, movesIn, roomAlong, Demand3}
+use Rattle.serializability.specs.Decoded.{Numbered, Start, serial-known, serial-decoded}
 use Rattle.serializability.specs.LogWords.{Holdable, log-length, log-ok, moves-back, moves-count, count-1024}
-use Rattle.serializability.specs.RunWords.{isId, RuleIn, run-accepted, accepted-run, all-holdable, decoded-rule, replayed-rules}
+use Rattle.serializability.specs.RunWords.{run-accepted, accepted-run, all-holdable}
 
-pub closed-ids : (l : List Entry) → all (owned 0) l ≡ true → all isId l ≡ true
-closed-ids [] h = refl
-closed-ids (e ∷ l) h = and-intro (ap (λ (n : ℕ). leb n 65535) (eqb-true (e .owner) 0 (and-left (owned 0 e) (all (owned 0) l) h))) (closed-ids l (and-right (owned 0 e) (all (owned 0) l) h))
+pub entries-numbered : (q : ℕ) (os ws : List ℕ) → Numbered q (entriesOf q os ws)
+entries-numbered q [] ws = tt
+entries-numbered q (o ∷ os) [] = tt
+entries-numbered q (o ∷ os) (w ∷ ws) = (refl, entries-numbered (suc q) os ws)
 
-pub deeds-rules : (t : Table) (i : ℕ) (s : State) (ms : List Move) → All (RuleIn t) ms → All (λ a. RuleIn t (a .move)) (deeds t i s ms)
-unfolding deeds
-deeds-rules t i s [] h = tt
-deeds-rules t i s (m ∷ ms) h = (h .0, deeds-rules t (suc i) (after t (suc i) s m) ms (h .1))
+pub state-numbered : (S : List ℕ) → Numbered 0 (stateOf S .entries)
+unfolding stateOf
+state-numbered S = entries-numbered 0 (ownersOf S) (itemsOf S)
 
 module _ (ceiling : ℕ) (T S L : List ℕ) (e : State) (ok : stateVerdict T S ≡ Allowed) (ne : beginsEmit (tableOf T) ≡ false) (op : anyOpen (stateOf S) ≡ false)
     (lo : logSizesOk L ≡ true) (ran : runOf ceiling T S L ≡ ended e) (cl : anyOpen e ≡ false) where
@@ -48,33 +45,30 @@ module _ (ceiling : ℕ) (T S L : List ℕ) (e : State) (ok : stateVerdict T S �
   abbrev pub ms : List Move
   ms = movesIn T L
 
-  pub sound : Sound t
-  sound = table-sound T (table-ok T S ok) ne
+  pub table-ok : tableVerdict T ≡ Allowed
+  table-ok = state-given S T ok .0
 
-  pub start : Start s
-  start = state-start T S ok op
+  pub right : TableRight t
+  right = table-right T table-ok
+
+  pub start : Start (t .sizes) s
+  start = record { sound = rw (sizes-tableOf T) (stateOf-held T S ok .sound); numbered = state-numbered S; closed = op }
 
   pub taken : Accepted t 0 s ms e × All (λ w. moveOk t w ≡ true) (movesOf L)
   taken = run-accepted ceiling t 0 s (movesOf L) e ran
 
+  pub known : All (RuleKnown t) ms
+  known = All-unmap (moveOf t) (RuleKnown t) (movesOf L) (All-map {P = λ w. moveOk t w ≡ true} {Q = λ w. RuleKnown t (moveOf t w)} (λ w h. rule-known t w h) (movesOf L) (taken .1))
+
   pub serial-log : Serial t s ms e
-  serial-log = serial-decoded t sound s start ms e (taken .0) cl
+  serial-log = serial-decoded t right ne s start ms known e (taken .0) cl
 
   pub count-is : length ms ≡ moveCount L
   count-is = length-map (movesOf L) (moveOf t) ∙ moves-count L
 
-  pub rules-in : All (RuleIn t) ms
-  rules-in = All-unmap (moveOf t) (RuleIn t) (movesOf L) (All-map {P = λ w. moveOk t w ≡ true} {Q = λ w. RuleIn t (moveOf t w)} (λ w h. decoded-rule t w h) (movesOf L) (taken .1))
-
-  pub serial-rules : All (RuleIn t) (serial t s ms)
-  unfolding serial ds
-  serial-rules = replayed-rules t s (orderOf t s ms) (subst (All (λ a. RuleIn t (a .move))) (sym (order-is t sound s start ms e (taken .0) cl))
-      (All-unmap actOf (λ a. RuleIn t (a .move)) (isort (deeds t 0 s ms)) (All-isort (λ a. RuleIn t (a .move)) (deeds t 0 s ms) (deeds-rules t 0 s ms rules-in))))
-
   pub held : All (Holdable t) (serial t s ms)
-  held = all-holdable t sound (let k = rule-count T (table-ok T S ok) in let l = rules-64 T (table-ok T S ok) in omega arith)
-      (λ r h. four-consumes T (table-ok T S ok) r (let k = rule-count T (table-ok T S ok) in omega arith))
-      0 s (serial t s ms) (serial-log .end) (serial-log .accepted) (closed-ids (s .entries) (all-closed (s .entries) op)) serial-rules
+  held = all-holdable t right (let k = length-rules T in let l = sizes-given T (table-given T table-ok .0) .rules in omega arith)
+      0 s (serial t s ms) (serial-log .end) (serial-log .accepted) (start .sound) (serial-known t right ne s start ms known e (taken .0) cl)
 
   pub log-allowed : logVerdict T S L ≡ Allowed
   unfolding logVerdict

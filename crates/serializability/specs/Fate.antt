@@ -17,7 +17,7 @@ use Rattle.semantics.specs.Table.{Table}
 use Rattle.semantics.specs.State.{Origin, Entry}
 use Rattle.semantics.specs.Serial.{isEnd}
 use Rattle.serializability.specs.Base.{isInO, found-at}
-use Rattle.serializability.specs.Rules.{Sound}
+use Rattle.serializability.specs.Rules.{Shaped}
 use Rattle.serializability.specs.Key.{Deed, begun, ender, keyOf, ender-ge, key-in, KeyCases, key-cases}
 use Rattle.serializability.specs.Cells.{Source, apply-inv, mine, frame-from}
 use Rattle.serializability.specs.Actions.{StepOk, Seen, received, actionOf, astep, later, act-local}
@@ -58,7 +58,7 @@ next-le t F a = later-le (begun t (a .move)) (F .next)
 
 -- ---- a step of a log
 
-module _ (t : Table) (sd : Sound t) (i : ℕ) (F : Seen) (a : Deed) (g : Good i F) (st : StepOk t i F a) where
+module _ (t : Table) (sd : Shaped t) (i : ℕ) (F : Seen) (a : Deed) (g : Good i F) (st : StepOk t i F a) where
   pub not-zero : (v : ℕ) → isIn v (a .touched) ≡ true → v ≡ 0 → ⊥
   not-zero v h q = clash h (rw q (st .ok .noZero))
 
@@ -148,7 +148,7 @@ module _ (t : Table) (sd : Sound t) (i : ℕ) (F : Seen) (a : Deed) (g : Good i 
 
 -- ---- the log
 
-module _ (t : Table) (sd : Sound t) (G : Seen) where
+module _ (t : Table) (sd : Shaped t) (G : Seen) where
   pub next-good : (i : ℕ) (F : Seen) (a : Deed) (xs : List Deed) → Good i F → LogStep t i F a xs → Good (suc i) (astep t F a)
   next-good i F a xs g r = good-next t sd i F a g (r .step)
 

@@ -19,7 +19,7 @@ use Rattle.semantics.specs.declared.Verdict.the-variants.{Allowed}
 use Rattle.serializability.specs.Statement.{Accepted}
 use Rattle.serializability.specs.Base.{isInO, look}
 use Rattle.serializability.specs.View.{Uniq, look-kept, look-isIn}
-use Rattle.serializability.specs.Rules.{Shape, plain, begin, inner, Sound, owners, touched-plain, touched-begin, touched-inner}
+use Rattle.serializability.specs.Rules.{Shape, plain, begin, inner, Shaped, owners, touched-plain, touched-begin, touched-inner}
 use Rattle.serializability.specs.Key.{Deed, begun, touched, deedAt, deeds, keyOf}
 use Rattle.serializability.specs.Actions.{Seen, strip, received, astep, Ok}
 use Rattle.serializability.specs.Moves.{react-passes, after-allowed}
@@ -36,7 +36,7 @@ pub origins-some : (o : Origin) (l : List Entry) → isInO o (originsOf l) ≡ t
 origins-some o [] h = absurd (false≢true h)
 origins-some o (e ∷ l) h = refl
 
-module _ (t : Table) (sd : Sound t) (i k : ℕ) (s : State) (r : ℕ) (ps : List ℕ) (u : Uniq (s .entries)) (g : Good i (view s)) (K : Ok t (view s) (deedAt t i k s (react r ps))) where
+module _ (t : Table) (sd : Shaped t) (i k : ℕ) (s : State) (r : ℕ) (ps : List ℕ) (u : Uniq (s .entries)) (g : Good i (view s)) (K : Ok t (view s) (deedAt t i k s (react r ps))) where
   abbrev pub R : Rule
   R = ruleAt t r
 
@@ -114,12 +114,12 @@ module _ (t : Table) (sd : Sound t) (i k : ℕ) (s : State) (r : ℕ) (ps : List
           full (inl x) y = absurd (clash x y)
           full (inr x) y = x
 
-pub marked-of : (t : Table) → Sound t → (i k : ℕ) (s : State) (m : Move) → Uniq (s .entries) → Good i (view s) → Ok t (view s) (deedAt t i k s m) → allowed t s m ≡ Allowed → Marked t (view s) (deedAt t i k s m)
+pub marked-of : (t : Table) → Shaped t → (i k : ℕ) (s : State) (m : Move) → Uniq (s .entries) → Good i (view s) → Ok t (view s) (deedAt t i k s m) → allowed t s m ≡ Allowed → Marked t (view s) (deedAt t i k s m)
 marked-of t sd i k s (react r ps) u g K h = marked-react t sd i k s r ps u g K (by-bool (isEmpty (consumed (ruleAt t r))) (λ n. inl n) (λ n. inr (ports-some (consumed (ruleAt t r)) (picked s ps) n (react-passes t s r ps h .ports))))
 marked-of t sd i k s (commit b) u g K h = λ z. absurd (true≢false z)
 marked-of t sd i k s (abort b) u g K h = λ z. absurd (true≢false z)
 
-pub first-of : (t : Table) → Sound t → (i : ℕ) (s : State) (m : Move) → begun t m ≡ true → membersOf t i s m ≡ firstOf i ∷ []
+pub first-of : (t : Table) → Shaped t → (i : ℕ) (s : State) (m : Move) → begun t m ≡ true → membersOf t i s m ≡ firstOf i ∷ []
 first-of t sd i s (react r ps) h = go (sd r)
   where
     go : Shape (ruleAt t r) → membersOf t i s (react r ps) ≡ firstOf i ∷ []
@@ -131,7 +131,7 @@ first-of t sd i s (abort b) h = absurd (false≢true h)
 
 -- ---- the whole log
 
-pub log-runs : (t : Table) → Sound t → (i : ℕ) (s : State) (ms : List Move) (e : State) → Uniq (s .entries) → Good i (view s) → Accepted t i s ms e
+pub log-runs : (t : Table) → Shaped t → (i : ℕ) (s : State) (ms : List Move) (e : State) → Uniq (s .entries) → Good i (view s) → Accepted t i s ms e
     → LogRuns t i (view s) (deeds t i s ms) (view e) × Uniq (e .entries)
 unfolding deeds
 log-runs t sd i s [] e u g h = (ap view h, subst (λ (x : State). Uniq (x .entries)) h u)

@@ -13,7 +13,7 @@ use Rattle.semantics.specs.Table.{Table}
 use Rattle.semantics.specs.State.{Origin, Entry}
 use Rattle.semantics.specs.Serial.{isEnd}
 use Rattle.serializability.specs.Base.{some-inj, none-some, is-none}
-use Rattle.serializability.specs.Rules.{Sound}
+use Rattle.serializability.specs.Rules.{Shaped}
 use Rattle.serializability.specs.Key.{Deed, ender, ender-ge}
 use Rattle.serializability.specs.Cells.{Source, apply, apply-inv}
 use Rattle.serializability.specs.Actions.{Seen, received, actionBy, actionOf, astep, Ok, end-ok, one-in, in-one, act-local}
@@ -39,7 +39,7 @@ none-after t i F G [] ys r o h m = h
 none-after t i F G (a ∷ xs) ys r o h m = none-after t (suc i) (astep t F a) G xs ys (r .1) o (none-stay t F a (r .0 .step .ok) o h (let w = r .0 .step .place in omega arith)) (omega arith)
 
 -- the rest of a log
-pub log-rest : (t : Table) → Sound t → (i : ℕ) (F G : Seen) (xs ys : List Deed) → Good i F → LogRuns t i F (xs ++ ys) G → (j : ℕ) → j ≡ i + length xs → LogRuns t j (seenAfter t F xs) ys G × Good j (seenAfter t F xs)
+pub log-rest : (t : Table) → Shaped t → (i : ℕ) (F G : Seen) (xs ys : List Deed) → Good i F → LogRuns t i F (xs ++ ys) G → (j : ℕ) → j ≡ i + length xs → LogRuns t j (seenAfter t F xs) ys G × Good j (seenAfter t F xs)
 log-rest t sd i F G [] ys g r j q = let w : i ≡ j = omega arith in (subst (λ (k : ℕ). LogRuns t k F ys G) w r, subst (λ (k : ℕ). Good k F) w g)
 log-rest t sd i F G (x ∷ xs) ys g r j q = log-rest t sd (suc i) (astep t F x) G xs ys (next-good t sd G i F x (xs ++ ys) g (r .0)) (r .1) j (omega arith)
 
@@ -47,7 +47,7 @@ pub place-length : (t : Table) (i : ℕ) (F G : Seen) (xs ys : List Deed) (a : D
 place-length t i F G [] ys a r = let w = r .0 .step .place in omega arith
 place-length t i F G (x ∷ xs) ys a r = let w = place-length t (suc i) (astep t F x) G xs ys a (r .1) in omega arith
 
-module _ (t : Table) (sd : Sound t) (G : Seen) (a : Deed) (ys : List Deed) where
+module _ (t : Table) (sd : Shaped t) (G : Seen) (a : Deed) (ys : List Deed) where
   pub place-ge : (i : ℕ) (F : Seen) (xs : List Deed) → LogRuns t i F (xs ++ a ∷ ys) G → i ≤ a .place
   place-ge i F xs r = let w = place-length t i F G xs ys a r in omega arith
 

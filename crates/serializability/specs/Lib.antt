@@ -1,6 +1,7 @@
 pub mod Base
 pub mod View
 pub mod Rules
+pub mod Shapes
 pub mod Key
 pub mod Cells
 pub mod Actions
@@ -24,11 +25,8 @@ pub mod ReplayReact
 pub mod ReplayEnd
 pub mod Replay
 pub mod States
-pub mod Tidy
 pub mod SameEnd
 pub mod Decoded
-pub mod TableWords
-pub mod StateWords
 pub mod LogWords
 pub mod RunWords
 pub mod Demand3

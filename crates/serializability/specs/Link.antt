@@ -20,7 +20,7 @@ use Rattle.semantics.specs.declared.Verdict.the-variants.{Allowed}
 use Rattle.wellformed.specs.Picks.{ReactGiven}
 use Rattle.serializability.specs.Base.{orElse, orElse-none, omap, bindO, isInO, look, none-some, look-all, is-none, omap-some}
 use Rattle.serializability.specs.View.{look-map, Uniq, look-head, look-deeper, look-at, uniq-keep, ports-head, ports-tail, ports-messages, ports-range, picks-distinct, any-look, look-kept, kept-look, look-isIn}
-use Rattle.serializability.specs.Rules.{Shape, plain, begin, inner, Sound, owners, values, touchedBy, global-fit, touched-begin, touched-inner, touched-least, touched-positive, touched-merge, make}
+use Rattle.serializability.specs.Rules.{Shape, plain, begin, inner, Shaped, owners, values, touchedBy, global-fit, touched-begin, touched-inner, touched-least, touched-positive, touched-merge, make}
 use Rattle.serializability.specs.Key.{touched, handled, deedAt}
 use Rattle.serializability.specs.Cells.{Cells, apply, mine}
 use Rattle.serializability.specs.Actions.{StepOk, Seen, strip, cellValue, left, endAction, actionBy, astep, markOf, AllMarks, mayLeave, Ok, mine-in, mine-zero, later}
@@ -103,7 +103,7 @@ cell-eq false none none g h p = refl
 cell-eq false none (some e) g h p = refl
 cell-eq false (some e) y g h p = ap {B = Option Entry} some (p e)
 
-module _ (t : Table) (sd : Sound t) (i k : ℕ) (s : State) (r : ℕ) (ps : List ℕ) (u : Uniq (s .entries)) (g : Good i (view s)) (P : ReactGiven (ruleAt t r) s ps) where
+module _ (t : Table) (sd : Shaped t) (i k : ℕ) (s : State) (r : ℕ) (ps : List ℕ) (u : Uniq (s .entries)) (g : Good i (view s)) (P : ReactGiven (ruleAt t r) s ps) where
   abbrev pub R : Rule
   R = ruleAt t r
 
@@ -286,7 +286,7 @@ module _ (t : Table) (i k : ℕ) (s : State) (b : ℕ) (u : Uniq (s .entries)) (
   }
 
 -- any allowed move
-pub sim : (t : Table) → Sound t → (i k : ℕ) (s : State) (m : Move) → Uniq (s .entries) → Good i (view s) → allowed t s m ≡ Allowed → Sim t i k s m
+pub sim : (t : Table) → Shaped t → (i k : ℕ) (s : State) (m : Move) → Uniq (s .entries) → Good i (view s) → allowed t s m ≡ Allowed → Sim t i k s m
 sim t sd i k s (react r ps) u g h = sim-react t sd i k s r ps u g (react-passes t s r ps h)
 sim t sd i k s (commit b) u g h = let q = commit-passes t s b h in sim-commit t i k s b u g (q .0) (q .1)
 sim t sd i k s (abort b) u g h = let q = abort-passes t s b h in sim-abort t i k s b u g (q .0) (q .1)

@@ -19,7 +19,7 @@ use Rattle.semantics.specs.Serial.{isEnd}
 use Rattle.semantics.specs.declared.Atom.{Atom}
 use Rattle.serializability.specs.Base.{orElse, bindO, isInO, look, some-inj, none-some, found-at, same-refl}
 use Rattle.serializability.specs.View.{ports-messages}
-use Rattle.serializability.specs.Rules.{Shape, plain, begin, inner, Sound, owners, touched-plain, touched-inner, make}
+use Rattle.serializability.specs.Rules.{Shape, plain, begin, inner, Shaped, owners, touched-plain, touched-inner, make}
 use Rattle.serializability.specs.Key.{Deed, begun}
 use Rattle.serializability.specs.Cells.{Cells, apply, Source}
 use Rattle.serializability.specs.Actions.{Seen, strip, left, endAction, actionBy, markOf, EndTests, Tests, Ok, product-of, left-result, in-one, end-local}
@@ -64,7 +64,7 @@ end-live f b (o ∷ os) (e ∷ es) h m n = let q = and-left (markOf b e) (all (m
     (o, e, head-eq h, eqb-true (e .kind) 3 (and-left (isMemberMark e) (owned b e) q), eqb-true (e .owner) b (and-right (isMemberMark e) (owned b e) q))
 
 -- which transactions: by sort
-pub touched-cases : (t : Table) → Sound t → (a : Deed) (es : List Entry) (r : ℕ) (ps : List ℕ) → Tests t a es (react r ps) → begins (ruleAt t r) ≡ false → (a .touched ≡ []) ⊎ (a .touched ≡ owners es)
+pub touched-cases : (t : Table) → Shaped t → (a : Deed) (es : List Entry) (r : ℕ) (ps : List ℕ) → Tests t a es (react r ps) → begins (ruleAt t r) ≡ false → (a .touched ≡ []) ⊎ (a .touched ≡ owners es)
 touched-cases t sd a es r ps T n = go (sd r)
   where
     go : Shape (ruleAt t r) → (a .touched ≡ []) ⊎ (a .touched ≡ owners es)
@@ -72,7 +72,7 @@ touched-cases t sd a es r ps T n = go (sd r)
     go (begin c b h m rest q w k) = absurd (clash b n)
     go (inner c b h k) = inr (T .2 ∙ touched-inner (ruleAt t r) (least (a .touched)) (owners es) c b)
 
-pub touched-live : (t : Table) → Sound t → (F : Seen) (a : Deed) → Ok t F a → begun t (a .move) ≡ false → (v : ℕ) → isIn v (a .touched) ≡ true → (o : Origin) × (e : Entry) × (F .cell o ≡ some e) × (e .owner ≡ v)
+pub touched-live : (t : Table) → Shaped t → (F : Seen) (a : Deed) → Ok t F a → begun t (a .move) ≡ false → (v : ℕ) → isIn v (a .touched) ≡ true → (o : Origin) × (e : Entry) × (F .cell o ≡ some e) × (e .owner ≡ v)
 touched-live t sd F a k n v h = go (a .move) (k .tests) n
   where
     by-end : EndTests a (k .es) → (o : Origin) × (e : Entry) × (F .cell o ≡ some e) × (e .owner ≡ v)
@@ -130,7 +130,7 @@ begin-mark R (begin c b h m rest q z k) n i w vs = subst (λ (l : List Atom). (e
   refl,
 )
 
-pub mark-made : (t : Table) → Sound t → (f : Cells) (a : Deed) (vs : List ℕ) (mv : Move) → begun t mv ≡ true → f (firstOf (a .place)) ≡ none
+pub mark-made : (t : Table) → Shaped t → (f : Cells) (a : Deed) (vs : List ℕ) (mv : Move) → begun t mv ≡ true → f (firstOf (a .place)) ≡ none
     → MarkAt (apply f (actionBy t (a .place) (a .picks) (a .touched) vs mv)) (firstOf (a .place)) (least (a .touched))
 unfolding actionBy
 mark-made t sd f a vs (commit b) n fr = absurd (false≢true n)

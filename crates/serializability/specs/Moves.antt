@@ -8,17 +8,16 @@ use native.Mathlib.Omega.{arith}
 use lib.Dec.{eqb}
 use borrow.Author.Tests.{eqb-true, eq-eqb}
 use lib.ListN.{length}
-use Rattle.lists.specs.Lists.{distinct, least, without, keep}
-use Rattle.lists.specs.Choices.{is-false, and-left, and-right}
+use Rattle.lists.specs.Lists.{least, without, keep}
+use Rattle.lists.specs.Choices.{is-false}
 use Rattle.lists.specs.Each.{All}
-use Rattle.semantics.specs.Table.{Table, Rule, ruleAt, consumed, productAtoms}
+use Rattle.semantics.specs.Table.{Table, Rule, ruleAt, productAtoms}
 use Rattle.semantics.specs.State.{Origin, Entry, State, owned}
-use Rattle.semantics.specs.Move.{Move, react, commit, abort, unless, both, picked, onPorts, picksOk, ownersAt, ownersFit, hasId, merged, reacted, isOpen, mayCommit, mayAbort, toGlobal, freed, ended, allowed, applied, step}
+use Rattle.semantics.specs.Move.{Move, react, commit, abort, unless, picked, ownersAt, ownersFit, merged, reacted, isOpen, mayCommit, mayAbort, toGlobal, freed, ended, allowed, applied, step}
 use Rattle.semantics.specs.Serial.{originsOf, sameOrigin, after}
 use Rattle.semantics.specs.declared.Atom.{Atom}
 use Rattle.semantics.specs.declared.Refusal.the-variants.{NoTransaction, EndNotAllowed}
-use Rattle.semantics.specs.declared.Verdict.{Verdict}
-use Rattle.semantics.specs.declared.Verdict.the-variants.{Allowed, Denied}
+use Rattle.semantics.specs.declared.Verdict.the-variants.{Allowed}
 use Rattle.wellformed.specs.Verdicts.{both-allowed, unless-allowed}
 use Rattle.wellformed.specs.Picks.{ReactGiven, react-given}
 use Rattle.serializability.specs.Base.{orElse, omap, bindO, same-eq, isInO, look, none-some, look-origin, look-all, is-none}

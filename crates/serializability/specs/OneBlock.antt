@@ -18,7 +18,7 @@ use Rattle.semantics.specs.State.{Origin}
 use Rattle.semantics.specs.Serial.{isEnd, isInner, sameOrigin, belongsTo}
 use Rattle.serializability.specs.Statement.{endsMemberOf}
 use Rattle.serializability.specs.Base.{isInO, none-some}
-use Rattle.serializability.specs.Rules.{Sound}
+use Rattle.serializability.specs.Rules.{Shaped}
 use Rattle.serializability.specs.Key.{Deed, actOf, ender-ge, key-full}
 use Rattle.serializability.specs.Actions.{Seen, received, astep, Ok, end-ok, one-in}
 use Rattle.serializability.specs.Link.{Good}
@@ -48,7 +48,7 @@ removed t F b k en o h =
     let m = end-member F b E o h in
     mark-gone t (F .cell) b (k .es) (received F b) o (m .0) (b .move) (k .tests) en (rw (m .3) (one-in (b .touched) (E .one))) (m .1) (m .2)
 
-module _ (t : Table) (sd : Sound t) (G : Seen) where
+module _ (t : Table) (sd : Shaped t) (G : Seen) where
   -- x shares no member with an end before it
   pub ended-before : (i : ℕ) (F : Seen) (b : Deed) (zs ys : List Deed) (x : Deed) → Good i F → LogRuns t i F (b ∷ zs ++ x ∷ ys) G → isEnd (x .move) ≡ false → endsMemberOf (actOf x) (actOf b) ≡ false
   ended-before i F b zs ys x g r nx = is-false (endsMemberOf (actOf x) (actOf b)) (λ h.

@@ -22,7 +22,6 @@ use Rattle.serializability.specs.View.{Uniq, place-found}
 use Rattle.serializability.specs.Rules.{owners, values, zeros, make}
 use Rattle.serializability.specs.Actions.{Seen, strip}
 use Rattle.serializability.specs.Link.{view, view-cell, view-some, strip-message}
-use Rattle.serializability.specs.Named.{Named}
 
 abbrev pub rename : (ℕ → ℕ) → Entry → Entry
 rename ρ e = record { origin = e .origin; owner = ρ (e .owner); kind = e .kind; port = e .port; value = e .value }
@@ -34,7 +33,6 @@ Live F v = (v ≡ 0) ⊎ ((o : Origin) × (e : Entry) × (F .cell o ≡ some e) 
 -- the state c has F's cells, with each owner v under the name ρ v
 pub record Rel (c : State) (F : Seen) (ρ : ℕ → ℕ) : Type 0 where
   pub uniq : Uniq (c .entries)
-  pub named : Named c
   pub next-is : c .next ≡ F .next
   pub cells : (o : Origin) → view c .cell o ≡ omap (rename ρ) (F .cell o)
   pub zero-is : ρ 0 ≡ 0

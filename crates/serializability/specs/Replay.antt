@@ -12,14 +12,17 @@ use Rattle.semantics.specs.State.{Origin, State, markValues}
 use Rattle.semantics.specs.Move.{Move, react, commit, abort, picked, entriesIn, allowed, applied}
 use Rattle.semantics.specs.Serial.{Act, originsOf, marksIn, after, again, replayed}
 use Rattle.semantics.specs.declared.Verdict.the-variants.{Allowed}
+use Rattle.wellformed.specs.Rules.{TableRight}
+use Rattle.wellformed.specs.Entries.{Sound}
+use Rattle.wellformed.specs.Preservation.{RuleKnown, applied-keeps}
 use Rattle.serializability.specs.Statement.{stateBefore, SameMove, reaction, committed, aborted, noMove}
 use Rattle.serializability.specs.Base.{isInO}
 use Rattle.serializability.specs.View.{Uniq}
-use Rattle.serializability.specs.Rules.{Sound}
+use Rattle.serializability.specs.Rules.{Shaped}
 use Rattle.serializability.specs.Key.{Deed, withMove, touched, handled, deeds, actOf}
 use Rattle.serializability.specs.Actions.{Seen, end-ok, actionBy, astep, Ok}
 use Rattle.serializability.specs.Moves.{react-allowed, after-allowed}
-use Rattle.serializability.specs.Named.{smallest}
+use Rattle.serializability.specs.Named.{Named, named-of, smallest}
 use Rattle.serializability.specs.Rename.{Rel}
 use Rattle.serializability.specs.Sort.{Runs}
 use Rattle.serializability.specs.ReplayReact as React
@@ -45,7 +48,7 @@ pub record Next (t : Table) (c : State) (F : Seen) (a : Deed) (m : Move) : Type 
   pub names : ℕ → ℕ
   pub rel : Rel (applied t (suc (a .place)) c m) (astep t F a) names
 
-module _ (t : Table) (sd : Sound t) (c : State) (F : Seen) (ρ : ℕ → ℕ) (rel : Rel c F ρ) (a : Deed) where
+module _ (t : Table) (sd : Shaped t) (c : State) (F : Seen) (ρ : ℕ → ℕ) (rel : Rel c F ρ) (N : Named c) (a : Deed) where
   abbrev pub NextBy : Move → Type 0
   NextBy m = Ok t F (withMove a m) → Next t c F (withMove a m) (again c (actOf (withMove a m)) m)
 
@@ -65,12 +68,12 @@ module _ (t : Table) (sd : Sound t) (c : State) (F : Seen) (ρ : ℕ → ℕ) (r
       let E = end-ok t F d k refl in
       let b = ρ (least (a .touched)) in
       let moved : Next t c F d (commit b) = record {
-        again = commits x b (End.members-same c F ρ rel d E) (smallest c (rel .uniq) (rel .named) b (End.own-there c F ρ rel d E));
-        allows = rw (End.open-there c F ρ rel d E, End.may-commit c F ρ rel d E t (k .whole .0));
+        again = commits x b (End.members-same c F ρ rel N d E) (smallest c (rel .uniq) N b (End.own-there c F ρ rel N d E));
+        allows = rw (End.open-there c F ρ rel N d E, End.may-commit c F ρ rel N d E t (k .whole .0));
         names = ρ;
-        rel = End.rel-end c F ρ rel d E 0 (omega arith);
+        rel = End.rel-end c F ρ rel N d E 0 (omega arith);
       } in
-      subst (λ (b : ℕ). Next t c F d (commit b)) (sym (End.least-members c F ρ rel d E)) moved
+      subst (λ (b : ℕ). Next t c F d (commit b)) (sym (End.least-members c F ρ rel N d E)) moved
 
   pub abort-next : (x : ℕ) → NextBy (abort x)
   unfolding again astep actionBy applied allowed
@@ -79,12 +82,12 @@ module _ (t : Table) (sd : Sound t) (c : State) (F : Seen) (ρ : ℕ → ℕ) (r
       let E = end-ok t F d k refl in
       let b = ρ (least (a .touched)) in
       let moved : Next t c F d (abort b) = record {
-        again = aborts x b (End.members-same c F ρ rel d E) (smallest c (rel .uniq) (rel .named) b (End.own-there c F ρ rel d E));
-        allows = rw (End.open-there c F ρ rel d E, End.may-abort c F ρ rel d E (k .whole .0));
+        again = aborts x b (End.members-same c F ρ rel N d E) (smallest c (rel .uniq) N b (End.own-there c F ρ rel N d E));
+        allows = rw (End.open-there c F ρ rel N d E, End.may-abort c F ρ rel N d E (k .whole .0));
         names = ρ;
-        rel = End.rel-end c F ρ rel d E 1 (omega arith);
+        rel = End.rel-end c F ρ rel N d E 1 (omega arith);
       } in
-      subst (λ (b : ℕ). Next t c F d (abort b)) (sym (End.least-members c F ρ rel d E)) moved
+      subst (λ (b : ℕ). Next t c F d (abort b)) (sym (End.least-members c F ρ rel N d E)) moved
 
   pub next : Ok t F a → Next t c F a (again c (actOf a) (a .move))
   next k = go (a .move) k
@@ -111,15 +114,23 @@ pub record Ends (t : Table) (c : State) (xs : List Deed) (G : Seen) : Type 0 whe
   pub goes : Goes t c (map actOf xs) state
   pub agains : Agains t c xs
   pub rel : Rel state G names
+  pub sound : Sound (t .sizes) state
 
-pub replay-runs : (t : Table) → Sound t → (xs : List Deed) (c : State) (F G : Seen) (ρ : ℕ → ℕ) → Rel c F ρ → Runs t F xs G → Ends t c xs G
-replay-runs t sd [] c F G ρ rel h = record { state = c; names = ρ; goes = refl; agains = tt; rel = subst (λ (H : Seen). Rel c H ρ) h rel }
-replay-runs t sd (a ∷ xs) c F G ρ rel h =
-    let n = next t sd c F ρ rel a (h .0) in
+pub again-known : (t : Table) (c : State) (a : Act) (m : Move) → RuleKnown t m → RuleKnown t (again c a m)
+unfolding again
+again-known t c a (react r ps) h = h
+again-known t c a (commit b) h = tt
+again-known t c a (abort b) h = tt
+
+pub replay-runs : (t : Table) → TableRight t → Shaped t → (xs : List Deed) (c : State) (F G : Seen) (ρ : ℕ → ℕ) → Rel c F ρ → Sound (t .sizes) c → All (λ a. RuleKnown t (a .move)) xs → Runs t F xs G → Ends t c xs G
+replay-runs t right sd [] c F G ρ rel sound known h = record { state = c; names = ρ; goes = refl; agains = tt; rel = subst (λ (H : Seen). Rel c H ρ) h rel; sound = sound }
+replay-runs t right sd (a ∷ xs) c F G ρ rel sound known h =
+    let n = next t sd c F ρ rel (named-of (t .sizes) c (rel .uniq) (sound .right)) a (h .0) in
     let m = again c (actOf a) (a .move) in
     let q : applied t (suc (a .place)) c m ≡ after t (suc (a .place)) c m = sym (after-allowed t (suc (a .place)) c m (n .allows)) in
-    let e = replay-runs t sd xs (after t (suc (a .place)) c m) (astep t F a) G (n .names) (subst (λ (x : State). Rel x (astep t F a) (n .names)) q (n .rel)) (h .1) in
-    record { state = e .state; names = e .names; goes = (n .allows, e .goes); agains = (rel .uniq, n .again, e .agains); rel = e .rel }
+    let still = applied-keeps right sound (suc (a .place)) m (again-known t c (actOf a) (a .move) (known .0)) (n .allows) in
+    let e = replay-runs t right sd xs (after t (suc (a .place)) c m) (astep t F a) G (n .names) (subst (λ (x : State). Rel x (astep t F a) (n .names)) q (n .rel)) (subst (Sound (t .sizes)) q still) (known .1) (h .1) in
+    record { state = e .state; names = e .names; goes = (n .allows, e .goes); agains = (rel .uniq, n .again, e .agains); rel = e .rel; sound = e .sound }
 
 -- ---- the j-th move
 

@@ -24,7 +24,7 @@ use Rattle.serializability.specs.Actions.{Seen, strip, left, endAction, 
 use Rattle.serializability.specs.Moves.{ofKind, look-ended, uniq-ended}
 use Rattle.serializability.specs.Link.{view-cell, Mark, left-strip, marked, marked-mark, mark-marked}
 use Rattle.serializability.specs.Marks.{end-live}
-use Rattle.serializability.specs.Named.{OwnMark, named-ended}
+use Rattle.serializability.specs.Named.{OwnMark, Named}
 use Rattle.serializability.specs.Rename.{rename, Live, Rel, there, back-again, live-zero}
 
 -- a function on the origins of a list
@@ -44,7 +44,7 @@ value-from f v (q ∷ os) h = go (value-from f v os) (isIn-cases v (f q) (map f 
     go ih (inl w) = (q, isInO-head q os, sym w)
     go ih (inr w) = let r = ih w in (r .0, isInO-cons (r .0) q os (r .1), r .2)
 
-module _ (c : State) (F : Seen) (ρ : ℕ → ℕ) (rel : Rel c F ρ) (a : Deed) (E : EndOk F a) where
+module _ (c : State) (F : Seen) (ρ : ℕ → ℕ) (rel : Rel c F ρ) (N : Named c) (a : Deed) (E : EndOk F a) where
   abbrev pub b : ℕ
   b = least (a .touched)
 
@@ -74,7 +74,7 @@ module _ (c : State) (F : Seen) (ρ : ℕ → ℕ) (rel : Rel c F ρ) (a : Deed)
 
   pub own-there : OwnMark (c .entries) b′
   own-there = let q = ours (mark-there .0) (mark-there .1) (mark-there .2) (mark-there .4) in
-      subst (λ (v : ℕ). OwnMark (c .entries) v) (q .2) (rel .named .own (mark-there .0) (q .0) (q .1) (λ z. positive′ (sym (q .2) ∙ z)))
+      subst (λ (v : ℕ). OwnMark (c .entries) v) (q .2) (N .own (mark-there .0) (q .0) (q .1) (λ z. positive′ (sym (q .2) ∙ z)))
 
   -- ---- the same members
 
@@ -115,7 +115,7 @@ module _ (c : State) (F : Seen) (ρ : ℕ → ℕ) (rel : Rel c F ρ) (a : Deed)
           go (o, d, h, k, w, v) = subst (λ (n : ℕ). isIn n (map (valueAt c) (a .picks)) ≡ true) (value-is o d h ∙ v) (value-of (valueAt c) o (a .picks) (mark-picked o d h k w))
 
       at-least : (v : ℕ) → (o : Origin) × (isInO o (a .picks) ≡ true) × (valueAt c o ≡ v) → b′ ≤ v
-      at-least v (o, h, w) = let d = picked-mark o h in let x = rel .named .marks o (d .0) (d .1) (d .2) in let y = value-is o (d .0) (d .1) in let z = d .3 in omega arith
+      at-least v (o, h, w) = let d = picked-mark o h in let x = N .marks o (d .0) (d .1) (d .2) in let y = value-is o (d .0) (d .1) in let z = d .3 in omega arith
 
   -- ---- allowed
 
@@ -169,7 +169,6 @@ module _ (c : State) (F : Seen) (ρ : ℕ → ℕ) (rel : Rel c F ρ) (a : Deed)
     unfolding ended
     rel-end = record {
       uniq = uniq-ended k b′ c (rel .uniq);
-      named = named-ended k b′ c (rel .uniq) (rel .named);
       next-is = rel .next-is;
       cells = λ o. view-cell (ended (ofKind k) b′ c) o ∙ ap (omap strip) (look-ended k b′ c (rel .uniq) o) ∙ left-strip k b′ kl (look o (c .entries))
           ∙ ap (bindO (left k b′)) (sym (view-cell c o) ∙ rel .cells o) ∙ left-rename (F .cell o) (λ e h. inr (o, e, h, refl)) ∙ ap (omap (rename ρ)) (sym (orElse-none (bindO (left k b) (F .cell o))));

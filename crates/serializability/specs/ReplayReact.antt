@@ -10,7 +10,7 @@ use native.Mathlib.Omega.{arith}
 use lib.Dec.{eqb, ltb}
 use borrow.Author.Tests.{eqb-true, eqb-false, eq-eqb, ne-eqb}
 use lib.ListN.{length}
-use Rattle.lists.specs.Lists.{isIn, distinct, least}
+use Rattle.lists.specs.Lists.{isIn, least}
 use Rattle.lists.specs.Choices.{by-bool, clash, is-false}
 use Rattle.lists.specs.Numbers.{least-in, least-some, least-pos, isIn-map, isIn-unmap}
 use Rattle.lists.specs.Each.{All}
@@ -21,7 +21,7 @@ use Rattle.semantics.specs.Serial.{originsOf}
 use Rattle.wellformed.specs.Picks.{ReactGiven}
 use Rattle.serializability.specs.Base.{orElse, omap, bindO, isInO, distinctO, look, none-some, is-none}
 use Rattle.serializability.specs.View.{look-map, ports-messages, picks-distinct}
-use Rattle.serializability.specs.Rules.{Shape, plain, begin, inner, Sound, owners, values, touchedBy, touched-plain, touched-begin, touched-inner, touched-merge, make}
+use Rattle.serializability.specs.Rules.{Shape, plain, begin, inner, Shaped, owners, values, touchedBy, touched-plain, touched-begin, touched-inner, touched-merge, make}
 use Rattle.serializability.specs.Key.{Deed, withMove}
 use Rattle.serializability.specs.Cells.{apply, apply-inv}
 use Rattle.serializability.specs.Actions.{Seen, strip, received, reactAction, actionBy, later, Tests, Ok}
@@ -30,7 +30,6 @@ use Rattle.serializability.specs.Moves.{productsOf, look-reacted, uniq-r
 use Rattle.serializability.specs.Link.{view, view-cell, cell-eq}
 use Rattle.serializability.specs.Marks.{From, came, owner-live}
 use Rattle.serializability.specs.Fate.{later-le}
-use Rattle.serializability.specs.Named.{named-react}
 use Rattle.serializability.specs.Rename.{rename, Live, Rel, ports-rename, owners-rename, values-rename, fit-rename, make-rename, cell-rename, back-again, nowAt, picked-again, live-zero}
 
 abbrev pub upd : (ℕ → ℕ) → ℕ → ℕ → ℕ → ℕ
@@ -42,7 +41,7 @@ upd-at ρ b n = rw (eq-eqb b b refl)
 pub upd-off : (ρ : ℕ → ℕ) (b n v : ℕ) → (v ≡ b → ⊥) → upd ρ b n v ≡ ρ v
 upd-off ρ b n v h = rw (ne-eqb v b h)
 
-module _ (t : Table) (sd : Sound t) (c : State) (F : Seen) (ρ : ℕ → ℕ) (rel : Rel c F ρ) (a : Deed) (r : ℕ) (ps : List ℕ) (K : Ok t F (withMove a (react r ps))) where
+module _ (t : Table) (sd : Shaped t) (c : State) (F : Seen) (ρ : ℕ → ℕ) (rel : Rel c F ρ) (a : Deed) (r : ℕ) (ps : List ℕ) (K : Ok t F (withMove a (react r ps))) where
   abbrev pub es : List Entry
   es = K .es
 
@@ -239,7 +238,6 @@ module _ (t : Table) (sd : Sound t) (c : State) (F : Seen) (ρ : ℕ → ℕ) (r
   unfolding reacted
   rel-react = record {
     uniq = uniq-reacted R (sd r) (suc (a .place)) c qs fit-c (rel .uniq) (seen-again .2) fresh-c;
-    named = named-react R (sd r) (suc (a .place)) c qs (rel .uniq) (rel .named) fresh-c passes;
     next-is = ap (later (begins R)) (rel .next-is);
     cells = cells-after;
     zero-is = old-name 0 (K .noZero) ∙ rel .zero-is;

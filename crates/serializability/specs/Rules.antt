@@ -25,8 +25,8 @@ pub data Shape (r : Rule) : Type 0 where
   -- a local or merge rule: it consumes something, and emits or aborts
   inner : eqb (r .class) 0 ≡ false → begins r ≡ false → isEmpty (consumed r) ≡ false → all (λ a. hasRole 1 a || hasRole 5 a) (productAtoms r) ≡ true → Shape r
 
-abbrev pub Sound : Table → Type 0
-Sound t = (r : ℕ) → Shape (ruleAt t r)
+abbrev pub Shaped : Table → Type 0
+Shaped t = (r : ℕ) → Shape (ruleAt t r)
 
 abbrev pub owners : List Entry → List ℕ
 owners es = map (λ e. e .owner) es

@@ -15,7 +15,6 @@ use Rattle.serializability.specs.View.{look-map, Uniq, uniq-map, all-loo
 use Rattle.serializability.specs.Actions.{strip}
 use Rattle.serializability.specs.Link.{view, strip-message}
 use Rattle.serializability.specs.Fate.{NoneOpen}
-use Rattle.serializability.specs.Tidy.{Tidy}
 use Rattle.serializability.specs.Rename.{rename, Rel}
 
 -- ---- two lists of entries with different origins that look alike
@@ -90,21 +89,11 @@ module _ (c e : State) (ρ : ℕ → ℕ) (rel : Rel c (view e) ρ) (n : NoneOpe
   end-closed = closed-all (c .entries) (all-look (owned 0) (c .entries) (rel .uniq)
       (λ o d h. eq-eqb (d .owner) 0 (n o (strip d) (sym (cells-same o) ∙ look-map strip (λ e. refl) o (c .entries) ∙ ap (omap strip) h))))
 
-  pub messages-same : Tidy (view e .cell) → (p : Entry → Bool) → count p (c .entries) ≡ count p (e .entries)
-  unfolding view NoneOpen Tidy
-  messages-same T p = ap (count p) (sym (strip-all (c .entries) kinds-c))
+  pub messages-same : all isMessage (c .entries) ≡ true → all isMessage (e .entries) ≡ true → (p : Entry → Bool) → count p (c .entries) ≡ count p (e .entries)
+  messages-same kinds-c kinds-e p = ap (count p) (sym (strip-all (c .entries) kinds-c))
       ∙ count-alike p (map strip (c .entries)) (map strip (e .entries)) (uniq-map strip (λ e. refl) (c .entries) (rel .uniq)) (uniq-map strip (λ e. refl) (e .entries) u) cells-same
       ∙ ap (count p) (strip-all (e .entries) kinds-e)
     where
       strip-all : (l : List Entry) → all isMessage l ≡ true → map strip l ≡ l
       strip-all [] h = refl
       strip-all (x ∷ l) h = λ j. strip-message x (and-left (isMessage x) (all isMessage l) h) j ∷ strip-all l (and-right (isMessage x) (all isMessage l) h) j
-
-      seen-kind : (o : Origin) (d : Entry) → look o (map strip (e .entries)) ≡ some (strip d) → isMessage d ≡ true
-      seen-kind o d h = eq-eqb (d .kind) 0 (T o (strip d) h (n o (strip d) h))
-
-      kinds-e : all isMessage (e .entries) ≡ true
-      kinds-e = all-look isMessage (e .entries) u (λ o d h. seen-kind o d (look-map strip (λ e. refl) o (e .entries) ∙ ap (omap strip) h))
-
-      kinds-c : all isMessage (c .entries) ≡ true
-      kinds-c = all-look isMessage (c .entries) (rel .uniq) (λ o d h. seen-kind o d (sym (cells-same o) ∙ look-map strip (λ e. refl) o (c .entries) ∙ ap (omap strip) h))

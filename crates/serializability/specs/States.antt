@@ -3,14 +3,13 @@
 use mathlib.Core.Path.{_≡_, refl, sym, ap, subst, _∙_}
 use mathlib.Core.Bool.{Bool, true, false, cond}
 use mathlib.Core.Option.{none, some}
-use mathlib.Core.List.{List, [], _∷_, _++_, map}
+use mathlib.Core.List.{List, [], _∷_}
 use Prim.Native.Nat.{ℕ, zero, suc, _+_, _≤_}
 use native.Mathlib.Omega.{arith}
-use lib.ListN.{length, getD, length-map}
+use lib.ListN.{length, getD}
 use Rattle.lists.specs.Lists.{count, oneIf, upFrom}
-use Rattle.semantics.specs.Words.{itemWord}
 use Rattle.semantics.specs.Table.{Table}
-use Rattle.semantics.specs.State.{Origin, Entry, State, stateWords}
+use Rattle.semantics.specs.State.{Origin, Entry, State}
 use Rattle.semantics.specs.Move.{Move, allowed, applied, steppedBy, step}
 use Rattle.semantics.specs.Serial.{sameOrigin, stateOr, after, along}
 use Rattle.semantics.specs.declared.Verdict.{Verdict}
@@ -18,7 +17,7 @@ use Rattle.semantics.specs.declared.Verdict.the-variants.{Allowed, Denied}
 use Rattle.serializability.specs.Statement.{Accepted, stateBefore}
 use Rattle.serializability.specs.Base.{look, none-some, same-eq}
 use Rattle.serializability.specs.View.{Uniq}
-use Rattle.serializability.specs.Rules.{Sound}
+use Rattle.serializability.specs.Rules.{Shaped}
 use Rattle.serializability.specs.Key.{deedAt}
 use Rattle.serializability.specs.Actions.{Seen}
 use Rattle.serializability.specs.Moves.{after-allowed}
@@ -45,7 +44,7 @@ origin-once o (e ∷ l) u = go (sameOrigin o (e .origin)) refl (origin-once o l 
     go false q ih = omega arith
 
 -- every state of the log
-pub log-uniq : (t : Table) → Sound t → (i : ℕ) (s : State) (ms : List Move) (e : State) → Uniq (s .entries) → Good i (view s) → Accepted t i s ms e → (j : ℕ) → Uniq (stateBefore t (upFrom i (length ms)) s ms j .entries)
+pub log-uniq : (t : Table) → Shaped t → (i : ℕ) (s : State) (ms : List Move) (e : State) → Uniq (s .entries) → Good i (view s) → Accepted t i s ms e → (j : ℕ) → Uniq (stateBefore t (upFrom i (length ms)) s ms j .entries)
 unfolding stateBefore
 log-uniq t sd i s ms e u g h zero = u
 log-uniq t sd i s [] e u g h (suc j) = u
