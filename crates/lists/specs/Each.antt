@@ -1,11 +1,10 @@
 -- A type for each element of a list, and laws of all, any, keep and count, for every element type.
-use Prim.Native.Nat.{ℕ, suc, _+_}
+use Prim.Native.Nat.{_+_}
 use mathlib.Core.List.{List, [], _∷_, _++_, map, nil≢cons}
-use mathlib.Core.Bool.{Bool, true, false, _||_, not, true≢false, false≢true}
+use mathlib.Core.Bool.{Bool, true, false, _||_, true≢false, false≢true}
 use mathlib.Core.Path.{_≡_, refl}
 use native.Mathlib.Omega.{arith}
-use Rattle.lists.specs.Lists.{all, any, isIn, keep, keepIf, count, oneIf, isEmpty, without}
-use Rattle.lists.specs.Tests.{or-right-true}
+use Rattle.lists.specs.Lists.{all, any, keep, keepIf, count, oneIf, isEmpty}
 use Rattle.lists.specs.Choices.{and-intro, and-left, and-right}
 
 pub head-eq : {A : Type 0} {x y : A} {xs ys : List A} → Path (List A) (x ∷ xs) (y ∷ ys) → x ≡ y
@@ -31,14 +30,6 @@ module _ {A : Type 0} where
   pub All-append : (P : A → Type 0) (xs ys : List A) → All P xs → All P ys → All P (xs ++ ys)
   All-append P [] ys h k = k
   All-append P (x ∷ xs) ys h k = (h .0, All-append P xs ys (h .1) k)
-
-  pub All-left : (P : A → Type 0) (xs ys : List A) → All P (xs ++ ys) → All P xs
-  All-left P [] ys h = tt
-  All-left P (x ∷ xs) ys h = (h .0, All-left P xs ys (h .1))
-
-  pub All-right : (P : A → Type 0) (xs ys : List A) → All P (xs ++ ys) → All P ys
-  All-right P [] ys h = h
-  All-right P (x ∷ xs) ys h = All-right P xs ys (h .1)
 
   -- a test of each element as a type for each
   pub All-of : (p : A → Bool) (xs : List A) → all p xs ≡ true → All (λ x. p x ≡ true) xs
@@ -89,10 +80,6 @@ module _ {A : Type 0} where
   count-none p [] h = refl
   count-none p (x ∷ xs) h = rw (h .0, count-none p xs (h .1))
 
-  pub any-intro : (p : A → Bool) (xs ys : List A) (x : A) → p x ≡ true → any p (xs ++ x ∷ ys) ≡ true
-  any-intro p [] ys x h = rw h
-  any-intro p (y ∷ xs) ys x h = or-right-true (p y) (any-intro p xs ys x h)
-
   pub count-zero : (p : A → Bool) (xs : List A) → count p xs ≡ 0 → All (λ x. p x ≡ false) xs
   count-zero p [] h = tt
   count-zero p (x ∷ xs) h = go (p x) refl h (count-zero p xs)
@@ -108,14 +95,6 @@ module _ {A : Type 0} where
   pub empty-nil : (xs : List A) → isEmpty xs ≡ true → xs ≡ []
   empty-nil [] h = refl
   empty-nil (x ∷ xs) h = absurd (false≢true h)
-
-  pub all-without : (p : A → Bool) (ps : List ℕ) (k : ℕ) (l : List A) → all p l ≡ true → all p (without ps k l) ≡ true
-  all-without p ps k [] h = refl
-  all-without p ps k (x ∷ l) h = go (not (isIn k ps)) (all-without p ps (suc k) l (and-right (p x) (all p l) h))
-    where
-      go : (b : Bool) → all p (without ps (suc k) l) ≡ true → all p (keepIf b x (without ps (suc k) l)) ≡ true
-      go true ih = and-intro (and-left (p x) (all p l) h) ih
-      go false ih = ih
 
 module _ {A B : Type 0} (f : A → B) where
   pub All-unmap : (P : B → Type 0) (xs : List A) → All (λ x. P (f x)) xs → All P (map f xs)

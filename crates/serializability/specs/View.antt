@@ -141,10 +141,6 @@ pub picks-distinct : (l : List Entry) (ps : List ℕ) → Uniq l → All (λ p. 
 picks-distinct l [] u h = refl
 picks-distinct l (p ∷ ps) u h = rw (picks-same l ps p u (h .1) (h .0), picks-distinct l ps u (h .1))
 
-pub picks-found : (l : List Entry) (ps : List ℕ) → Uniq l → All (λ p. p < length l) ps → map (λ o. look o l) (originsOf (map (entryAt l) ps)) ≡ map some (map (entryAt l) ps)
-picks-found l [] u h = refl
-picks-found l (p ∷ ps) u h = rw (look-at l p u (h .0), picks-found l ps u (h .1))
-
 -- ---- the entries that are not picked
 
 abbrev pub notAmong : List Origin → Entry → Bool
