@@ -9,6 +9,7 @@ pub mod Removed
 pub mod Unrepeated
 pub mod Tabled
 pub mod Parts
+pub mod Prefix
 pub mod Counting
 pub mod Rising
 pub mod Ahead

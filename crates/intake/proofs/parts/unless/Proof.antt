@@ -1,0 +1,10 @@
+-- `unless` meets its contract.
+use borrow.Author.Needs.{needs}
+use Rattle.intake.proofs.parts.unless.Statement.{statement}
+use Rattle.intake.proofs.parts.unless.Tie as tie
+
+returns-2 : tie.Need-returns-2
+returns-2 c = rw (c .if1 .left)
+
+pub unless-spec : {M : Type 1} → statement M
+unless-spec = tie.close (tie.spec (λ c. search needs) returns-2)

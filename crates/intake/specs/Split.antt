@@ -1,0 +1,73 @@
+-- Where the parts of the program's input lie, and what its check answers.
+use Prim.Native.Nat.{ℕ, _-_, _*_, _≤_}
+use mathlib.Core.Bool.{Bool, true, false}
+use mathlib.Core.List.{List}
+use mathlib.Core.Path.{_≡_, refl}
+use native.Mathlib.Omega.{arith}
+use borrow.Author.Tests.{eqb-true}
+use lib.Dec.{eqb}
+use lib.ListN.{length, take, drop, length-drop}
+use lib.Seq.{length-take-le}
+use Rattle.semantics.specs.Table.{sizesOf, numbersOf}
+use Rattle.semantics.specs.Log.{logSizesOk}
+use Rattle.semantics.specs.Move.{unless, both}
+use Rattle.semantics.specs.Answers.{tableVerdict, stateOwnVerdict, stateVerdict, logVerdict}
+use Rattle.semantics.specs.Program.{partsOf, partWords, inputVerdict}
+use Rattle.semantics.specs.declared.Refusal.{Refusal}
+use Rattle.semantics.specs.declared.Refusal.the-variants.{LogSizes}
+use Rattle.semantics.specs.declared.Verdict.{Verdict}
+use Rattle.semantics.specs.declared.Verdict.the-variants.{Allowed, Denied}
+use Rattle.table.specs.Index.{Starts}
+use Rattle.intake.specs.declared.parts.Parts.{Parts}
+
+-- the parts as slices
+pub record CutAt (ws : List ℕ) (state-at log-at end : ℕ) : Type 0 where
+  pub table : take state-at ws ≡ partsOf ws .table
+  pub state : take (log-at - state-at) (drop state-at ws) ≡ partsOf ws .state
+  pub log : take (end - log-at) (drop log-at ws) ≡ partsOf ws .log
+  pub state-after : state-at ≤ log-at
+  pub log-after : log-at ≤ end
+  pub within : end ≤ length ws
+  pub sliced : state-at ≡ length (take state-at ws)
+
+pub record SplitAs (ws : List ℕ) (bytes : ℕ) (p : Parts) : Type 0 where
+  pub verdict : p .verdict ≡ inputVerdict ws bytes
+  pub cut : CutAt ws (p .«state_at») (p .«log_at») (p .end)
+  pub starts : p .verdict ≡ Allowed → Starts (numbersOf (partsOf ws .table)) (sizesOf (partsOf ws .table) .rules) (p .starts)
+
+-- the three parts are all the words up to the end
+pub cut-words : {ws : List ℕ} {a b e : ℕ} → CutAt ws a b e → partWords (partsOf ws) ≡ e
+cut-words {ws} {a} {b} {e} c =
+    let n = length-take-le a ws (omega arith) in
+    let m = length-take-le (b - a) (drop a ws) (omega (arith, length-drop a ws)) in
+    let k = length-take-le (e - b) (drop b ws) (omega (arith, length-drop b ws)) in
+    rw (← c .table, ← c .state, ← c .log, n, m, k) (omega arith)
+
+-- what an accepted input is known to have
+pub record Accepted (ws : List ℕ) (bytes : ℕ) : Type 0 where
+  pub table : tableVerdict (partsOf ws .table) ≡ Allowed
+  pub state : stateOwnVerdict (sizesOf (partsOf ws .table)) (partsOf ws .state) ≡ Allowed
+  pub log : logSizesOk (partsOf ws .log) ≡ true
+  pub whole : bytes ≡ 4 * partWords (partsOf ws)
+
+pub both-allowed : (v w : Verdict) → both v w ≡ Allowed → (v ≡ Allowed) × (w ≡ Allowed)
+both-allowed Allowed w h = (refl, h)
+both-allowed (Denied r) w h = let e : _≡_ {A = ℕ} 0 1 = cc in absurd (omega arith)
+
+pub unless-allowed : (b : Bool) (r : Refusal) → unless b r ≡ Allowed → b ≡ true
+unless-allowed true r h = refl
+unless-allowed false r h = let e : _≡_ {A = ℕ} 0 1 = cc in absurd (omega arith)
+
+pub accepted : {ws : List ℕ} {bytes : ℕ} → inputVerdict ws bytes ≡ Allowed → Accepted ws bytes
+unfolding inputVerdict logVerdict stateVerdict
+accepted {ws} {bytes} h =
+    let p = partsOf ws in
+    let (h, whole) = both-allowed _ _ h in
+    let (h, log) = both-allowed _ _ h in
+    let (table, state) = both-allowed _ _ h in
+    record {
+      table = table;
+      state = state;
+      log = unless-allowed (logSizesOk (p .log)) LogSizes log;
+      whole = eqb-true bytes (4 * partWords p) (unless-allowed (eqb bytes (4 * partWords p)) LogSizes whole);
+    }

@@ -1,0 +1,122 @@
+// The three parts of the program's input: where they lie, and the verdict on them.
+use crate::least;
+use semantics::Refusal;
+use semantics::Verdict;
+ghost use Prim.Native.Nat.{_<_};
+ghost use mathlib.Core.Path.{_≡_};
+ghost use lib.ListN.{getD};
+ghost use Rattle.semantics.specs.Log.{logSizesOk};
+ghost use Rattle.semantics.specs.Move.{both};
+ghost use Rattle.semantics.specs.Move as Move;
+ghost use Rattle.semantics.specs.Answers.{tableVerdict, logVerdict};
+ghost use Rattle.semantics.specs.declared.Refusal.the-variants.{LogSizes};
+ghost use Rattle.intake.specs.Split.{CutAt, SplitAs};
+
+// The table ends at state_at, the state goes on to log_at and the log to end. Of a table that is
+// Allowed, starts is the index of its rules.
+pub struct Parts {
+    pub verdict: Verdict,
+    pub starts: [u32; 65],
+    pub state_at: usize,
+    pub log_at: usize,
+    pub end: usize,
+}
+
+struct Cuts {
+    state_at: usize,
+    log_at: usize,
+    end: usize,
+}
+
+// Words that end before a size have it 0.
+fn size_at(words: &[u32], at: usize) -> usize
+    ensures { λ r. ⌜ (r ≡ getD (now (words .entry)) at 0) × (r < 4294967296) ⌝ }
+{
+    if at < words.len() {
+        words[at] as usize
+    } else {
+        0
+    }
+}
+
+// Each part is as long as its sizes say, or cut short where the words end.
+fn cuts_of(words: &[u32]) -> Cuts
+    ensures { λ c. ⌜ CutAt (now (words .entry)) (c .«state_at») (c .«log_at») (c .end) ⌝ }
+{
+    let all = words.len();
+    let state_at = least(5 + 2 * size_at(words, 4), all);
+    let log_at = least(state_at + (2 + 2 * size_at(words, state_at)), all);
+    let end = least(log_at + (1 + 5 * size_at(words, log_at)), all);
+    Cuts {
+        state_at,
+        log_at,
+        end,
+    }
+}
+
+fn log_ok(log: &[u32]) -> bool
+    ensures { λ r. ⌜ r ≡ logSizesOk (now (log .entry)) ⌝ }
+{
+    let moves = size_at(log, 0);
+    (1 <= log.len()) & ((moves <= 1024) & (log.len() == 1 + 5 * moves))
+}
+
+fn unless(ok: bool, r: Refusal) -> Verdict
+    ensures { λ v. ⌜ v ≡ Move.unless ok r ⌝ }
+{
+    if ok {
+        Verdict::Allowed
+    } else {
+        Verdict::Denied(r)
+    }
+}
+
+// The first fault counts; `first` is the table's, and `whole` that no bytes are left over.
+fn verdict_of<'a>(
+    first: Verdict,
+    table: &'a [u32],
+    state: &'a [u32],
+    log: &'a [u32],
+    whole: bool,
+) -> Verdict
+    requires { ⌜ first ≡ tableVerdict (now table) ⌝ }
+    ensures { λ r. ⌜ r ≡ both (logVerdict (now (table .entry)) (now (state .entry)) (now (log .entry))) (Move.unless whole LogSizes) ⌝ }
+{
+    if let Verdict::Denied(of_table) = first {
+        return Verdict::Denied(of_table);
+    }
+    let second = state::check(table::sizes_of(table), state);
+    if let Verdict::Denied(of_state) = second {
+        return Verdict::Denied(of_state);
+    }
+    unless(log_ok(log) & whole, Refusal::LogSizes)
+}
+
+// Where the three parts of an input of so many bytes lie, and the verdict on it. The words are those
+// that the bytes make.
+pub fn split(words: &[u32], bytes: usize) -> Parts
+    ensures { λ p. ⌜ SplitAs (now (words .entry)) bytes p ⌝ }
+{
+    let cuts = cuts_of(words);
+    let state_at = cuts.state_at;
+    let log_at = cuts.log_at;
+    let end = cuts.end;
+    let table = &words[..state_at];
+    let checked = table::check(table);
+    let first = checked.verdict;
+    let starts = checked.starts;
+    let verdict = verdict_of(
+        first,
+        table,
+        &words[state_at..log_at],
+        &words[log_at..end],
+        bytes == 4 * end,
+    );
+    Parts {
+        verdict,
+        starts,
+        state_at,
+        log_at,
+        end,
+    }
+}
