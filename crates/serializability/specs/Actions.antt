@@ -151,11 +151,13 @@ all-strip p [] h = refl
 all-strip p (e ∷ l) h = and-intro (and-left (p (strip e)) (all (λ e. p (strip e)) l) h) (all-strip p l (and-right (p (strip e)) (all (λ e. p (strip e)) l) h))
 
 -- a product has the move for its maker, and the owner w
-pub product-of : (i w : ℕ) (vs : List ℕ) (R : Rule) (o : Origin) (e : Entry) → look o (map strip (make i w vs 0 (productAtoms R))) ≡ some e → (o .maker ≡ i) × (e .owner ≡ w)
+pub product-of : (i w : ℕ) (vs : List ℕ) (R : Rule) (o : Origin) (e : Entry) → look o (map strip (make i w vs 0 (productAtoms R))) ≡ some e
+    → (o .maker ≡ i) × (e .owner ≡ w)
 product-of i w vs R o e h =
     let p : Entry → Bool = λ e. eqb (e .origin .maker) i && eqb (e .owner) w in
     let l = map strip (make i w vs 0 (productAtoms R)) in
-    let q = look-all p o l (all-strip p (make i w vs 0 (productAtoms R)) (make-all (λ e. p (strip e)) i w vs 0 (productAtoms R) (λ e k l. and-intro (eq-eqb (e .origin .maker) i k) (eq-eqb (e .owner) w l)))) h in (
+    let q = look-all p o l (all-strip p (make i w vs 0 (productAtoms R))
+    (make-all (λ e. p (strip e)) i w vs 0 (productAtoms R) (λ e k l. and-intro (eq-eqb (e .origin .maker) i k) (eq-eqb (e .owner) w l)))) h in (
       ap (λ (x : Origin). x .maker) (sym (look-origin o l h)) ∙ eqb-true (e .origin .maker) i (and-left (eqb (e .origin .maker) i) (eqb (e .owner) w) q),
       eqb-true (e .owner) w (and-right (eqb (e .origin .maker) i) (eqb (e .owner) w) q),
     )

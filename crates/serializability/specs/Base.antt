@@ -52,7 +52,8 @@ pub same-refl : (o : Origin) → sameOrigin o o ≡ true
 same-refl o = and-intro (eq-eqb (o .maker) (o .maker) refl) (eq-eqb (o .index) (o .index) refl)
 
 pub same-eq : (a b : Origin) → sameOrigin a b ≡ true → a ≡ b
-same-eq a b h = go (eqb-true (a .maker) (b .maker) (and-left (eqb (a .maker) (b .maker)) (eqb (a .index) (b .index)) h)) (eqb-true (a .index) (b .index) (and-right (eqb (a .maker) (b .maker)) (eqb (a .index) (b .index)) h))
+same-eq a b h = go (eqb-true (a .maker) (b .maker) (and-left (eqb (a .maker) (b .maker)) (eqb (a .index) (b .index)) h))
+    (eqb-true (a .index) (b .index) (and-right (eqb (a .maker) (b .maker)) (eqb (a .index) (b .index)) h))
   where
     go : a .maker ≡ b .maker → a .index ≡ b .index → a ≡ b
     go p q = λ i. record { maker = p i; index = q i }
@@ -101,7 +102,8 @@ found-at f p o (q ∷ os) [] h t i = absurd (cons≢nil h)
 found-at f p o (q ∷ os) (e ∷ es) h t i =
     go (found-at f p o os es (tail-eq h) (and-right (p e) (all p es) t)) (sameOrigin o q) refl i
   where
-    go : (isInO o os ≡ true → (e : Entry) × (f o ≡ some e) × (p e ≡ true)) → (b : Bool) → sameOrigin o q ≡ b → (b || isInO o os) ≡ true → (e : Entry) × (f o ≡ some e) × (p e ≡ true)
+    go : (isInO o os ≡ true → (e : Entry) × (f o ≡ some e) × (p e ≡ true)) → (b : Bool) → sameOrigin o q ≡ b → (b || isInO o os) ≡ true
+        → (e : Entry) × (f o ≡ some e) × (p e ≡ true)
     go ih true w k = (e, ap f (same-eq o q w) ∙ head-eq h, and-left (p e) (all p es) t)
     go ih false w k = ih k
 

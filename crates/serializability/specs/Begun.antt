@@ -28,13 +28,17 @@ use Rattle.serializability.specs.Fate.{LogRuns}
 use Rattle.serializability.specs.Follow.{seenAfter, log-rest}
 use Rattle.serializability.specs.Blocks.{end-member}
 
-pub no-marks : (i w : ℕ) (vs : List ℕ) (q : ℕ) (ats : List Atom) (o : Origin) (d : Entry) → all (λ e. ltb (e .kind) 3) (make i w vs q ats) ≡ true → look o (make i w vs q ats) ≡ some d → d .kind ≡ 3 → ⊥
+pub no-marks : (i w : ℕ) (vs : List ℕ) (q : ℕ) (ats : List Atom) (o : Origin) (d : Entry) → all (λ e. ltb (e .kind) 3) (make i w vs q ats) ≡ true
+    → look o (make i w vs q ats) ≡ some d → d .kind ≡ 3 → ⊥
 no-marks i w vs q ats o d h k z = let y = ltb-true (d .kind) 3 (look-all (λ e. ltb (e .kind) 3) o (make i w vs q ats) h k) in omega arith
 
 -- a product that is a member mark is the first product of a begin
-pub made-mark : (R : Rule) → Shape R → (i w : ℕ) (vs : List ℕ) (o : Origin) (d : Entry) → look o (make (suc i) w vs 0 (productAtoms R)) ≡ some d → d .kind ≡ 3 → (begins R ≡ true) × (o ≡ firstOf i)
-made-mark R (plain c b h) i w vs o d k z = absurd (no-marks (suc i) w vs 0 (productAtoms R) o d (make-kinds (λ n. ltb n 3) (suc i) w vs 0 (productAtoms R) (kind-weaken (productAtoms R) (kinds-plain R h))) k z)
-made-mark R (inner c b h n) i w vs o d k z = absurd (no-marks (suc i) w vs 0 (productAtoms R) o d (make-kinds (λ n. ltb n 3) (suc i) w vs 0 (productAtoms R) (kinds-inner R n)) k z)
+pub made-mark : (R : Rule) → Shape R → (i w : ℕ) (vs : List ℕ) (o : Origin) (d : Entry) → look o (make (suc i) w vs 0 (productAtoms R)) ≡ some d → d .kind ≡ 3
+    → (begins R ≡ true) × (o ≡ firstOf i)
+made-mark R (plain c b h) i w vs o d k z = absurd (no-marks (suc i) w vs 0 (productAtoms R) o d
+    (make-kinds (λ n. ltb n 3) (suc i) w vs 0 (productAtoms R) (kind-weaken (productAtoms R) (kinds-plain R h))) k z)
+made-mark R (inner c b h n) i w vs o d k z = absurd (no-marks (suc i) w vs 0 (productAtoms R) o d
+    (make-kinds (λ n. ltb n 3) (suc i) w vs 0 (productAtoms R) (kinds-inner R n)) k z)
 made-mark R (begin c b h m rest q y n) i w vs o d k z = (b, go (sameOrigin o (firstOf i)) refl (subst (λ (l : List Atom). look o (make (suc i) w vs 0 l) ≡ some d) q k))
   where
     go : (x : Bool) → sameOrigin o (firstOf i) ≡ x → look o (make (suc i) w vs 0 (m ∷ rest)) ≡ some d → o ≡ firstOf i
@@ -50,7 +54,8 @@ left-mark k b c d h z = go (owned b c) (eqb (c .kind) k) h
     go false y w = ap (λ (x : Entry). x .kind) (some-inj w) ∙ z
 
 -- a mark after a move was there before, or the move is its begin
-pub mark-from : (t : Table) → Shaped t → (f : Cells) (a : Deed) (vs : List ℕ) (mv : Move) (o : Origin) (d : Entry) → Source f (actionBy t (a .place) (a .picks) (a .touched) vs mv) o d → d .kind ≡ 3
+pub mark-from : (t : Table) → Shaped t → (f : Cells) (a : Deed) (vs : List ℕ) (mv : Move) (o : Origin) (d : Entry)
+    → Source f (actionBy t (a .place) (a .picks) (a .touched) vs mv) o d → d .kind ≡ 3
     → ((c : Entry) × (f o ≡ some c) × (c .kind ≡ 3)) ⊎ ((begun t mv ≡ true) × (o ≡ firstOf (a .place)))
 unfolding actionBy
 mark-from t sd f a vs (react r ps) o d (inl (c, p, g, q)) z = inl (c, p, ap (λ (x : Entry). x .kind) (some-inj q) ∙ z)
@@ -67,7 +72,8 @@ mark-from t sd f a vs (abort b) o d (inr q) z = absurd (none-some q)
 abbrev pub begunIn : Table → Origin → List Deed → Bool
 begunIn t o xs = any (λ x. begun t (x .move) && any (sameOrigin o) (x .members)) xs
 
-pub mark-source : (t : Table) → Shaped t → (xs : List Deed) (i : ℕ) (F G : Seen) (ys : List Deed) → LogRuns t i F (xs ++ ys) G → (o : Origin) (d : Entry) → seenAfter t F xs .cell o ≡ some d → d .kind ≡ 3
+pub mark-source : (t : Table) → Shaped t → (xs : List Deed) (i : ℕ) (F G : Seen) (ys : List Deed) → LogRuns t i F (xs ++ ys) G → (o : Origin) (d : Entry)
+    → seenAfter t F xs .cell o ≡ some d → d .kind ≡ 3
     → ((c : Entry) × (F .cell o ≡ some c) × (c .kind ≡ 3)) ⊎ (begunIn t o xs ≡ true)
 unfolding astep
 mark-source t sd [] i F G ys r o d h z = inl (d, h, z)
@@ -75,19 +81,23 @@ mark-source t sd (x ∷ xs) i F G ys r o d h z = go (mark-source t sd xs (suc i)
   where
     begun-here : (begun t (x .move) ≡ true) × (o ≡ firstOf (x .place)) → begunIn t o (x ∷ xs) ≡ true
     begun-here (b, q) =
-        let m : any (sameOrigin o) (x .members) ≡ true = subst (λ (l : List Origin). any (sameOrigin o) l ≡ true) (sym (r .0 .first b)) (rw q (isInO-head (firstOf (x .place)) [])) in
+        let m : any (sameOrigin o) (x .members) ≡ true = subst (λ (l : List Origin). any (sameOrigin o) l ≡ true) (sym (r .0 .first b))
+        (rw q (isInO-head (firstOf (x .place)) [])) in
         rw (b, m)
 
-    two : ((c : Entry) × (F .cell o ≡ some c) × (c .kind ≡ 3)) ⊎ ((begun t (x .move) ≡ true) × (o ≡ firstOf (x .place))) → ((c : Entry) × (F .cell o ≡ some c) × (c .kind ≡ 3)) ⊎ (begunIn t o (x ∷ xs) ≡ true)
+    two : ((c : Entry) × (F .cell o ≡ some c) × (c .kind ≡ 3)) ⊎ ((begun t (x .move) ≡ true) × (o ≡ firstOf (x .place)))
+        → ((c : Entry) × (F .cell o ≡ some c) × (c .kind ≡ 3)) ⊎ (begunIn t o (x ∷ xs) ≡ true)
     two (inl q) = inl q
     two (inr q) = inr (begun-here q)
 
-    go : ((c : Entry) × (astep t F x .cell o ≡ some c) × (c .kind ≡ 3)) ⊎ (begunIn t o xs ≡ true) → ((c : Entry) × (F .cell o ≡ some c) × (c .kind ≡ 3)) ⊎ (begunIn t o (x ∷ xs) ≡ true)
+    go : ((c : Entry) × (astep t F x .cell o ≡ some c) × (c .kind ≡ 3)) ⊎ (begunIn t o xs ≡ true)
+        → ((c : Entry) × (F .cell o ≡ some c) × (c .kind ≡ 3)) ⊎ (begunIn t o (x ∷ xs) ≡ true)
     go (inl (c, p, k)) = two (mark-from t sd (F .cell) x (received F x) (x .move) o c (apply-inv (F .cell) (actionOf t (received F x) x) o c p) k)
     go (inr q) = inr (or-right-true (begun t (x .move) && any (sameOrigin o) (x .members)) q)
 
 -- from a start without marks
-pub begun-before-of : (t : Table) → Shaped t → (xs : List Deed) (F G : Seen) (a : Deed) (ys : List Deed) → Good 0 F → ((o : Origin) (c : Entry) → F .cell o ≡ some c → c .kind ≡ 3 → ⊥) → LogRuns t 0 F (xs ++ a ∷ ys) G → isEnd (a .move) ≡ true
+pub begun-before-of : (t : Table) → Shaped t → (xs : List Deed) (F G : Seen) (a : Deed) (ys : List Deed) → Good 0 F
+    → ((o : Origin) (c : Entry) → F .cell o ≡ some c → c .kind ≡ 3 → ⊥) → LogRuns t 0 F (xs ++ a ∷ ys) G → isEnd (a .move) ≡ true
     → (o : Origin) → isInO o (a .members) ≡ true → begunIn t o xs ≡ true
 begun-before-of t sd xs F G a ys g none-yet r en o h =
     let k = log-rest t sd 0 F G xs (a ∷ ys) g r (0 + length xs) refl .0 .0 .step .ok in

@@ -34,8 +34,13 @@ shares x a = any (λ o. any (sameOrigin o) (a .members)) (x .members)
 pub end-member : (F : Seen) (a : Deed) → EndOk F a → (o : Origin) → isInO o (a .members) ≡ true → MarkAt (F .cell) o (least (a .touched))
 end-member F a E o h =
     let b = least (a .touched) in
-    let q = found-at (F .cell) (markOf b) o (a .picks) (E .es) (E .found) (E .marks) (subst (λ (l : List Origin). isInO o l ≡ true) (E .members) h) in
-    (q .0, q .1, eqb-true (q .0 .kind) 3 (and-left (isMemberMark (q .0)) (owned b (q .0)) (q .2)), eqb-true (q .0 .owner) b (and-right (isMemberMark (q .0)) (owned b (q .0)) (q .2)))
+    let q = found-at (F .cell) (markOf b) o (a .picks) (E .es) (E .found) (E .marks) (subst (λ (l : List Origin). isInO o l ≡ true) (E .members) h) in (
+      q .0,
+      q .1,
+      eqb-true (q .0 .kind) 3 (and-left (isMemberMark (q .0)) (owned b (q .0)) (q .2)),
+      eqb-true (q .0 .owner) b
+          (and-right (isMemberMark (q .0)) (owned b (q .0)) (q .2)),
+    )
 
 module _ (t : Table) (sd : Shaped t) (G : Seen) where
   module _ (i : ℕ) (F : Seen) (x : Deed) (zs ys : List Deed) (a : Deed) (g : Good i F) (r : LogRuns t i F (x ∷ zs ++ a ∷ ys) G) where
@@ -65,7 +70,8 @@ module _ (t : Table) (sd : Shaped t) (G : Seen) where
         fo : (o : Origin) (e : Entry) → astep t F x .cell o ≡ some e → e .kind ≡ 3 → Follows t sd G a ys en (suc i) (astep t F x) zs o e
         fo o e h k = follow t sd G a ys en zs (suc i) (astep t F x) good-x (r .1) o e h k
 
-        forth : (os : List Origin) → All (λ o. MarkAt (astep t F x .cell) o (least (x .touched))) os → isEmpty os ≡ false → x .key ≡ a .place → any (λ o. any (sameOrigin o) (a .members)) os ≡ true
+        forth : (os : List Origin) → All (λ o. MarkAt (astep t F x .cell) o (least (x .touched))) os → isEmpty os ≡ false → x .key ≡ a .place
+            → any (λ o. any (sameOrigin o) (a .members)) os ≡ true
         forth [] m n q = absurd (true≢false n)
         forth (o ∷ os) ((e, h, k, w), m) n q =
             let d = fo o e h k .0 (sym (key-is (e .owner) w) ∙ q) in
@@ -108,7 +114,8 @@ module _ (t : Table) (sd : Shaped t) (G : Seen) where
             two true z = z
             two false z = refl
 
-        go : (b : Bool) → isEnd (x .move) ≡ b → (c : Bool) → isEmpty (x .touched) ≡ c → keyIs (a .place) x ≡ cond (isInner (actOf a)) false (belongsTo (actOf a) (actOf x))
+        go : (b : Bool) → isEnd (x .move) ≡ b → (c : Bool) → isEmpty (x .touched) ≡ c
+            → keyIs (a .place) x ≡ cond (isInner (actOf a)) false (belongsTo (actOf a) (actOf x))
         go true p c q = own-key (rw p) ∙ rw p (both-false (isInner (actOf a)))
         go false p true q = own-key (rw (p, empty-nil (x .touched) q)) ∙ rw (p, r .0 .marked p .1 ∙ q) (both-false (isInner (actOf a)))
         go false p false q = by-bool (isEnd (a .move))
@@ -132,13 +139,15 @@ module _ (t : Table) (sd : Shaped t) (G : Seen) where
       go true p c q = is-own (rw p) ∙ rw p
       go false p true q = is-own (rw (p, empty-nil (a .touched) q)) ∙ rw (p, r .0 .marked p .1 ∙ q)
       go false p false q =
-          ne-eqb (a .key) (a .place) (λ w. let y = r .0 .key ∙ key-full (isEnd (a .move)) i (a .touched) ys p q in let z = ender-ge (suc i) ys (least (a .touched)) in let v = r .0 .step .place in omega arith)
+          ne-eqb (a .key) (a .place) (λ w. let y = r .0 .key ∙ key-full (isEnd (a .move)) i (a .touched) ys p q in let z = ender-ge (suc i) ys (least (a .touched)) in
+          let v = r .0 .step .place in omega arith)
           ∙ rw (p, r .0 .marked p .1 ∙ q)
 
   -- the moves with the key of a's place are the block of a
   pub block-is : (xs : List Deed) (i : ℕ) (F : Seen) (a : Deed) (ys : List Deed) → Good i F → LogRuns t i F (xs ++ a ∷ ys) G
       → map actOf (keep (keyIs (a .place)) (xs ++ a ∷ ys)) ≡ block (map actOf xs) (actOf a)
-  block-is xs i F a ys g r = ap (map actOf) (keep-append (keyIs (a .place)) xs (a ∷ ys) ∙ ap (λ (l : List Deed). keep (keyIs (a .place)) xs ++ keepIf (keyIs (a .place) a) a l) none-later)
+  block-is xs i F a ys g r = ap (map actOf) (keep-append (keyIs (a .place)) xs (a ∷ ys)
+      ∙ ap (λ (l : List Deed). keep (keyIs (a .place)) xs ++ keepIf (keyIs (a .place) a) a l) none-later)
       ∙ go (isInner (actOf a)) refl
     where
       rest : LogRuns t (i + length xs) (seenAfter t F xs) (a ∷ ys) G
@@ -146,17 +155,23 @@ module _ (t : Table) (sd : Shaped t) (G : Seen) where
 
       none-later : keep (keyIs (a .place)) ys ≡ []
       none-later = keep-none (keyIs (a .place)) ys (All-map {P = λ y. (suc (i + length xs) ≤ y .place) × (y .place ≤ y .key)} {Q = λ y. keyIs (a .place) y ≡ false}
-          (λ y h. ne-eqb (y .key) (a .place) (λ w. let u = h .0 in let v = h .1 in let z = rest .0 .step .place in omega arith)) ys (places t sd G (suc (i + length xs)) (astep t (seenAfter t F xs) a) ys (rest .1)))
+          (λ y h. ne-eqb (y .key) (a .place) (λ w. let u = h .0 in let v = h .1 in let z = rest .0 .step .place in omega arith)) ys
+          (places t sd G (suc (i + length xs)) (astep t (seenAfter t F xs) a) ys (rest .1)))
 
       before : (b : Bool) → isInner (actOf a) ≡ b → All (λ x. keyIs (a .place) x ≡ cond b false (belongsTo (actOf a) (actOf x))) xs
       before b q = subst (λ (c : Bool). All (λ x. keyIs (a .place) x ≡ cond c false (belongsTo (actOf a) (actOf x))) xs) q (before-block xs i F a ys g r)
 
-      go : (b : Bool) → isInner (actOf a) ≡ b → map actOf (keep (keyIs (a .place)) xs ++ keepIf (keyIs (a .place) a) a []) ≡ cond b [] (keep (belongsTo (actOf a)) (map actOf xs) ++ actOf a ∷ [])
-      go true q = let z : keyIs (a .place) a ≡ false = own-block (i + length xs) (seenAfter t F xs) a ys rest ∙ ap not q in rw (keep-none (keyIs (a .place)) xs (before true q), z)
+      go : (b : Bool) → isInner (actOf a) ≡ b → map actOf (keep (keyIs (a .place)) xs ++ keepIf (keyIs (a .place) a) a [])
+          ≡ cond b [] (keep (belongsTo (actOf a)) (map actOf xs) ++ actOf a ∷ [])
+      go true q = let z : keyIs (a .place) a ≡ false = own-block (i + length xs) (seenAfter t F xs) a ys rest
+          ∙ ap not q in rw (keep-none (keyIs (a .place)) xs (before true q), z)
       go false q = let z : keyIs (a .place) a ≡ true = own-block (i + length xs) (seenAfter t F xs) a ys rest ∙ ap not q in
-          rw (keep-same (keyIs (a .place)) (λ x. belongsTo (actOf a) (actOf x)) xs (before false q), z) (map-append actOf (keep (λ x. belongsTo (actOf a) (actOf x)) xs) (a ∷ []) ∙ ap (λ (l : List Act). l ++ actOf a ∷ []) (sym (keep-map actOf (belongsTo (actOf a)) xs)))
+          rw (keep-same (keyIs (a .place)) (λ x. belongsTo (actOf a) (actOf x)) xs (before false q), z)
+          (map-append actOf (keep (λ x. belongsTo (actOf a) (actOf x)) xs) (a ∷ [])
+          ∙ ap (λ (l : List Act). l ++ actOf a ∷ []) (sym (keep-map actOf (belongsTo (actOf a)) xs)))
 
-  pub ordered-is : (rest xs : List Deed) (F : Seen) → Good 0 F → LogRuns t 0 F (xs ++ rest) G → ordered (map actOf xs) (map actOf rest) ≡ map actOf (arrange (length xs) (length rest) (xs ++ rest))
+  pub ordered-is : (rest xs : List Deed) (F : Seen) → Good 0 F → LogRuns t 0 F (xs ++ rest) G
+      → ordered (map actOf xs) (map actOf rest) ≡ map actOf (arrange (length xs) (length rest) (xs ++ rest))
   ordered-is [] xs F g r = refl
   ordered-is (a ∷ rest) xs F g r =
       (λ j. block-eq j ++ tail-is (ordered-is rest (xs ++ a ∷ []) F g (subst (λ (l : List Deed). LogRuns t 0 F l G) (sym shifted) r)) j)
@@ -176,7 +191,8 @@ module _ (t : Table) (sd : Shaped t) (G : Seen) where
 
       tail-is : ordered (map actOf (xs ++ a ∷ [])) (map actOf rest) ≡ map actOf (arrange (length (xs ++ a ∷ [])) (length rest) ((xs ++ a ∷ []) ++ rest))
           → ordered (map actOf xs ++ actOf a ∷ []) (map actOf rest) ≡ map actOf (arrange (suc (length xs)) (length rest) (xs ++ a ∷ rest))
-      tail-is ih = ap (λ (l : List Act). ordered l (map actOf rest)) (sym (map-append actOf xs (a ∷ []))) ∙ ih ∙ (λ j. map actOf (arrange (len j) (length rest) (shifted j)))
+      tail-is ih = ap (λ (l : List Act). ordered l (map actOf rest)) (sym (map-append actOf xs (a ∷ []))) ∙ ih
+          ∙ (λ j. map actOf (arrange (len j) (length rest) (shifted j)))
 
   -- the serial order is the stable sort by key
   pub order-sorted : (xs : List Deed) (F : Seen) → Good 0 F → LogRuns t 0 F xs G → NoneOpen G → ordered [] (map actOf xs) ≡ map actOf (isort xs)

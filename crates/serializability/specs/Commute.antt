@@ -101,7 +101,8 @@ module _ (t : Table) (F : Seen) (m x : Deed) (P : Apart m x) (km : Ok t F m) (kx
   unfolding f2 B
   theirs-after o e h k = frame-keep (F .cell) B (x .touched) (x .place) LB o e h (not-x e (mine-in (m .touched) e k))
       (is-false (B .gone o) (λ w. let q = found-at (F .cell) (mine (x .touched)) o (x .picks) (kx .es) (kx .found) (kx .own) (gone-picked t (received F x) x o w) in
-      clash k (subst (λ (z : Entry). isIn (z .owner) (m .touched) ≡ false) (some-inj (sym (q .1) ∙ h)) (not-in (x .touched) (m .touched) (q .0) (km .noZero) (P .touched) (q .2)))))
+      clash k (subst (λ (z : Entry). isIn (z .owner) (m .touched) ≡ false) (some-inj (sym (q .1) ∙ h))
+      (not-in (x .touched) (m .touched) (q .0) (km .noZero) (P .touched) (q .2)))))
 
   pub unused-after : begun t (m .move) ≡ true → (o : Origin) (e : Entry) → f2 o ≡ some e → isIn (e .owner) (m .touched) ≡ false
   unused-after p o e h = is-false (isIn (e .owner) (m .touched)) (λ k. clash k (km .unused p o e (theirs-before o e h k)))
@@ -115,7 +116,11 @@ module _ (t : Table) (F : Seen) (m x : Deed) (P : Apart m x) (km : Ok t F m) (kx
       go : (mv : Move) → Tests t m (km .es) mv → Whole t (F .cell) (least (m .touched)) (m .picks) mv → Whole t f2 (least (m .touched)) (m .picks) mv
       go (react r ps) T w = tt
       go (commit b) T w = ((λ o e h k. w .0 o e (theirs-before o e h (rw k (one-in (m .touched) (T .2)))) k), marks (T .2) (w .1))
-      go (abort b) T w = ((w .0 .0, w .0 .1, theirs-after (w .0 .0) (w .0 .1) (w .0 .2) (rw (w .0 .3) (one-in (m .touched) (T .2))), w .0 .3, w .0 .4), marks (T .2) (w .1))
+      go (abort b) T w = (
+        (w .0 .0, w .0 .1, theirs-after (w .0 .0) (w .0 .1) (w .0 .2) (rw (w .0 .3) (one-in (m .touched) (T .2))), w .0 .3, w .0 .4),
+        marks (T .2)
+            (w .1),
+      )
 
   pub ok-after : room (begun t (m .move)) (astep t F x .next) ≡ true → Ok t (astep t F x) m
   unfolding astep f2 B
@@ -134,7 +139,8 @@ module _ (t : Table) (F : Seen) (m x : Deed) (P : Apart m x) (km : Ok t F m) (kx
   -- what m does after x is what it does before
   pub after-is : astep t (astep t F x) m .cell ≡ apply (apply (F .cell) (actionOf t (received F x) x)) (actionOf t (received F m) m)
   unfolding astep f2 B
-  after-is = ap (λ (vs : List ℕ). apply f2 (actionOf t vs m)) (values-found f2 (m .picks) (km .es) found-after ∙ sym (values-found (F .cell) (m .picks) (km .es) (km .found)))
+  after-is = ap (λ (vs : List ℕ). apply f2 (actionOf t vs m)) (values-found f2 (m .picks) (km .es) found-after
+      ∙ sym (values-found (F .cell) (m .picks) (km .es) (km .found)))
 
 -- both orders come to the same
 pub same-either : (t : Table) (F : Seen) (m x : Deed) → Apart m x → Ok t F m → Ok t F x → astep t (astep t F m) x ≡ astep t (astep t F x) m
@@ -146,6 +152,7 @@ same-either t F m x P km kx = λ i. record { next = later-comm (begun t (x .move
 
     cells : astep t (astep t F m) x .cell ≡ astep t (astep t F x) m .cell
     cells = after-is t F x m (apart-sym m x P) kx km
-        ∙ swap-cells (F .cell) (actionOf t (received F m) m) (actionOf t (received F x) x) (m .touched) (x .touched) (m .place) (x .place) (act-local t m (km .es) (received F m) (km .tests)) (act-local t x (kx .es) (received F x) (kx .tests))
+        ∙ swap-cells (F .cell) (actionOf t (received F m) m) (actionOf t (received F x) x) (m .touched) (x .touched) (m .place) (x .place)
+        (act-local t m (km .es) (received F m) (km .tests)) (act-local t x (kx .es) (received F x) (kx .tests))
         (km .noZero) (kx .noZero) (P .touched) (P .places) (km .fresh) (kx .fresh) (picked m km) (picked x kx)
         ∙ sym (after-is t F m x P km kx)

@@ -60,11 +60,16 @@ pub record Start (z : Sizes) (s : State) : Type 0 where
 
 pub look-numbered : (q : ℕ) (l : List Entry) (o : Origin) → Numbered q l → o .index < q → look o l ≡ none
 look-numbered q [] o n h = refl
-look-numbered q (e ∷ l) o n h = rw (is-false (sameOrigin o (e .origin)) (λ w. let z : o .index ≡ q = ap (λ (x : Origin). x .index) (same-eq o (e .origin) w ∙ n .0) in omega arith)) (look-numbered (suc q) l o (n .1) (omega arith))
+look-numbered q (e ∷ l) o n h = rw (is-false (sameOrigin o (e .origin)) (λ w.
+    let z : o .index ≡ q = ap (λ (x : Origin). x .index) (same-eq o (e .origin) w ∙ n .0) in omega arith)) (look-numbered (suc q) l o (n .1) (omega arith))
 
 pub uniq-numbered : (q : ℕ) (l : List Entry) → Numbered q l → Uniq l
 uniq-numbered q [] n = tt
-uniq-numbered q (e ∷ l) n = (look-numbered (suc q) l (e .origin) (n .1) (let z : e .origin .index ≡ q = ap (λ (x : Origin). x .index) (n .0) in omega arith), uniq-numbered (suc q) l (n .1))
+uniq-numbered q (e ∷ l) n = (
+  look-numbered (suc q) l (e .origin) (n .1)
+      (let z : e .origin .index ≡ q = ap (λ (x : Origin). x .index) (n .0) in omega arith),
+  uniq-numbered (suc q) l (n .1),
+)
 
 pub maker-numbered : (q : ℕ) (l : List Entry) → Numbered q l → all (λ e. eqb (e .origin .maker) 0) l ≡ true
 maker-numbered q [] n = refl
@@ -72,15 +77,18 @@ maker-numbered q (e ∷ l) n = and-intro (eq-eqb (e .origin .maker) 0 (ap (λ (x
 
 pub all-closed : (l : List Entry) → any (λ e. not (owned 0 e)) l ≡ false → all (owned 0) l ≡ true
 all-closed [] h = refl
-all-closed (e ∷ l) h = and-intro (not-false (owned 0 e) (or-left-false (not (owned 0 e)) (any (λ e. not (owned 0 e)) l) h)) (all-closed l (or-right-false (not (owned 0 e)) (any (λ e. not (owned 0 e)) l) h))
+all-closed (e ∷ l) h = and-intro (not-false (owned 0 e) (or-left-false (not (owned 0 e)) (any (λ e. not (owned 0 e)) l) h))
+    (all-closed l (or-right-false (not (owned 0 e)) (any (λ e. not (owned 0 e)) l) h))
 
 -- a well-formed state without open transactions has only messages
 pub closed-messages : (z : Sizes) (s : State) → StateRight z s → anyOpen s ≡ false → all isMessage (s .entries) ≡ true
-closed-messages z s right h = all-intro isMessage (s .entries) (λ e m. eq-eqb (e .kind) 0 (right .each e m .global (eqb-true (e .owner) 0 (all-each (owned 0) (s .entries) (all-closed (s .entries) h) e m)) .0))
+closed-messages z s right h = all-intro isMessage (s .entries)
+    (λ e m. eq-eqb (e .kind) 0 (right .each e m .global (eqb-true (e .owner) 0 (all-each (owned 0) (s .entries) (all-closed (s .entries) h) e m)) .0))
 
 pub closed-view : (s : State) → anyOpen s ≡ false → NoneOpen (view s)
 unfolding NoneOpen
-closed-view s h o e k = let v = view-some s o e k in ap (λ (x : Entry). x .owner) (sym (v .2)) ∙ eqb-true (v .0 .owner) 0 (look-all (owned 0) o (s .entries) (all-closed (s .entries) h) (v .1))
+closed-view s h o e k = let v = view-some s o e k in ap (λ (x : Entry). x .owner) (sym (v .2))
+    ∙ eqb-true (v .0 .owner) 0 (look-all (owned 0) o (s .entries) (all-closed (s .entries) h) (v .1))
 
 module _ (z : Sizes) (s : State) (S : Start z s) where
   pub messages : all isMessage (s .entries) ≡ true
@@ -94,7 +102,8 @@ module _ (z : Sizes) (s : State) (S : Start z s) where
   good-start = record {
     pos = S .sound .next-low;
     makers = λ o e k. let v = view-some s o e k in
-        let w : v .0 .origin .maker ≡ 0 = eqb-true (v .0 .origin .maker) 0 (look-all (λ e. eqb (e .origin .maker) 0) o (s .entries) (maker-numbered 0 (s .entries) (S .numbered)) (v .1)) in
+        let w : v .0 .origin .maker ≡ 0 = eqb-true (v .0 .origin .maker) 0
+        (look-all (λ e. eqb (e .origin .maker) 0) o (s .entries) (maker-numbered 0 (s .entries) (S .numbered)) (v .1)) in
         let x : v .0 .origin .maker ≡ o .maker = ap (λ (x : Origin). x .maker) (look-origin o (s .entries) (v .1)) in omega arith;
     below = λ o e k. let w : e .owner ≡ 0 = closed-view s (S .closed) o e k in let p = S .sound .next-low in omega arith;
     marks = λ o e k z. absurd (z (closed-view s (S .closed) o e k));
@@ -122,13 +131,16 @@ module _ (z : Sizes) (s : State) (S : Start z s) where
 
 -- ---- the end
 
-pub sound-runs : (t : Table) → TableRight t → (i : ℕ) (s : State) (ms : List Move) (e : State) → Accepted t i s ms e → Sound (t .sizes) s → All (RuleKnown t) ms → Sound (t .sizes) e
+pub sound-runs : (t : Table) → TableRight t → (i : ℕ) (s : State) (ms : List Move) (e : State) → Accepted t i s ms e → Sound (t .sizes) s → All (RuleKnown t) ms
+    → Sound (t .sizes) e
 sound-runs t right i s [] e h sound known = subst (Sound (t .sizes)) h sound
-sound-runs t right i s (m ∷ ms) e h sound known = sound-runs t right (suc i) (applied t (suc i) s m) ms e (h .1) (applied-keeps right sound (suc i) m (known .0) (h .0)) (known .1)
+sound-runs t right i s (m ∷ ms) e h sound known = sound-runs t right (suc i) (applied t (suc i) s m) ms e (h .1) (applied-keeps right sound (suc i) m (known .0) (h .0))
+    (known .1)
 
 -- ---- the serial log is a run, with its own places for makers
 
-pub goes-accepted : (t : Table) (xs : List Act) (i : ℕ) (s c c′ : State) → bareState s ≡ bareState c → Goes t c xs c′ → (e : State) × Accepted t i s (replayed t c xs) e × (bareState e ≡ bareState c′)
+pub goes-accepted : (t : Table) (xs : List Act) (i : ℕ) (s c c′ : State) → bareState s ≡ bareState c → Goes t c xs c′
+    → (e : State) × Accepted t i s (replayed t c xs) e × (bareState e ≡ bareState c′)
 unfolding replayed
 goes-accepted t [] i s c c′ b h = (s, refl, b ∙ ap bareState h)
 goes-accepted t (a ∷ xs) i s c c′ b h =
@@ -163,7 +175,8 @@ begin-same t (abort b) = refl
 
 -- ---- the theorem
 
-module _ (t : Table) (right : TableRight t) (ne : beginsEmit t ≡ false) (s : State) (S : Start (t .sizes) s) (ms : List Move) (known : All (RuleKnown t) ms) (e : State) (run : Accepted t 0 s ms e) (cl : anyOpen e ≡ false) where
+module _ (t : Table) (right : TableRight t) (ne : beginsEmit t ≡ false) (s : State) (S : Start (t .sizes) s) (ms : List Move) (known : All (RuleKnown t) ms) (e : State)
+    (run : Accepted t 0 s ms e) (cl : anyOpen e ≡ false) where
   pub sd : Shaped t
   sd = table-shaped t right ne
 
@@ -212,7 +225,8 @@ module _ (t : Table) (right : TableRight t) (ne : beginsEmit t ≡ false) (s : S
 
   -- the serial log's rules are the table's
   pub serial-known : All (RuleKnown t) (serial t s ms)
-  serial-known = subst (All (RuleKnown t)) (sym serial-is) (replayed-known t s (map actOf (isort ds)) (All-unmap actOf (λ a. RuleKnown t (a .move)) (isort ds) (All-isort (λ a. RuleKnown t (a .move)) ds known-log)))
+  serial-known = subst (All (RuleKnown t)) (sym serial-is) (replayed-known t s (map actOf (isort ds))
+      (All-unmap actOf (λ a. RuleKnown t (a .move)) (isort ds) (All-isort (λ a. RuleKnown t (a .move)) ds known-log)))
 
   pub accepted : (z : State) × Accepted t 0 s (replayed t s (map actOf (isort ds))) z × (bareState z ≡ bareState (again-runs .state))
   accepted = goes-accepted t (map actOf (isort ds)) 0 s s (again-runs .state) refl (again-runs .goes)
@@ -230,15 +244,19 @@ module _ (t : Table) (right : TableRight t) (ne : beginsEmit t ≡ false) (s : S
 
   pub once : (p : ℕ → Bool) → count p (placesOf t s ms) ≡ count p (upFrom 0 (length ms))
   unfolding ds
-  once p = ap (count p) places-are ∙ count-map (λ a. a .place) p (isort (deeds t 0 s ms)) ∙ count-isort (λ a. p (a .place)) (deeds t 0 s ms) ∙ sym (count-map (λ a. a .place) p (deeds t 0 s ms)) ∙ ap (count p) (deeds-places t 0 s ms)
+  once p = ap (count p) places-are ∙ count-map (λ a. a .place) p (isort (deeds t 0 s ms)) ∙ count-isort (λ a. p (a .place)) (deeds t 0 s ms)
+      ∙ sym (count-map (λ a. a .place) p (deeds t 0 s ms)) ∙ ap (count p) (deeds-places t 0 s ms)
 
-  pub one-block : (xs ys : List Act) (x : Act) → acts t 0 s ms ≡ xs ++ x ∷ ys → isInner x ≡ true → (count (endsMemberOf x) (acts t 0 s ms) ≡ 1) × (count (endsMemberOf x) ys ≡ 1)
+  pub one-block : (xs ys : List Act) (x : Act) → acts t 0 s ms ≡ xs ++ x ∷ ys → isInner x ≡ true
+      → (count (endsMemberOf x) (acts t 0 s ms) ≡ 1) × (count (endsMemberOf x) ys ≡ 1)
   one-block xs ys x q h = go (map-split actOf ds xs ys x (sym acts-are ∙ q))
     where
-      go : (us : List Deed) × (u : Deed) × (vs : List Deed) × (ds ≡ us ++ u ∷ vs) × (map actOf us ≡ xs) × (actOf u ≡ x) × (map actOf vs ≡ ys) → (count (endsMemberOf x) (acts t 0 s ms) ≡ 1) × (count (endsMemberOf x) ys ≡ 1)
+      go : (us : List Deed) × (u : Deed) × (vs : List Deed) × (ds ≡ us ++ u ∷ vs) × (map actOf us ≡ xs) × (actOf u ≡ x) × (map actOf vs ≡ ys)
+          → (count (endsMemberOf x) (acts t 0 s ms) ≡ 1) × (count (endsMemberOf x) ys ≡ 1)
       go (us, u, vs, p, a, b, c) =
           let r = one-block-of t sd (view e) us (view s) u vs g (subst (λ (l : List Deed). LogRuns t 0 (view s) l (view e)) p (ran .0)) shut (rw b h) in (
-            ap (λ (y : Act). count (endsMemberOf y) (acts t 0 s ms)) (sym b) ∙ ap (count (endsMemberOf (actOf u))) acts-are ∙ count-map actOf (endsMemberOf (actOf u)) ds ∙ ap (count (λ a. endsMemberOf (actOf u) (actOf a))) p ∙ r .0,
+            ap (λ (y : Act). count (endsMemberOf y) (acts t 0 s ms)) (sym b) ∙ ap (count (endsMemberOf (actOf u))) acts-are ∙ count-map actOf (endsMemberOf (actOf u)) ds
+                ∙ ap (count (λ a. endsMemberOf (actOf u) (actOf a))) p ∙ r .0,
             ap (λ (y : Act). count (endsMemberOf y) ys) (sym b) ∙ ap (count (endsMemberOf (actOf u))) (sym c) ∙ count-map actOf (endsMemberOf (actOf u)) vs ∙ r .1,
           )
 
@@ -250,29 +268,36 @@ module _ (t : Table) (right : TableRight t) (ne : beginsEmit t ≡ false) (s : S
       same [] = refl
       same (u ∷ us) = rw (begin-same t (u .move), same us)
 
-      go : (us : List Deed) × (u : Deed) × (vs : List Deed) × (ds ≡ us ++ u ∷ vs) × (map actOf us ≡ xs) × (actOf u ≡ a) × (map actOf vs ≡ ys) → any (λ x. isBegin t (x .move) && any (sameOrigin o) (x .members)) xs ≡ true
+      go : (us : List Deed) × (u : Deed) × (vs : List Deed) × (ds ≡ us ++ u ∷ vs) × (map actOf us ≡ xs) × (actOf u ≡ a) × (map actOf vs ≡ ys)
+          → any (λ x. isBegin t (x .move) && any (sameOrigin o) (x .members)) xs ≡ true
       go (us, u, vs, p, x, b, c) =
           ap (any (λ x. isBegin t (x .move) && any (sameOrigin o) (x .members))) (sym x) ∙ same us
-          ∙ begun-before-of t sd us (view s) (view e) u vs g (λ o c k z. let w = kind-start (t .sizes) s S o c k in omega arith) (subst (λ (l : List Deed). LogRuns t 0 (view s) l (view e)) p (ran .0))
+          ∙ begun-before-of t sd us (view s) (view e) u vs g (λ o c k z. let w = kind-start (t .sizes) s S o c k in omega arith)
+          (subst (λ (l : List Deed). LogRuns t 0 (view s) l (view e)) p (ran .0))
           (subst (λ (y : Act). isEnd (y .move) ≡ true) (sym b) h) o (subst (λ (y : Act). any (sameOrigin o) (y .members) ≡ true) (sym b) m)
 
   pub same-at : (j : ℕ) → j < length ms
-      → SameMove (stateBefore t (upFrom 0 (length ms)) s ms (getD (placesOf t s ms) j 0)) (stateBefore t (placesOf t s ms) s (serial t s ms) j) (getD ms (getD (placesOf t s ms) j 0) noMove) (getD (serial t s ms) j noMove)
+      → SameMove (stateBefore t (upFrom 0 (length ms)) s ms (getD (placesOf t s ms) j 0)) (stateBefore t (placesOf t s ms) s (serial t s ms) j)
+      (getD ms (getD (placesOf t s ms) j 0) noMove) (getD (serial t s ms) j noMove)
   same-at j h =
-      subst (λ (ps : List ℕ). SameMove (stateBefore t (upFrom 0 (length ms)) s ms (getD ps j 0)) (stateBefore t ps s (serial t s ms) j) (getD ms (getD ps j 0) noMove) (getD (serial t s ms) j noMove)) (sym places-are)
-      (subst (λ (l : List Move). SameMove (stateBefore t (upFrom 0 (length ms)) s ms (getD (map (λ a. a .place) (isort ds)) j 0)) (stateBefore t (map (λ a. a .place) (isort ds)) s l j) (getD ms (getD (map (λ a. a .place) (isort ds)) j 0) noMove) (getD l j noMove)) (sym serial-is)
+      subst (λ (ps : List ℕ). SameMove (stateBefore t (upFrom 0 (length ms)) s ms (getD ps j 0)) (stateBefore t ps s (serial t s ms) j) (getD ms (getD ps j 0) noMove)
+      (getD (serial t s ms) j noMove)) (sym places-are)
+      (subst (λ (l : List Move). SameMove (stateBefore t (upFrom 0 (length ms)) s ms (getD (map (λ a. a .place) (isort ds)) j 0))
+      (stateBefore t (map (λ a. a .place) (isort ds)) s l j) (getD ms (getD (map (λ a. a .place) (isort ds)) j 0) noMove) (getD l j noMove)) (sym serial-is)
       (same-moves t s ms (isort ds) s (again-runs .agains) placed j (let w = sorted-length in omega arith)))
     where
       placed : All (Placed t s ms) (isort ds)
       placed = All-isort (Placed t s ms) ds placed-log
 
   pub origins-at : (j : ℕ) → j < length ms → (o : Origin)
-      → (count (hasOrigin o) (stateBefore t (upFrom 0 (length ms)) s ms j .entries) ≤ 1) × (count (hasOrigin o) (stateBefore t (placesOf t s ms) s (serial t s ms) j .entries) ≤ 1)
+      → (count (hasOrigin o) (stateBefore t (upFrom 0 (length ms)) s ms j .entries) ≤ 1) ×
+      (count (hasOrigin o) (stateBefore t (placesOf t s ms) s (serial t s ms) j .entries) ≤ 1)
   origins-at j h o = (
     origin-once o (stateBefore t (upFrom 0 (length ms)) s ms j .entries) (log-uniq t sd 0 s ms e (uniq-numbered 0 (s .entries) (S .numbered)) g run j),
     subst (λ (ps : List ℕ). count (hasOrigin o) (stateBefore t ps s (serial t s ms) j .entries) ≤ 1) (sym places-are)
         (subst (λ (l : List Move). count (hasOrigin o) (stateBefore t (map (λ a. a .place) (isort ds)) s l j .entries) ≤ 1) (sym serial-is)
-        (origin-once o (stateBefore t (map (λ a. a .place) (isort ds)) s (replayed t s (map actOf (isort ds))) j .entries) (serial-uniq t (isort ds) s (again-runs .agains) j (let w = sorted-length in omega arith)))),
+        (origin-once o (stateBefore t (map (λ a. a .place) (isort ds)) s (replayed t s (map actOf (isort ds))) j .entries)
+        (serial-uniq t (isort ds) s (again-runs .agains) j (let w = sorted-length in omega arith)))),
   )
 
   pub serial-size : length (serial t s ms) ≡ length ms
@@ -295,7 +320,9 @@ module _ (t : Table) (right : TableRight t) (ne : beginsEmit t ≡ false) (s : S
   same-count k p v =
       sym (count-bare (isGlobal k p v) (λ x. refl) (accepted .0 .entries)) ∙ ap (λ (x : State). count (isGlobal k p v) (x .entries)) (accepted .2)
       ∙ count-bare (isGlobal k p v) (λ x. refl) (again-runs .state .entries)
-      ∙ messages-same (again-runs .state) e (again-runs .names) (again-runs .rel) shut (ran .1) (closed-messages (t .sizes) (again-runs .state) (again-runs .sound .right) (end-closed (again-runs .state) e (again-runs .names) (again-runs .rel) shut (ran .1)))
+      ∙ messages-same (again-runs .state) e (again-runs .names) (again-runs .rel) shut (ran .1)
+      (closed-messages (t .sizes) (again-runs .state) (again-runs .sound .right)
+      (end-closed (again-runs .state) e (again-runs .names) (again-runs .rel) shut (ran .1)))
       (closed-messages (t .sizes) e (sound-runs t right 0 s ms e run (S .sound) known .right) cl) (isGlobal k p v)
 
   pub serial-decoded : Serial t s ms e
@@ -306,7 +333,8 @@ module _ (t : Table) (right : TableRight t) (ne : beginsEmit t ≡ false) (s : S
     same = same-at;
     origins = origins-at;
     states = states-at;
-    blocks = λ xs ys a q h. subst (λ (l : List Act). (before : List Act) × (behind : List Act) × (ordered [] l ≡ before ++ (keep (belongsTo a) xs ++ a ∷ behind))) (sym q) (block-there xs ys a h);
+    blocks = λ xs ys a q h. subst (λ (l : List Act). (before : List Act) × (behind : List Act) × (ordered [] l ≡ before ++ (keep (belongsTo a) xs ++ a ∷ behind))) (sym q)
+        (block-there xs ys a h);
     one-block = one-block;
     begun-before = begun-before;
     others = outer-order [] (acts t 0 s ms);

@@ -58,7 +58,8 @@ module _ (ceiling : ℕ) (T S L : List ℕ) (e : State) (ok : stateVerdict T S �
   taken = run-accepted ceiling t 0 s (movesOf L) e ran
 
   pub known : All (RuleKnown t) ms
-  known = All-unmap (moveOf t) (RuleKnown t) (movesOf L) (All-map {P = λ w. moveOk t w ≡ true} {Q = λ w. RuleKnown t (moveOf t w)} (λ w h. rule-known t w h) (movesOf L) (taken .1))
+  known = All-unmap (moveOf t) (RuleKnown t) (movesOf L) (All-map {P = λ w. moveOk t w ≡ true} {Q = λ w. RuleKnown t (moveOf t w)} (λ w h. rule-known t w h) (movesOf L)
+      (taken .1))
 
   pub serial-log : Serial t s ms e
   serial-log = serial-decoded t right ne s start ms known e (taken .0) cl
@@ -83,7 +84,8 @@ module _ (ceiling : ℕ) (T S L : List ℕ) (e : State) (ok : stateVerdict T S �
   unfolding serialResult serialFitsOf serialFits serialOf
   answered target h = rw (log-allowed, le-leb (1 + 5 * moveCount L) (length target) h, ne, op, ran, cl) (go (all (fits ceiling) (along t 0 s (serial t s ms))))
     where
-      go : (b : Bool) → unlessDenied (unless b SerialTooManyEntries) (write (logWords (serial t s ms))) ≡ cond b (write (logWords (serial t s ms))) (refuse SerialTooManyEntries)
+      go : (b : Bool) → unlessDenied (unless b SerialTooManyEntries) (write (logWords (serial t s ms)))
+          ≡ cond b (write (logWords (serial t s ms))) (refuse SerialTooManyEntries)
       go true = refl
       go false = refl
 
@@ -94,7 +96,8 @@ module _ (ceiling : ℕ) (T S L : List ℕ) (e : State) (ok : stateVerdict T S �
   unfolding logVerdict
   rerun-log = rw (ok, log-ok (serial t s ms) (let a = serial-log .size in let b = count-is in let c = count-1024 L lo in omega arith))
 
-  pub reran : roomAlong ceiling T S L ≡ true → (target : List ℕ) → 2050 ≤ length target → runResult ceiling T S (logWords (serialOf T S L)) target ≡ write (stateWords (serial-log .end))
+  pub reran : roomAlong ceiling T S L ≡ true → (target : List ℕ) → 2050 ≤ length target
+      → runResult ceiling T S (logWords (serialOf T S L)) target ≡ write (stateWords (serial-log .end))
   unfolding runResult serialOf
   reran f target h = rw (rerun-log, le-leb 2050 (length target) h) (ap ranResult (rerun-is f))
 

@@ -72,9 +72,11 @@ module _ (t : Table) (sd : Shaped t) (i : ℕ) (F : Seen) (a : Deed) (g : Good i
   pub old-mark : (v : ℕ) → v < F .next → isIn v (a .touched) ≡ true → Mark (F .cell) v
   old-mark v lt h = by-bool (begun t (a .move))
       (λ b. let w = isIn-one v (F .next) (subst (λ (l : List ℕ). isIn v l ≡ true) (st .tick b) h) in absurd (omega arith))
-      (λ b. let l = touched-live t sd F a (st .ok) b v h in subst (λ (x : ℕ). Mark (F .cell) x) (l .3) (g .marks (l .0) (l .1) (l .2) (λ z. not-zero v h (sym (l .3) ∙ z))))
+      (λ b. let l = touched-live t sd F a (st .ok) b v h in subst (λ (x : ℕ). Mark (F .cell) x) (l .3)
+      (g .marks (l .0) (l .1) (l .2) (λ z. not-zero v h (sym (l .3) ∙ z))))
 
-  pub keeps-mark : (v : ℕ) → (isEnd (a .move) ≡ true → isIn v (a .touched) ≡ false) → Mark (F .cell) v → Mark (astep t F a .cell) (cond (isIn v (a .touched)) (least (a .touched)) v)
+  pub keeps-mark : (v : ℕ) → (isEnd (a .move) ≡ true → isIn v (a .touched) ≡ false) → Mark (F .cell) v
+      → Mark (astep t F a .cell) (cond (isIn v (a .touched)) (least (a .touched)) v)
   unfolding astep
   keeps-mark v e (o, d, h, x, w) =
       let q = mark-stay t (F .cell) a (st .ok .es) (received F a) o d (a .move) (st .ok .tests) (st .ok .found) (λ z. rw w (e z)) h x in
@@ -108,7 +110,8 @@ module _ (t : Table) (sd : Shaped t) (i : ℕ) (F : Seen) (a : Deed) (g : Good i
   good-next = record {
     pos = let w = later-le (begun t (a .move)) (F .next) in let p = g .pos in omega arith;
     makers = λ o e h. maker-of o e (apply-inv (F .cell) (actionOf t (received F a) a) o e h);
-    below = λ o e h. below-of o e (frame-from (F .cell) (actionOf t (received F a) a) (a .touched) (a .place) (act-local t a (st .ok .es) (received F a) (st .ok .tests)) o e h);
+    below = λ o e h. below-of o e (frame-from (F .cell) (actionOf t (received F a) a) (a .touched) (a .place)
+        (act-local t a (st .ok .es) (received F a) (st .ok .tests)) o e h);
     marks = good-marks;
   }
     where
@@ -125,10 +128,12 @@ module _ (t : Table) (sd : Shaped t) (i : ℕ) (F : Seen) (a : Deed) (g : Good i
           two (inr z) = touched-bound (e .owner) z
 
   -- a transaction of an earlier id that is there after a move: the move left it alone, or it is the one that the others were merged into
-  pub still : (v : ℕ) → (v ≡ 0 → ⊥) → v < F .next → Mark (astep t F a .cell) v → (Mark (F .cell) v) × ((isIn v (a .touched) ≡ true → (v ≡ least (a .touched)) × (isEnd (a .move) ≡ false)))
+  pub still : (v : ℕ) → (v ≡ 0 → ⊥) → v < F .next → Mark (astep t F a .cell) v
+      → (Mark (F .cell) v) × ((isIn v (a .touched) ≡ true → (v ≡ least (a .touched)) × (isEnd (a .move) ≡ false)))
   still v nz lt (o, e, h, x, w) = go (subst (λ (z : ℕ). From (F .cell) (a .touched) (isEnd (a .move)) o z) w (came-from o e h (λ z. nz (sym w ∙ z))))
     where
-      merged-into : v ≡ least (a .touched) → isEnd (a .move) ≡ false → (Mark (F .cell) v) × ((isIn v (a .touched) ≡ true → (v ≡ least (a .touched)) × (isEnd (a .move) ≡ false)))
+      merged-into : v ≡ least (a .touched) → isEnd (a .move) ≡ false
+          → (Mark (F .cell) v) × ((isIn v (a .touched) ≡ true → (v ≡ least (a .touched)) × (isEnd (a .move) ≡ false)))
       merged-into s r = (old-mark v lt (rw s (least-pos (a .touched) (λ z. nz (s ∙ z)))), λ u. (s, r))
 
       go : From (F .cell) (a .touched) (isEnd (a .move)) o v → (Mark (F .cell) v) × ((isIn v (a .touched) ≡ true → (v ≡ least (a .touched)) × (isEnd (a .move) ≡ false)))
@@ -158,7 +163,8 @@ module _ (t : Table) (sd : Shaped t) (G : Seen) where
   fate i F [] g r v nz lt = tt
   fate i F (a ∷ xs) g r v nz lt = (
     λ h. (old-mark t sd i F a g (r .0 .step) v lt h, r .0 .key ∙ key-in (isEnd (a .move)) i v (a .touched) xs h ∙ rw h),
-    All-map {P = λ x. isIn v (x .touched) ≡ true → Mark (astep t F a .cell) v × (x .key ≡ ender (suc i) xs v)} {Q = λ x. isIn v (x .touched) ≡ true → Mark (F .cell) v × (x .key ≡ ender i (a ∷ xs) v)}
+    All-map {P = λ x. isIn v (x .touched) ≡ true → Mark (astep t F a .cell) v × (x .key ≡ ender (suc i) xs v)} {Q = λ x. isIn v (x .touched) ≡ true → Mark (F .cell) v ×
+        (x .key ≡ ender i (a ∷ xs) v)}
         (λ x ih h. let q = ih h in let s = still t sd i F a g (r .0 .step) v nz lt (q .0) in (s .0, q .1 ∙ same-end (s .1)))
         xs (fate (suc i) (astep t F a) xs (next-good i F a xs g (r .0)) (r .1) v nz (let w = next-le t F a in omega arith)),
   )
@@ -169,7 +175,8 @@ module _ (t : Table) (sd : Shaped t) (G : Seen) where
           (λ y. rw y)
 
   -- a transaction that is there is ended before a log that leaves none open is over
-  pub fate-bound : (i : ℕ) (F : Seen) (xs : List Deed) → Good i F → LogRuns t i F xs G → NoneOpen G → (v : ℕ) → (v ≡ 0 → ⊥) → Mark (F .cell) v → ender i xs v < i + length xs
+  pub fate-bound : (i : ℕ) (F : Seen) (xs : List Deed) → Good i F → LogRuns t i F xs G → NoneOpen G → (v : ℕ) → (v ≡ 0 → ⊥) → Mark (F .cell) v
+      → ender i xs v < i + length xs
   unfolding NoneOpen
   fate-bound i F [] g r n v nz (o, e, h, x, w) = absurd (nz (sym w ∙ n o e (ap (λ (H : Seen). H .cell o) (sym r) ∙ h)))
   fate-bound i F (a ∷ xs) g r n v nz l =
@@ -178,7 +185,8 @@ module _ (t : Table) (sd : Shaped t) (G : Seen) where
       moved : (isEnd (a .move) ≡ true → isIn v (a .touched) ≡ false) → Mark (astep t F a .cell) (cond (isIn v (a .touched)) (least (a .touched)) v)
       moved z = keeps-mark t sd i F a g (r .0 .step) v z l
 
-      go : ((w : ℕ) → (w ≡ 0 → ⊥) → Mark (astep t F a .cell) w → ender (suc i) xs w < suc i + length xs) → (c : Bool) → isIn v (a .touched) ≡ c → (d : Bool) → isEnd (a .move) ≡ d
+      go : ((w : ℕ) → (w ≡ 0 → ⊥) → Mark (astep t F a .cell) w → ender (suc i) xs w < suc i + length xs) → (c : Bool) → isIn v (a .touched) ≡ c → (d : Bool)
+          → isEnd (a .move) ≡ d
           → cond c (cond d i (ender (suc i) xs (least (a .touched)))) (ender (suc i) xs v) < i + length (a ∷ xs)
       go ih true p true q = omega arith
       go ih true p false q =
@@ -196,7 +204,8 @@ module _ (t : Table) (sd : Shaped t) (G : Seen) where
   places i F [] r = tt
   places i F (a ∷ xs) r = (
     (let w = r .0 .step .place in omega arith, ge (key-cases (isEnd (a .move)) i (a .touched) xs)),
-    All-map {P = λ x. (suc i ≤ x .place) × (x .place ≤ x .key)} {Q = λ x. (i ≤ x .place) × (x .place ≤ x .key)} (λ x h. (let w = h .0 in omega arith, h .1)) xs (places (suc i) (astep t F a) xs (r .1)),
+    All-map {P = λ x. (suc i ≤ x .place) × (x .place ≤ x .key)} {Q = λ x. (i ≤ x .place) × (x .place ≤ x .key)} (λ x h. (let w = h .0 in omega arith, h .1)) xs
+        (places (suc i) (astep t F a) xs (r .1)),
   )
     where
       ge : KeyCases (isEnd (a .move)) i (a .touched) xs → a .place ≤ a .key
@@ -207,7 +216,8 @@ module _ (t : Table) (sd : Shaped t) (G : Seen) where
   key-bound i F [] g r n = tt
   key-bound i F (a ∷ xs) g r n = (
     lt (key-cases (isEnd (a .move)) i (a .touched) xs),
-    All-map {P = λ x. x .key < suc i + length xs} {Q = λ x. x .key < i + length (a ∷ xs)} (λ x h. omega arith) xs (key-bound (suc i) (astep t F a) xs (next-good i F a xs g (r .0)) (r .1) n),
+    All-map {P = λ x. x .key < suc i + length xs} {Q = λ x. x .key < i + length (a ∷ xs)} (λ x h. omega arith) xs
+        (key-bound (suc i) (astep t F a) xs (next-good i F a xs g (r .0)) (r .1) n),
   )
     where
       lt : KeyCases (isEnd (a .move)) i (a .touched) xs → a .key < i + length (a ∷ xs)
@@ -226,17 +236,21 @@ module _ (t : Table) (sd : Shaped t) (G : Seen) where
       g′ = next-good i F a xs g (r .0)
 
       back-of : (o : Origin) → isInO o (a .picks) ≡ true → o .maker ≤ a .place
-      back-of o h = let q = found-at (F .cell) (mine (a .touched)) o (a .picks) (r .0 .step .ok .es) (r .0 .step .ok .found) (r .0 .step .ok .own) h in let w = g .makers o (q .0) (q .1) in let u = r .0 .step .place in omega arith
+      back-of o h = let q = found-at (F .cell) (mine (a .touched)) o (a .picks) (r .0 .step .ok .es) (r .0 .step .ok .found) (r .0 .step .ok .own) h in
+          let w = g .makers o (q .0) (q .1) in let u = r .0 .step .place in omega arith
 
       touches : All (λ x. (v : ℕ) → (isIn v (a .touched) ≡ true) → isIn v (x .touched) ≡ true → Mark (astep t F a .cell) v × (x .key ≡ ender (suc i) xs v)) xs
       touches = All-forall (λ v. isIn v (a .touched) ≡ true) (λ v x. isIn v (x .touched) ≡ true → Mark (astep t F a .cell) v × (x .key ≡ ender (suc i) xs v)) xs
           (λ v h. fate (suc i) (astep t F a) xs g′ (r .1) v (not-zero t sd i F a g (r .0 .step) v h) (touched-bound t sd i F a g (r .0 .step) v h))
 
-      same-key : (x : Deed) → x .key < a .key → (v : ℕ) → isIn v (a .touched) ≡ true → Mark (astep t F a .cell) v → x .key ≡ ender (suc i) xs v → keyOf (isEnd (a .move)) i (a .touched) xs ≡ ender (suc i) xs (least (a .touched)) → ⊥
-      same-key x lt v y l e d = let c : ender (suc i) xs v ≡ ender (suc i) xs (least (a .touched)) = ap (ender (suc i) xs) (only t sd i F a g (r .0 .step) v y l) in let u = r .0 .key in omega arith
+      same-key : (x : Deed) → x .key < a .key → (v : ℕ) → isIn v (a .touched) ≡ true → Mark (astep t F a .cell) v → x .key ≡ ender (suc i) xs v
+          → keyOf (isEnd (a .move)) i (a .touched) xs ≡ ender (suc i) xs (least (a .touched)) → ⊥
+      same-key x lt v y l e d = let c : ender (suc i) xs v ≡ ender (suc i) xs (least (a .touched)) = ap (ender (suc i) xs) (only t sd i F a g (r .0 .step) v y l) in
+          let u = r .0 .key in omega arith
 
       swaps : KeyCases (isEnd (a .move)) i (a .touched) xs → Swaps t a xs
-      swaps (inl q) = All-map {P = λ x. (suc i ≤ x .place) × (x .place ≤ x .key)} {Q = λ x. x .key < a .key → Swap t a x} (λ x h lt. let u = r .0 .key in let w = h .0 in let y = h .1 in absurd (omega arith)) xs (places (suc i) (astep t F a) xs (r .1))
+      swaps (inl q) = All-map {P = λ x. (suc i ≤ x .place) × (x .place ≤ x .key)} {Q = λ x. x .key < a .key → Swap t a x} (λ x h lt. let u = r .0 .key in let w = h .0 in
+          let y = h .1 in absurd (omega arith)) xs (places (suc i) (astep t F a) xs (r .1))
       swaps (inr q) = All-two (λ x p h lt. record {
         reacts = q .0;
         some-touched = q .1;

@@ -36,7 +36,8 @@ pub origins-some : (o : Origin) (l : List Entry) → isInO o (originsOf l) ≡ t
 origins-some o [] h = absurd (false≢true h)
 origins-some o (e ∷ l) h = refl
 
-module _ (t : Table) (sd : Shaped t) (i k : ℕ) (s : State) (r : ℕ) (ps : List ℕ) (u : Uniq (s .entries)) (g : Good i (view s)) (K : Ok t (view s) (deedAt t i k s (react r ps))) where
+module _ (t : Table) (sd : Shaped t) (i k : ℕ) (s : State) (r : ℕ) (ps : List ℕ) (u : Uniq (s .entries)) (g : Good i (view s))
+    (K : Ok t (view s) (deedAt t i k s (react r ps))) where
   abbrev pub R : Rule
   R = ruleAt t r
 
@@ -54,12 +55,15 @@ module _ (t : Table) (sd : Shaped t) (i k : ℕ) (s : State) (r : ℕ) (ps : Lis
   unfolding astep
   inner-marks q = All-unmap (λ e. e .origin) (λ o. MarkAt (astep t (view s) theDeed .cell) o (least (touched t s (react r ps)))) (keep inOs (s .entries))
       (All-keep (λ e. MarkAt (astep t (view s) theDeed .cell) (e .origin) (least (touched t s (react r ps)))) inOs (s .entries)
-      (All-map {P = λ e. look (e .origin) (s .entries) ≡ some e} {Q = λ e. inOs e ≡ true → MarkAt (astep t (view s) theDeed .cell) (e .origin) (least (touched t s (react r ps)))} (λ e h z. at e h z) (s .entries) (all-found (s .entries) u)))
+      (All-map {P = λ e. look (e .origin) (s .entries) ≡ some e} {Q = λ e. inOs e ≡ true → MarkAt (astep t (view s) theDeed .cell) (e .origin)
+      (least (touched t s (react r ps)))} (λ e h z. at e h z) (s .entries) (all-found (s .entries) u)))
     where
       at : (e : Entry) → look (e .origin) (s .entries) ≡ some e → inOs e ≡ true → MarkAt (astep t (view s) theDeed .cell) (e .origin) (least (touched t s (react r ps)))
       at e h z =
-          let w : isIn (e .owner) (touched t s (react r ps)) ≡ true = subst (λ (l : List ℕ). isIn (e .owner) l ≡ true) (sym q) (and-right (isMemberMark e) (isIn (e .owner) os) z) in
-          let m = mark-stay t (view s .cell) theDeed (K .es) (received (view s) theDeed) (e .origin) (strip e) (react r ps) (K .tests) (K .found) (λ x. absurd (false≢true x)) (view-look s (e .origin) e h) (eqb-true (e .kind) 3 (and-left (isMemberMark e) (isIn (e .owner) os) z)) in
+          let w : isIn (e .owner) (touched t s (react r ps)) ≡ true = subst (λ (l : List ℕ). isIn (e .owner) l ≡ true) (sym q)
+          (and-right (isMemberMark e) (isIn (e .owner) os) z) in
+          let m = mark-stay t (view s .cell) theDeed (K .es) (received (view s) theDeed) (e .origin) (strip e) (react r ps) (K .tests) (K .found)
+          (λ x. absurd (false≢true x)) (view-look s (e .origin) e h) (eqb-true (e .kind) 3 (and-left (isMemberMark e) (isIn (e .owner) os) z)) in
           (m .0, m .1, m .2, m .3 ∙ rw w)
 
   pub begin-marks : begins R ≡ true → MarkAt (astep t (view s) theDeed .cell) (firstOf i) (least (touched t s (react r ps)))
@@ -114,8 +118,10 @@ module _ (t : Table) (sd : Shaped t) (i k : ℕ) (s : State) (r : ℕ) (ps : Lis
           full (inl x) y = absurd (clash x y)
           full (inr x) y = x
 
-pub marked-of : (t : Table) → Shaped t → (i k : ℕ) (s : State) (m : Move) → Uniq (s .entries) → Good i (view s) → Ok t (view s) (deedAt t i k s m) → allowed t s m ≡ Allowed → Marked t (view s) (deedAt t i k s m)
-marked-of t sd i k s (react r ps) u g K h = marked-react t sd i k s r ps u g K (by-bool (isEmpty (consumed (ruleAt t r))) (λ n. inl n) (λ n. inr (ports-some (consumed (ruleAt t r)) (picked s ps) n (react-passes t s r ps h .ports))))
+pub marked-of : (t : Table) → Shaped t → (i k : ℕ) (s : State) (m : Move) → Uniq (s .entries) → Good i (view s) → Ok t (view s) (deedAt t i k s m)
+    → allowed t s m ≡ Allowed → Marked t (view s) (deedAt t i k s m)
+marked-of t sd i k s (react r ps) u g K h = marked-react t sd i k s r ps u g K
+    (by-bool (isEmpty (consumed (ruleAt t r))) (λ n. inl n) (λ n. inr (ports-some (consumed (ruleAt t r)) (picked s ps) n (react-passes t s r ps h .ports))))
 marked-of t sd i k s (commit b) u g K h = λ z. absurd (true≢false z)
 marked-of t sd i k s (abort b) u g K h = λ z. absurd (true≢false z)
 

@@ -97,7 +97,8 @@ pub ender-ge : (i : ℕ) (xs : List Deed) (b : ℕ) → i ≤ ender i xs b
 ender-ge i [] b = omega arith
 ender-ge i (a ∷ xs) b = go (isIn b (a .touched)) (isEnd (a .move)) (ender-ge (suc i) xs (least (a .touched))) (ender-ge (suc i) xs b)
   where
-    go : (c d : Bool) → suc i ≤ ender (suc i) xs (least (a .touched)) → suc i ≤ ender (suc i) xs b → i ≤ cond c (cond d i (ender (suc i) xs (least (a .touched)))) (ender (suc i) xs b)
+    go : (c d : Bool) → suc i ≤ ender (suc i) xs (least (a .touched)) → suc i ≤ ender (suc i) xs b
+        → i ≤ cond c (cond d i (ender (suc i) xs (least (a .touched)))) (ender (suc i) xs b)
     go true true p q = omega arith
     go true false p q = omega arith
     go false d p q = omega arith

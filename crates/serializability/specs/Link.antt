@@ -81,7 +81,8 @@ view-found (t ∷ ts) l (p ∷ ps) u h =
 
 pub all-zero : (bs : List ℕ) (es : List Entry) → all isZero (owners es) ≡ true → all (mine bs) es ≡ true
 all-zero bs [] h = refl
-all-zero bs (e ∷ es) h = and-intro (mine-zero bs e (eqb-true (e .owner) 0 (and-left (eqb (e .owner) 0) (all isZero (owners es)) h))) (all-zero bs es (and-right (eqb (e .owner) 0) (all isZero (owners es)) h))
+all-zero bs (e ∷ es) h = and-intro (mine-zero bs e (eqb-true (e .owner) 0 (and-left (eqb (e .owner) 0) (all isZero (owners es)) h)))
+    (all-zero bs es (and-right (eqb (e .owner) 0) (all isZero (owners es)) h))
 
 pub all-in : (bs : List ℕ) (es : List Entry) → ((v : ℕ) → isIn v (owners es) ≡ true → isIn v bs ≡ true) → all (mine bs) es ≡ true
 all-in bs [] h = refl
@@ -144,9 +145,11 @@ module _ (t : Table) (sd : Shaped t) (i k : ℕ) (s : State) (r : ℕ) (ps : Lis
   unfolding view handled touched astep actionBy
   cells-react o = look-map strip (λ e. refl) o (reacted R (suc i) s ps .entries)
       ∙ ap (omap strip) (look-reacted R (sd r) (suc i) s ps (P .owners) u rng fresh-list o)
-      ∙ cell-eq (isInO o (originsOf es)) (look o (s .entries)) (look o (productsOf R (suc i) s ps)) (merged (owners es)) (merged bs) (λ e. touched-merge R (s .next) (owners es) (sd r) (P .owners) (strip e))
+      ∙ cell-eq (isInO o (originsOf es)) (look o (s .entries)) (look o (productsOf R (suc i) s ps)) (merged (owners es)) (merged bs)
+      (λ e. touched-merge R (s .next) (owners es) (sd r) (P .owners) (strip e))
       ∙ (λ j. orElse (cond (isInO o (originsOf es)) none (bindO (λ e. some (merged bs e)) (sym (look-map strip (λ e. refl) o (s .entries)) j)))
-      ((sym (look-map strip (λ e. refl) o (productsOf R (suc i) s ps)) ∙ ap (λ (vs : List ℕ). look o (map strip (make (suc i) (least bs) vs 0 (productAtoms R)))) values-eq) j))
+      ((sym (look-map strip (λ e. refl) o (productsOf R (suc i) s ps))
+      ∙ ap (λ (vs : List ℕ). look o (map strip (make (suc i) (least bs) vs 0 (productAtoms R)))) values-eq) j))
 
   pub sim-react : Sim t i k s (react r ps)
   unfolding view handled touched astep applied reacted
@@ -165,7 +168,8 @@ left-strip k b h (some e) = go (owned b e) (eqb (e .kind) k) refl
     value-eq : eqb (e .kind) k ≡ true → e .value ≡ cond (eqb (e .kind) 3) 0 (e .value)
     value-eq q = let w = eqb-true (e .kind) k q in sym (rw (ne-eqb (e .kind) 3 (λ z. omega arith)))
 
-    go : (c d : Bool) → eqb (e .kind) k ≡ d → omap strip (cond c (cond d (some (toGlobal e)) none) (some e)) ≡ cond c (cond d (some (toGlobal (strip e))) none) (some (strip e))
+    go : (c d : Bool) → eqb (e .kind) k ≡ d → omap strip (cond c (cond d (some (toGlobal e)) none) (some e))
+        ≡ cond c (cond d (some (toGlobal (strip e))) none) (some (strip e))
     go true true q = λ j. some (record { origin = e .origin; owner = 0; kind = 0; port = e .port; value = value-eq q j })
     go true false q = refl
     go false d q = refl
@@ -173,7 +177,11 @@ left-strip k b h (some e) = go (owned b e) (eqb (e .kind) k) refl
 -- each entry is found at its origin
 pub all-found : (l : List Entry) → Uniq l → All (λ e. look (e .origin) l ≡ some e) l
 all-found [] u = tt
-all-found (x ∷ l) u = (look-head x l, All-map {P = λ e. look (e .origin) l ≡ some e} {Q = λ e. look (e .origin) (x ∷ l) ≡ some e} (λ e h. look-deeper x l (u .0) (e .origin) h) l (all-found l (u .1)))
+all-found (x ∷ l) u = (
+  look-head x l,
+  All-map {P = λ e. look (e .origin) l ≡ some e} {Q = λ e. look (e .origin) (x ∷ l) ≡ some e}
+      (λ e h. look-deeper x l (u .0) (e .origin) h) l (all-found l (u .1)),
+)
 
 pub origins-found : (l ks : List Entry) → All (λ e. look (e .origin) l ≡ some e) ks → map (λ o. look o (map strip l)) (originsOf ks) ≡ map some (map strip ks)
 origins-found l [] h = refl
@@ -184,7 +192,8 @@ abbrev pub marked : ℕ → Entry → Bool
 marked b e = isMemberMark e && isIn (e .owner) (b ∷ [])
 
 pub marked-mark : (b : ℕ) (e : Entry) → marked b e ≡ true → markOf b e ≡ true
-marked-mark b e h = and-intro (and-left (isMemberMark e) (isIn (e .owner) (b ∷ [])) h) (eq-eqb (e .owner) b (isIn-one (e .owner) b (and-right (isMemberMark e) (isIn (e .owner) (b ∷ [])) h)))
+marked-mark b e h = and-intro (and-left (isMemberMark e) (isIn (e .owner) (b ∷ [])) h)
+    (eq-eqb (e .owner) b (isIn-one (e .owner) b (and-right (isMemberMark e) (isIn (e .owner) (b ∷ [])) h)))
 
 pub mark-marked : (b : ℕ) (e : Entry) → e .kind ≡ 3 → e .owner ≡ b → marked b e ≡ true
 mark-marked b e h k = and-intro (eq-eqb (e .kind) 3 h) (rw k (isIn-head b []))
@@ -199,7 +208,8 @@ module _ (t : Table) (i k : ℕ) (s : State) (b : ℕ) (u : Uniq (s .entries)) (
   pub marks-found : map (view s .cell) (originsOf marksHere) ≡ map some (map strip marksHere)
   unfolding view marksHere
   marks-found = origins-found (s .entries) marksHere (All-keep (λ e. look (e .origin) (s .entries) ≡ some e) (marked b) (s .entries)
-      (All-map {P = λ e. look (e .origin) (s .entries) ≡ some e} {Q = λ e. marked b e ≡ true → look (e .origin) (s .entries) ≡ some e} (λ e h z. h) (s .entries) (all-found (s .entries) u)))
+      (All-map {P = λ e. look (e .origin) (s .entries) ≡ some e} {Q = λ e. marked b e ≡ true → look (e .origin) (s .entries) ≡ some e} (λ e h z. h) (s .entries)
+      (all-found (s .entries) u)))
 
   pub marks-mine : (p : Entry → Bool) → ((e : Entry) → marked b e ≡ true → p (strip e) ≡ true) → all p (map strip marksHere) ≡ true
   unfolding marksHere
@@ -214,7 +224,8 @@ module _ (t : Table) (i k : ℕ) (s : State) (b : ℕ) (u : Uniq (s .entries)) (
   pub all-marks : AllMarks (view s .cell) b (originsOf marksHere)
   unfolding marksHere
   all-marks o e h w z = let v = view-some s o e h in
-      look-isIn o (keep (marked b) (s .entries)) (v .0) (look-kept (marked b) o (s .entries) (v .0) u (v .1) (mark-marked b (v .0) (ap (λ (x : Entry). x .kind) (v .2) ∙ z) (ap (λ (x : Entry). x .owner) (v .2) ∙ w)))
+      look-isIn o (keep (marked b) (s .entries)) (v .0) (look-kept (marked b) o (s .entries) (v .0) u (v .1)
+      (mark-marked b (v .0) (ap (λ (x : Entry). x .kind) (v .2) ∙ z) (ap (λ (x : Entry). x .owner) (v .2) ∙ w)))
 
   pub marks-some : isEmpty (map strip marksHere) ≡ false
   marks-some = let m = mark-there in go (m .0) marksHere (all-marks (m .0) (m .1) (m .2) (m .4) (m .3))
@@ -247,7 +258,8 @@ module _ (t : Table) (i k : ℕ) (s : State) (b : ℕ) (u : Uniq (s .entries)) (
         whole = (
           (λ o e h q. let v = view-some s o e h in
               subst (λ (x : Entry). mayLeave t x ≡ true) (v .2)
-              (look-all (mayLeave t) o (entriesIn b s) may (look-kept (owned b) o (s .entries) (v .0) u (v .1) (eq-eqb (v .0 .owner) b (ap (λ (x : Entry). x .owner) (v .2) ∙ q))))),
+              (look-all (mayLeave t) o (entriesIn b s) may (look-kept (owned b) o (s .entries) (v .0) u (v .1)
+              (eq-eqb (v .0 .owner) b (ap (λ (x : Entry). x .owner) (v .2) ∙ q))))),
           all-marks,
         );
       };

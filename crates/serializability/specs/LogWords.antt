@@ -64,7 +64,8 @@ pub words-ok : (t : Table) (m : Move) → Holdable t m → moveOk t (moveWords m
 unfolding moveOk
 words-ok t (react r ps) (l, s, n, f) =
     let k = head-kind 0 r (omega arith) in let q = head-number 0 r (omega arith) in
-    and-intro (and-intro (eq-eqb (suc (length (take 4 (ps ++ replicate 4 0)))) 5 (ap suc (four-length ps))) (rw (k, q) (lt-ltb r (length (t .rules)) l))) (rw (k, q, ← n) (rest-zero ps 4 4))
+    and-intro (and-intro (eq-eqb (suc (length (take 4 (ps ++ replicate 4 0)))) 5 (ap suc (four-length ps))) (rw (k, q) (lt-ltb r (length (t .rules)) l)))
+    (rw (k, q, ← n) (rest-zero ps 4 4))
 words-ok t (commit b) (l, h) = let k = head-kind 1 b (omega arith) in let q = head-number 1 b (omega arith) in rw (k, q, le-leb 1 b l, le-leb b 65535 h)
 words-ok t (abort b) (l, h) = let k = head-kind 2 b (omega arith) in let q = head-number 2 b (omega arith) in rw (k, q, le-leb 1 b l, le-leb b 65535 h)
 
@@ -114,7 +115,8 @@ pub log-ok : (ms : List Move) → length ms ≤ 1024 → logSizesOk (logWords ms
 unfolding logSizesOk
 log-ok ms h =
     let k = log-length ms in
-    and-intro (le-leb 1 (length (logWords ms)) (omega arith)) (rw (log-count ms) (and-intro (le-leb (length ms) 1024 h) (eq-eqb (length (logWords ms)) (1 + 5 * length ms) k)))
+    and-intro (le-leb 1 (length (logWords ms)) (omega arith))
+    (rw (log-count ms) (and-intro (le-leb (length ms) 1024 h) (eq-eqb (length (logWords ms)) (1 + 5 * length ms) k)))
 
 pub moves-back : (ms : List Move) → movesOf (logWords ms) ≡ map moveWords ms
 unfolding logWords

@@ -29,9 +29,11 @@ use Rattle.serializability.specs.Link.{Mark}
 
 -- v is the owner at o after a move on the transactions bs: that of the entry there before, merged; or that of the move's products
 abbrev pub From : Cells → List ℕ → Bool → Origin → ℕ → Type 0
-From f bs end o v = ((c : Entry) × (f o ≡ some c) × (v ≡ cond (isIn (c .owner) bs) (least bs) (c .owner)) × (end ≡ true → isIn (c .owner) bs ≡ false)) ⊎ ((v ≡ least bs) × (end ≡ false))
+From f bs end o v = ((c : Entry) × (f o ≡ some c) × (v ≡ cond (isIn (c .owner) bs) (least bs) (c .owner)) × (end ≡ true → isIn (c .owner) bs ≡ false)) ⊎
+    ((v ≡ least bs) × (end ≡ false))
 
-pub end-came : (k : ℕ) (f : Cells) (a : Deed) (o : Origin) (e : Entry) → a .touched ≡ least (a .touched) ∷ [] → Source f (endAction k (a .touched)) o e → (e .owner ≡ 0 → ⊥) → From f (a .touched) true o (e .owner)
+pub end-came : (k : ℕ) (f : Cells) (a : Deed) (o : Origin) (e : Entry) → a .touched ≡ least (a .touched) ∷ [] → Source f (endAction k (a .touched)) o e
+    → (e .owner ≡ 0 → ⊥) → From f (a .touched) true o (e .owner)
 end-came k f a o e z (inr q) nz = absurd (none-some q)
 end-came k f a o e z (inl (c, w, g, q)) nz = by-bool (isIn (c .owner) (a .touched))
     (λ y. absurd (nz (left-result k (least (a .touched)) c e (eq-eqb (c .owner) (least (a .touched)) (in-one (a .touched) (c .owner) z y)) q)))
@@ -47,12 +49,14 @@ came t f a es vs (abort b) T o e h nz = end-came 1 f a o e (T .2) h nz
 
 -- ---- the transactions that a move touches are there, but for the one that it begins
 
-pub owner-live : (f : Cells) (v : ℕ) (os : List Origin) (es : List Entry) → map f os ≡ map some es → isIn v (owners es) ≡ true → (o : Origin) × (e : Entry) × (f o ≡ some e) × (e .owner ≡ v)
+pub owner-live : (f : Cells) (v : ℕ) (os : List Origin) (es : List Entry) → map f os ≡ map some es → isIn v (owners es) ≡ true
+    → (o : Origin) × (e : Entry) × (f o ≡ some e) × (e .owner ≡ v)
 owner-live f v os [] h k = absurd (false≢true k)
 owner-live f v [] (e ∷ es) h k = absurd (nil≢cons h)
 owner-live f v (o ∷ os) (e ∷ es) h k = go (owner-live f v os es (tail-eq h)) (isIn-cases v (e .owner) (owners es) k)
   where
-    go : (isIn v (owners es) ≡ true → (o : Origin) × (e : Entry) × (f o ≡ some e) × (e .owner ≡ v)) → (v ≡ e .owner) ⊎ (isIn v (owners es) ≡ true) → (o : Origin) × (e : Entry) × (f o ≡ some e) × (e .owner ≡ v)
+    go : (isIn v (owners es) ≡ true → (o : Origin) × (e : Entry) × (f o ≡ some e) × (e .owner ≡ v)) → (v ≡ e .owner) ⊎ (isIn v (owners es) ≡ true)
+        → (o : Origin) × (e : Entry) × (f o ≡ some e) × (e .owner ≡ v)
     go ih (inl q) = (o, e, head-eq h, sym q)
     go ih (inr q) = ih q
 
@@ -64,7 +68,8 @@ end-live f b (o ∷ os) (e ∷ es) h m n = let q = and-left (markOf b e) (all (m
     (o, e, head-eq h, eqb-true (e .kind) 3 (and-left (isMemberMark e) (owned b e) q), eqb-true (e .owner) b (and-right (isMemberMark e) (owned b e) q))
 
 -- which transactions: by sort
-pub touched-cases : (t : Table) → Shaped t → (a : Deed) (es : List Entry) (r : ℕ) (ps : List ℕ) → Tests t a es (react r ps) → begins (ruleAt t r) ≡ false → (a .touched ≡ []) ⊎ (a .touched ≡ owners es)
+pub touched-cases : (t : Table) → Shaped t → (a : Deed) (es : List Entry) (r : ℕ) (ps : List ℕ) → Tests t a es (react r ps) → begins (ruleAt t r) ≡ false
+    → (a .touched ≡ []) ⊎ (a .touched ≡ owners es)
 touched-cases t sd a es r ps T n = go (sd r)
   where
     go : Shape (ruleAt t r) → (a .touched ≡ []) ⊎ (a .touched ≡ owners es)
@@ -72,11 +77,18 @@ touched-cases t sd a es r ps T n = go (sd r)
     go (begin c b h m rest q w k) = absurd (clash b n)
     go (inner c b h k) = inr (T .2 ∙ touched-inner (ruleAt t r) (least (a .touched)) (owners es) c b)
 
-pub touched-live : (t : Table) → Shaped t → (F : Seen) (a : Deed) → Ok t F a → begun t (a .move) ≡ false → (v : ℕ) → isIn v (a .touched) ≡ true → (o : Origin) × (e : Entry) × (F .cell o ≡ some e) × (e .owner ≡ v)
+pub touched-live : (t : Table) → Shaped t → (F : Seen) (a : Deed) → Ok t F a → begun t (a .move) ≡ false → (v : ℕ) → isIn v (a .touched) ≡ true
+    → (o : Origin) × (e : Entry) × (F .cell o ≡ some e) × (e .owner ≡ v)
 touched-live t sd F a k n v h = go (a .move) (k .tests) n
   where
     by-end : EndTests a (k .es) → (o : Origin) × (e : Entry) × (F .cell o ≡ some e) × (e .owner ≡ v)
-    by-end T = let m = end-live (F .cell) (least (a .touched)) (a .picks) (k .es) (k .found) (T .0) (T .1) in (m .0, m .1, m .2, m .4 ∙ sym (in-one (a .touched) v (T .2) h))
+    by-end T = let m = end-live (F .cell) (least (a .touched)) (a .picks) (k .es) (k .found) (T .0) (T .1) in (
+      m .0,
+      m .1,
+      m .2,
+      m .4
+          ∙ sym (in-one (a .touched) v (T .2) h),
+    )
 
     by-react : (a .touched ≡ []) ⊎ (a .touched ≡ owners (k .es)) → (o : Origin) × (e : Entry) × (F .cell o ≡ some e) × (e .owner ≡ v)
     by-react (inl q) = absurd (false≢true (rw q at h))
@@ -93,8 +105,10 @@ abbrev pub MarkAt : Cells → Origin → ℕ → Type 0
 MarkAt f o v = (e : Entry) × (f o ≡ some e) × (e .kind ≡ 3) × (e .owner ≡ v)
 
 -- a message that is picked is no mark
-pub not-picked : (t : Table) (f : Cells) (a : Deed) (es : List Entry) (r : ℕ) (ps : List ℕ) → Tests t a es (react r ps) → map f (a .picks) ≡ map some es → (o : Origin) (e : Entry) → f o ≡ some e → e .kind ≡ 3 → isInO o (a .picks) ≡ false
-not-picked t f a es r ps T fd o e h k = is-false (isInO o (a .picks)) (λ q. let y = found-at f isMessage o (a .picks) es fd (ports-messages (consumed (ruleAt t r)) es (T .0)) q in
+pub not-picked : (t : Table) (f : Cells) (a : Deed) (es : List Entry) (r : ℕ) (ps : List ℕ) → Tests t a es (react r ps) → map f (a .picks) ≡ map some es
+    → (o : Origin) (e : Entry) → f o ≡ some e → e .kind ≡ 3 → isInO o (a .picks) ≡ false
+not-picked t f a es r ps T fd o e h k = is-false (isInO o (a .picks)) (λ q.
+    let y = found-at f isMessage o (a .picks) es fd (ports-messages (consumed (ruleAt t r)) es (T .0)) q in
     let z = eqb-true (y .0 .kind) 0 (y .2) in let x : y .0 .kind ≡ e .kind = ap (λ (d : Entry). d .kind) (some-inj (sym (y .1) ∙ h)) in omega arith)
 
 pub mark-stay : (t : Table) (f : Cells) (a : Deed) (es : List Entry) (vs : List ℕ) (o : Origin) (e : Entry) (mv : Move) → Tests t a es mv → map f (a .picks) ≡ map some es
@@ -109,7 +123,8 @@ pub left-none : (k b : ℕ) (e : Entry) → k < 2 → e .kind ≡ 3 → e .owner
 left-none k b e h z w = rw (eq-eqb (e .owner) b w, ne-eqb (e .kind) k (λ q. omega arith))
 
 -- an end takes the marks of its transaction away
-pub mark-gone : (t : Table) (f : Cells) (a : Deed) (es : List Entry) (vs : List ℕ) (o : Origin) (e : Entry) (mv : Move) → Tests t a es mv → isEnd mv ≡ true → isIn (e .owner) (a .touched) ≡ true → f o ≡ some e → e .kind ≡ 3
+pub mark-gone : (t : Table) (f : Cells) (a : Deed) (es : List Entry) (vs : List ℕ) (o : Origin) (e : Entry) (mv : Move) → Tests t a es mv → isEnd mv ≡ true
+    → isIn (e .owner) (a .touched) ≡ true → f o ≡ some e → e .kind ≡ 3
     → apply f (actionBy t (a .place) (a .picks) (a .touched) vs mv) o ≡ none
 unfolding actionBy
 mark-gone t f a es vs o e (react r ps) T n i h k = absurd (false≢true n)
@@ -120,24 +135,28 @@ mark-gone t f a es vs o e (abort b) T n i h k = rw (h, left-none 1 (least (a .to
 abbrev pub firstOf : ℕ → Origin
 firstOf i = record { maker = suc i; index = 0 }
 
-pub begin-mark : (R : Rule) → Shape R → begins R ≡ true → (i w : ℕ) (vs : List ℕ) → (e : Entry) × (look (firstOf i) (map strip (make (suc i) w vs 0 (productAtoms R))) ≡ some e) × (e .kind ≡ 3) × (e .owner ≡ w)
+pub begin-mark : (R : Rule) → Shape R → begins R ≡ true → (i w : ℕ) (vs : List ℕ)
+    → (e : Entry) × (look (firstOf i) (map strip (make (suc i) w vs 0 (productAtoms R))) ≡ some e) × (e .kind ≡ 3) × (e .owner ≡ w)
 begin-mark R (plain c b h) n i w vs = absurd (clash n b)
 begin-mark R (inner c b h k) n i w vs = absurd (clash n b)
-begin-mark R (begin c b h m rest q z k) n i w vs = subst (λ (l : List Atom). (e : Entry) × (look (firstOf i) (map strip (make (suc i) w vs 0 l)) ≡ some e) × (e .kind ≡ 3) × (e .owner ≡ w)) (sym q) (
-  strip (record { origin = firstOf i; owner = w; kind = kindMade (m .role); port = m .port; value = cond (eqb (m .role) 2) w (valueIn vs (m .value)) }),
-  rw (same-refl (firstOf i)),
-  ap kindMade z,
-  refl,
-)
+begin-mark R (begin c b h m rest q z k) n i w vs = subst (λ (l : List Atom). (e : Entry) × (look (firstOf i) (map strip (make (suc i) w vs 0 l)) ≡ some e) ×
+    (e .kind ≡ 3) × (e .owner ≡ w)) (sym q) (
+      strip (record { origin = firstOf i; owner = w; kind = kindMade (m .role); port = m .port; value = cond (eqb (m .role) 2) w (valueIn vs (m .value)) }),
+      rw (same-refl (firstOf i)),
+      ap kindMade z,
+      refl,
+    )
 
 pub mark-made : (t : Table) → Shaped t → (f : Cells) (a : Deed) (vs : List ℕ) (mv : Move) → begun t mv ≡ true → f (firstOf (a .place)) ≡ none
     → MarkAt (apply f (actionBy t (a .place) (a .picks) (a .touched) vs mv)) (firstOf (a .place)) (least (a .touched))
 unfolding actionBy
 mark-made t sd f a vs (commit b) n fr = absurd (false≢true n)
 mark-made t sd f a vs (abort b) n fr = absurd (false≢true n)
-mark-made t sd f a vs (react r ps) n fr = let q = begin-mark (ruleAt t r) (sd r) n (a .place) (least (a .touched)) vs in (q .0, go (q .0) (q .1) (isInO (firstOf (a .place)) (a .picks)), q .2, q .3)
+mark-made t sd f a vs (react r ps) n fr = let q = begin-mark (ruleAt t r) (sd r) n (a .place) (least (a .touched)) vs in
+    (q .0, go (q .0) (q .1) (isInO (firstOf (a .place)) (a .picks)), q .2, q .3)
   where
     go : (e : Entry) → look (firstOf (a .place)) (map strip (make (suc (a .place)) (least (a .touched)) vs 0 (productAtoms (ruleAt t r)))) ≡ some e → (b : Bool)
-        → orElse (cond b none (bindO (λ e. some (merged (a .touched) e)) (f (firstOf (a .place))))) (look (firstOf (a .place)) (map strip (make (suc (a .place)) (least (a .touched)) vs 0 (productAtoms (ruleAt t r))))) ≡ some e
+        → orElse (cond b none (bindO (λ e. some (merged (a .touched) e)) (f (firstOf (a .place)))))
+        (look (firstOf (a .place)) (map strip (make (suc (a .place)) (least (a .touched)) vs 0 (productAtoms (ruleAt t r))))) ≡ some e
     go e h true = h
     go e h false = rw fr h

@@ -32,7 +32,8 @@ look-other o e l h = rw (is-false (sameOrigin o (e .origin)) (λ w. h (sym (ap (
 
 pub make-none : (i w : ℕ) (vs : List ℕ) (q : ℕ) (ats : List Atom) (o : Origin) → o .index < q → look o (make i w vs q ats) ≡ none
 make-none i w vs q [] o h = refl
-make-none i w vs q (a ∷ ats) o h = look-other o (record { origin = record { maker = i; index = q }; owner = w; kind = _; port = a .port; value = _ }) (make i w vs (suc q) ats) (λ e. omega arith)
+make-none i w vs q (a ∷ ats) o h = look-other o (record { origin = record { maker = i; index = q }; owner = w; kind = _; port = a .port; value = _ })
+    (make i w vs (suc q) ats) (λ e. omega arith)
     ∙ make-none i w vs (suc q) ats o (omega arith)
 
 pub make-uniq : (i w : ℕ) (vs : List ℕ) (q : ℕ) (ats : List Atom) → Uniq (make i w vs q ats)
@@ -50,7 +51,8 @@ make-maker i w vs q ats o e k =
 abbrev pub productsOf : Rule → ℕ → State → List ℕ → List Entry
 productsOf R i s ps = make i (least (touchedBy R (s .next) (ownersAt s ps))) (values (picked s ps)) 0 (productAtoms R)
 
-module _ (R : Rule) (sh : Shape R) (i : ℕ) (s : State) (ps : List ℕ) (fit : ownersFit (R .class) (ownersAt s ps) ≡ true) (u : Uniq (s .entries)) (rng : All (λ p. p < length (s .entries)) ps)
+module _ (R : Rule) (sh : Shape R) (i : ℕ) (s : State) (ps : List ℕ) (fit : ownersFit (R .class) (ownersAt s ps) ≡ true) (u : Uniq (s .entries))
+    (rng : All (λ p. p < length (s .entries)) ps)
     (fr : (o : Origin) → o .maker ≡ i → look o (s .entries) ≡ none) where
   pub kept : List Entry
   kept = map (merged (ownersAt s ps)) (without ps 0 (s .entries))
@@ -71,11 +73,13 @@ module _ (R : Rule) (sh : Shape R) (i : ℕ) (s : State) (ps : List ℕ) (fit : 
 
   pub look-reacted : (o : Origin) → look o (reacted R i s ps .entries)
       ≡ orElse (cond (isInO o (originsOf (picked s ps))) none (omap (merged (ownersAt s ps)) (look o (s .entries)))) (look o (productsOf R i s ps))
-  look-reacted o = ap (look o) entries-reacted ∙ look-append o kept (productsOf R i s ps) ∙ ap (λ (x : Option Entry). orElse x (look o (productsOf R i s ps))) (look-stay o)
+  look-reacted o = ap (look o) entries-reacted ∙ look-append o kept (productsOf R i s ps)
+      ∙ ap (λ (x : Option Entry). orElse x (look o (productsOf R i s ps))) (look-stay o)
 
   pub uniq-reacted : Uniq (reacted R i s ps .entries)
   unfolding kept
-  uniq-reacted = subst Uniq (sym entries-reacted) (uniq-append kept (productsOf R i s ps) uniq-stay (make-uniq i (least (touchedBy R (s .next) (ownersAt s ps))) (values (picked s ps)) 0 (productAtoms R)) apart)
+  uniq-reacted = subst Uniq (sym entries-reacted) (uniq-append kept (productsOf R i s ps) uniq-stay
+      (make-uniq i (least (touchedBy R (s .next) (ownersAt s ps))) (values (picked s ps)) 0 (productAtoms R)) apart)
     where
       uniq-stay : Uniq kept
       uniq-stay = uniq-map (merged (ownersAt s ps)) (λ e. refl) (without ps 0 (s .entries)) (uniq-without (s .entries) ps u rng)
@@ -86,7 +90,8 @@ module _ (R : Rule) (sh : Shape R) (i : ℕ) (s : State) (ps : List ℕ) (fit : 
 
       apart : (o : Origin) (e : Entry) → look o kept ≡ some e → look o (productsOf R i s ps) ≡ none
       apart o e k = is-none (look o (productsOf R i s ps)) (λ d q.
-          none-some (sym (look-stay o ∙ rw (fr o (make-maker i (least (touchedBy R (s .next) (ownersAt s ps))) (values (picked s ps)) 0 (productAtoms R) o d q)) (two (isInO o (originsOf (picked s ps))))) ∙ k))
+          none-some (sym (look-stay o ∙ rw (fr o (make-maker i (least (touchedBy R (s .next) (ownersAt s ps))) (values (picked s ps)) 0 (productAtoms R) o d q))
+          (two (isInO o (originsOf (picked s ps))))) ∙ k))
 
 -- ---- an end
 
@@ -111,7 +116,8 @@ look-ended k b s u o =
     go none = refl
     go (some e) = two (owned b e) refl (ofKind k e) refl
       where
-        two : (c : Bool) → owned b e ≡ c → (d : Bool) → ofKind k e ≡ d → omap (freed (ofKind k) b) (cond (not c || d) (some e) none) ≡ cond c (cond d (some (toGlobal e)) none) (some e)
+        two : (c : Bool) → owned b e ≡ c → (d : Bool) → ofKind k e ≡ d
+            → omap (freed (ofKind k) b) (cond (not c || d) (some e) none) ≡ cond c (cond d (some (toGlobal e)) none) (some e)
         two true p true q = rw (p, q)
         two true p false q = refl
         two false p true q = rw p
@@ -119,7 +125,8 @@ look-ended k b s u o =
 
 pub uniq-ended : (k b : ℕ) (s : State) → Uniq (s .entries) → Uniq (ended (ofKind k) b s .entries)
 unfolding ended
-uniq-ended k b s u = uniq-map (freed (ofKind k) b) (λ e. two e (owned b e && ofKind k e)) (keep (λ e. not (owned b e) || ofKind k e) (s .entries)) (uniq-keep (λ e. not (owned b e) || ofKind k e) (s .entries) u)
+uniq-ended k b s u = uniq-map (freed (ofKind k) b) (λ e. two e (owned b e && ofKind k e)) (keep (λ e. not (owned b e) || ofKind k e) (s .entries))
+    (uniq-keep (λ e. not (owned b e) || ofKind k e) (s .entries) u)
   where
     two : (e : Entry) (c : Bool) → cond c (toGlobal e) e .origin ≡ e .origin
     two e true = refl
@@ -137,11 +144,13 @@ react-allowed t s r ps p = rw (p .different, p .ports, p .owners, p .ids)
 
 pub commit-passes : (t : Table) (s : State) (b : ℕ) → allowed t s (commit b) ≡ Allowed → (isOpen b s ≡ true) × (mayCommit t b s ≡ true)
 unfolding allowed
-commit-passes t s b h = let a = both-allowed (unless (isOpen b s) NoTransaction) (unless (mayCommit t b s) EndNotAllowed) h in (unless-allowed (isOpen b s) NoTransaction (a .0), unless-allowed (mayCommit t b s) EndNotAllowed (a .1))
+commit-passes t s b h = let a = both-allowed (unless (isOpen b s) NoTransaction) (unless (mayCommit t b s) EndNotAllowed) h in
+    (unless-allowed (isOpen b s) NoTransaction (a .0), unless-allowed (mayCommit t b s) EndNotAllowed (a .1))
 
 pub abort-passes : (t : Table) (s : State) (b : ℕ) → allowed t s (abort b) ≡ Allowed → (isOpen b s ≡ true) × (mayAbort b s ≡ true)
 unfolding allowed
-abort-passes t s b h = let a = both-allowed (unless (isOpen b s) NoTransaction) (unless (mayAbort b s) EndNotAllowed) h in (unless-allowed (isOpen b s) NoTransaction (a .0), unless-allowed (mayAbort b s) EndNotAllowed (a .1))
+abort-passes t s b h = let a = both-allowed (unless (isOpen b s) NoTransaction) (unless (mayAbort b s) EndNotAllowed) h in
+    (unless-allowed (isOpen b s) NoTransaction (a .0), unless-allowed (mayAbort b s) EndNotAllowed (a .1))
 
 -- what an allowed move leaves
 pub after-allowed : (t : Table) (i : ℕ) (s : State) (m : Move) → allowed t s m ≡ Allowed → after t i s m ≡ applied t i s m

@@ -66,7 +66,8 @@ pub value-look : (v : ℕ) (l : List Entry) → Uniq l → isIn v (values l) ≡
 value-look v [] u h = absurd (false≢true h)
 value-look v (x ∷ l) u h = go (value-look v l (u .1)) (isIn-cases v (x .value) (values l) h)
   where
-    go : (isIn v (values l) ≡ true → (o : Origin) × (d : Entry) × (look o l ≡ some d) × (d .value ≡ v)) → (v ≡ x .value) ⊎ (isIn v (values l) ≡ true) → (o : Origin) × (d : Entry) × (look o (x ∷ l) ≡ some d) × (d .value ≡ v)
+    go : (isIn v (values l) ≡ true → (o : Origin) × (d : Entry) × (look o l ≡ some d) × (d .value ≡ v)) → (v ≡ x .value) ⊎ (isIn v (values l) ≡ true)
+        → (o : Origin) × (d : Entry) × (look o (x ∷ l) ≡ some d) × (d .value ≡ v)
     go ih (inl q) = (x .origin, x, look-head x l, sym q)
     go ih (inr q) = let r = ih q in (r .0, r .1, look-deeper x l (u .0) (r .0) (r .2), r .3)
 

@@ -50,39 +50,51 @@ removed t F b k en o h =
 
 module _ (t : Table) (sd : Shaped t) (G : Seen) where
   -- x shares no member with an end before it
-  pub ended-before : (i : ℕ) (F : Seen) (b : Deed) (zs ys : List Deed) (x : Deed) → Good i F → LogRuns t i F (b ∷ zs ++ x ∷ ys) G → isEnd (x .move) ≡ false → endsMemberOf (actOf x) (actOf b) ≡ false
+  pub ended-before : (i : ℕ) (F : Seen) (b : Deed) (zs ys : List Deed) (x : Deed) → Good i F → LogRuns t i F (b ∷ zs ++ x ∷ ys) G → isEnd (x .move) ≡ false
+      → endsMemberOf (actOf x) (actOf b) ≡ false
   ended-before i F b zs ys x g r nx = is-false (endsMemberOf (actOf x) (actOf b)) (λ h.
       let en = and-left (isEnd (b .move)) (belongsTo (actOf b) (actOf x)) h in
       let sh = and-right (isInner (actOf x)) (shares x b) (and-right (isEnd (b .move)) (belongsTo (actOf b) (actOf x)) h) in
-      go en (any-found (λ o. MarkAt (astep t (seenAfter t (astep t F b) zs) x .cell) o (least (x .touched))) (λ o. any (sameOrigin o) (b .members)) (x .members) sh (rest .0 .marked nx .0)))
+      go en (any-found (λ o. MarkAt (astep t (seenAfter t (astep t F b) zs) x .cell) o (least (x .touched))) (λ o. any (sameOrigin o) (b .members)) (x .members) sh
+      (rest .0 .marked nx .0)))
     where
       rest : LogRuns t (suc i + length zs) (seenAfter t (astep t F b) zs) (x ∷ ys) G
       rest = log-rest t sd (suc i) (astep t F b) G zs (x ∷ ys) (next-good t sd G i F b (zs ++ x ∷ ys) g (r .0)) (r .1) (suc i + length zs) refl .0
 
       gone : (o : Origin) → isEnd (b .move) ≡ true → isInO o (b .members) ≡ true → astep t (seenAfter t (astep t F b) zs) x .cell o ≡ none
       gone o en h = none-stay t (seenAfter t (astep t F b) zs) x (rest .0 .step .ok) o
-          (none-after t (suc i) (astep t F b) G zs (x ∷ ys) (r .1) o (removed t F b (r .0 .step .ok) en o h) (let m = end-member F b (end-ok t F b (r .0 .step .ok) en) o h in let w = g .makers o (m .0) (m .1) in omega arith))
+          (none-after t (suc i) (astep t F b) G zs (x ∷ ys) (r .1) o (removed t F b (r .0 .step .ok) en o h)
+          (let m = end-member F b (end-ok t F b (r .0 .step .ok) en) o h in let w = g .makers o (m .0) (m .1) in omega arith))
           (let m = end-member F b (end-ok t F b (r .0 .step .ok) en) o h in let w = g .makers o (m .0) (m .1) in let p = rest .0 .step .place in omega arith)
 
-      go : isEnd (b .move) ≡ true → (o : Origin) × (any (sameOrigin o) (b .members) ≡ true) × (MarkAt (astep t (seenAfter t (astep t F b) zs) x .cell) o (least (x .touched))) → ⊥
+      go : isEnd (b .move) ≡ true → (o : Origin) × (any (sameOrigin o) (b .members) ≡ true)
+          × (MarkAt (astep t (seenAfter t (astep t F b) zs) x .cell) o (least (x .touched))) → ⊥
       go en (o, z, (e, p, k, w)) = none-some (sym (gone o en z) ∙ p)
 
-  pub none-before : (xs : List Deed) (i : ℕ) (F : Seen) (x : Deed) (ys : List Deed) → Good i F → LogRuns t i F (xs ++ x ∷ ys) G → isEnd (x .move) ≡ false → All (λ b. endsMemberOf (actOf x) (actOf b) ≡ false) xs
+  pub none-before : (xs : List Deed) (i : ℕ) (F : Seen) (x : Deed) (ys : List Deed) → Good i F → LogRuns t i F (xs ++ x ∷ ys) G → isEnd (x .move) ≡ false
+      → All (λ b. endsMemberOf (actOf x) (actOf b) ≡ false) xs
   none-before [] i F x ys g r nx = tt
-  none-before (b ∷ xs) i F x ys g r nx = (ended-before i F b xs ys x g r nx, none-before xs (suc i) (astep t F b) x ys (next-good t sd G i F b (xs ++ x ∷ ys) g (r .0)) (r .1) nx)
+  none-before (b ∷ xs) i F x ys g r nx = (
+    ended-before i F b xs ys x g r nx,
+    none-before xs (suc i) (astep t F b) x ys (next-good t sd G i F b (xs ++ x ∷ ys) g (r .0))
+        (r .1) nx,
+  )
 
   -- the commit or abort after x with which it shares a member is the one at the place of its key
-  pub after-key : (i : ℕ) (F : Seen) (x : Deed) (zs : List Deed) (ys : List Deed) → Good i F → LogRuns t i F (x ∷ zs ++ ys) G → isEnd (x .move) ≡ false → isEmpty (x .touched) ≡ false
+  pub after-key : (i : ℕ) (F : Seen) (x : Deed) (zs : List Deed) (ys : List Deed) → Good i F → LogRuns t i F (x ∷ zs ++ ys) G → isEnd (x .move) ≡ false
+      → isEmpty (x .touched) ≡ false
       → All (λ a. endsMemberOf (actOf x) (actOf a) ≡ eqb (x .key) (a .place)) ys
   after-key i F x zs [] g r nx ne = tt
   after-key i F x zs (a ∷ ys) g r nx ne = (
     by-bool (isEnd (a .move))
         (λ en. rw (en, nx, r .0 .marked nx .1 ∙ ne) (sym (same-block t sd G i F x zs ys a g r nx ne en)))
-        (λ en. rw en (sym (ne-eqb (x .key) (a .place) (λ w. ender-not t sd G a ys en zs (suc i) (astep t F x) (r .1) (least (x .touched)) (sym (r .0 .key ∙ key-full (isEnd (x .move)) i (x .touched) (zs ++ a ∷ ys) nx ne) ∙ w))))),
+        (λ en. rw en (sym (ne-eqb (x .key) (a .place) (λ w. ender-not t sd G a ys en zs (suc i) (astep t F x) (r .1) (least (x .touched)) (sym (r .0 .key
+        ∙ key-full (isEnd (x .move)) i (x .touched) (zs ++ a ∷ ys) nx ne) ∙ w))))),
     after-key i F x (zs ++ a ∷ []) ys g (subst (λ (l : List Deed). LogRuns t i F (x ∷ l) G) (sym (append-assoc zs (a ∷ []) ys)) r) nx ne,
   )
 
-  pub one-after : (i : ℕ) (F : Seen) (x : Deed) (ys : List Deed) → Good i F → LogRuns t i F (x ∷ ys) G → NoneOpen G → isEnd (x .move) ≡ false → isEmpty (x .touched) ≡ false → count (λ a. endsMemberOf (actOf x) (actOf a)) ys ≡ 1
+  pub one-after : (i : ℕ) (F : Seen) (x : Deed) (ys : List Deed) → Good i F → LogRuns t i F (x ∷ ys) G → NoneOpen G → isEnd (x .move) ≡ false
+      → isEmpty (x .touched) ≡ false → count (λ a. endsMemberOf (actOf x) (actOf a)) ys ≡ 1
   one-after i F x ys g r n nx ne =
       count-same (λ a. endsMemberOf (actOf x) (actOf a)) (λ a. eqb (x .key) (a .place)) ys (after-key i F x [] ys g r nx ne)
       ∙ place-once t G ys (suc i) (astep t F x) (x .key) (r .1)
@@ -98,7 +110,8 @@ module _ (t : Table) (sd : Shaped t) (G : Seen) where
       let one = one-after (0 + length xs) (seenAfter t F xs) x ys (rest .1) (rest .0) n nx ne in
       (total xs ys (none-before xs 0 F x ys g r nx) nx one, one)
     where
-      total : (xs ys : List Deed) → All (λ b. endsMemberOf (actOf x) (actOf b) ≡ false) xs → isEnd (x .move) ≡ false → count (λ a. endsMemberOf (actOf x) (actOf a)) ys ≡ 1 → count (λ a. endsMemberOf (actOf x) (actOf a)) (xs ++ x ∷ ys) ≡ 1
+      total : (xs ys : List Deed) → All (λ b. endsMemberOf (actOf x) (actOf b) ≡ false) xs → isEnd (x .move) ≡ false
+          → count (λ a. endsMemberOf (actOf x) (actOf a)) ys ≡ 1 → count (λ a. endsMemberOf (actOf x) (actOf a)) (xs ++ x ∷ ys) ≡ 1
       total xs ys b nx one =
           let z : endsMemberOf (actOf x) (actOf x) ≡ false = ap (λ (c : Bool). c && belongsTo (actOf x) (actOf x)) nx in
           let k = ap oneIf z in

@@ -9,7 +9,8 @@ use Rattle.semantics.specs.Serial.{Act, isEnd, isInner, sameOrigin, belongsTo, 
 pub ordered-append : (us xs zs : List Act) → ordered us (xs ++ zs) ≡ ordered us xs ++ ordered (us ++ xs) zs
 ordered-append us [] zs = ap (λ (l : List Act). ordered l zs) (sym (append-nil us))
 ordered-append us (x ∷ xs) zs =
-    ap (λ (l : List Act). block us x ++ l) (ordered-append (us ++ x ∷ []) xs zs ∙ ap (λ (l : List Act). ordered (us ++ x ∷ []) xs ++ ordered l zs) (append-assoc us (x ∷ []) xs))
+    ap (λ (l : List Act). block us x ++ l) (ordered-append (us ++ x ∷ []) xs zs
+    ∙ ap (λ (l : List Act). ordered (us ++ x ∷ []) xs ++ ordered l zs) (append-assoc us (x ∷ []) xs))
     ∙ sym (append-assoc (block us x) (ordered (us ++ x ∷ []) xs) (ordered (us ++ x ∷ xs) zs))
 
 pub end-outer : (a : Act) → isEnd (a .move) ≡ true → isInner a ≡ false
@@ -23,7 +24,8 @@ pub block-there : (xs ys : List Act) (a : Act) → isEnd (a .move) ≡ true
 block-there xs ys a h = (
   ordered [] xs,
   ordered (xs ++ a ∷ []) ys,
-  ordered-append [] xs (a ∷ ys) ∙ ap (λ (l : List Act). ordered [] xs ++ l) (ap (λ (l : List Act). l ++ ordered (xs ++ a ∷ []) ys) (block-outer xs a (end-outer a h)) ∙ append-assoc (keep (belongsTo a) xs) (a ∷ []) (ordered (xs ++ a ∷ []) ys)),
+  ordered-append [] xs (a ∷ ys) ∙ ap (λ (l : List Act). ordered [] xs ++ l) (ap (λ (l : List Act). l ++ ordered (xs ++ a ∷ []) ys) (block-outer xs a (end-outer a h))
+      ∙ append-assoc (keep (belongsTo a) xs) (a ∷ []) (ordered (xs ++ a ∷ []) ys)),
 )
 
 abbrev pub isOuter : Act → Bool

@@ -67,7 +67,9 @@ fit-rename ρ k ns z nz = go (eqb k 0) (eqb k 1)
     go true b h = all-intro isZero (map ρ ns) (λ w q. let r = isIn-unmap ρ w ns q in eq-eqb w 0 (sym (r .2) ∙ ap ρ (zeros ns h (r .0) (r .1)) ∙ z))
     go false false h = all-intro (λ o. ltb 0 o) (map ρ ns) (λ w q. positive w (isIn-unmap ρ w ns q) (λ v k. all-use (λ o. ltb 0 o) ns v h k))
     go false true h = all-intro (λ o. ltb 0 o && eqb o (least (map ρ ns))) (map ρ ns)
-        (λ w q. and-intro (positive w (isIn-unmap ρ w ns q) (λ v k. and-left (ltb 0 v) (eqb v (least ns)) (test v k))) (eq-eqb w (least (map ρ ns)) (alike w (isIn-unmap ρ w ns q) ∙ sym (alike (least (map ρ ns)) (isIn-unmap ρ (least (map ρ ns)) ns (least-some w (map ρ ns) q))))))
+        (λ w q. and-intro (positive w (isIn-unmap ρ w ns q) (λ v k. and-left (ltb 0 v) (eqb v (least ns)) (test v k)))
+        (eq-eqb w (least (map ρ ns)) (alike w (isIn-unmap ρ w ns q)
+        ∙ sym (alike (least (map ρ ns)) (isIn-unmap ρ (least (map ρ ns)) ns (least-some w (map ρ ns) q))))))
       where
         test : (v : ℕ) → isIn v ns ≡ true → (ltb 0 v && eqb v (least ns)) ≡ true
         test v q = all-use (λ o. ltb 0 o && eqb o (least ns)) ns v h q
@@ -78,9 +80,17 @@ fit-rename ρ k ns z nz = go (eqb k 0) (eqb k 1)
 pub make-rename : (ρ : ℕ → ℕ) (i w : ℕ) (vs : List ℕ) (q : ℕ) (ats : List Atom) → map strip (make i (ρ w) vs q ats) ≡ map (rename ρ) (map strip (make i w vs q ats))
 make-rename ρ i w vs q [] = refl
 make-rename ρ i w vs q (a ∷ ats) =
-    λ j. record { origin = record { maker = i; index = q }; owner = ρ w; kind = kindMade (a .role); port = a .port; value = same-value (eqb (a .role) 2) (eqb (a .role) 4) (eqb (a .role) 5) j } ∷ make-rename ρ i w vs (suc q) ats j
+    λ j. record {
+      origin = record { maker = i; index = q };
+      owner = ρ w;
+      kind = kindMade (a .role);
+      port = a .port;
+      value = same-value (eqb (a .role) 2) (eqb (a .role) 4)
+          (eqb (a .role) 5) j;
+    } ∷ make-rename ρ i w vs (suc q) ats j
   where
-    same-value : (b c d : Bool) → cond (eqb (cond b 3 (cond c 1 (cond d 2 0))) 3) 0 (cond b (ρ w) (valueIn vs (a .value))) ≡ cond (eqb (cond b 3 (cond c 1 (cond d 2 0))) 3) 0 (cond b w (valueIn vs (a .value)))
+    same-value : (b c d : Bool) → cond (eqb (cond b 3 (cond c 1 (cond d 2 0))) 3) 0 (cond b (ρ w) (valueIn vs (a .value)))
+        ≡ cond (eqb (cond b 3 (cond c 1 (cond d 2 0))) 3) 0 (cond b w (valueIn vs (a .value)))
     same-value true c d = refl
     same-value false c d = refl
 
@@ -100,13 +110,15 @@ module _ (c : State) (F : Seen) (ρ : ℕ → ℕ) (rel : Rel c F ρ) where
   back-again o d h = omap-some (rename ρ) (F .cell o) (strip d) (sym (rel .cells o) ∙ view-cell c o ∙ ap (omap strip) h)
 
   pub message-there : (o : Origin) (e : Entry) → F .cell o ≡ some e → isMessage e ≡ true → look o (c .entries) ≡ some (rename ρ e)
-  message-there o e h k = let q = there o e h in q .1 ∙ ap {B = Option Entry} some (sym (strip-message (q .0) (eq-eqb (q .0 .kind) 0 (ap (λ (x : Entry). x .kind) (q .2) ∙ eqb-true (e .kind) 0 k))) ∙ q .2)
+  message-there o e h k = let q = there o e h in q .1 ∙ ap {B = Option Entry} some
+      (sym (strip-message (q .0) (eq-eqb (q .0 .kind) 0 (ap (λ (x : Entry). x .kind) (q .2) ∙ eqb-true (e .kind) 0 k))) ∙ q .2)
 
   abbrev pub nowAt : List Origin → List ℕ
   nowAt os = map (placeOf (c .entries)) os
 
   pub picked-again : (os : List Origin) (es : List Entry) → map (F .cell) os ≡ map some es → all isMessage es ≡ true
-      → (map (entryAt (c .entries)) (nowAt os) ≡ map (rename ρ) es) × (originsOf (map (entryAt (c .entries)) (nowAt os)) ≡ os) × All (λ p. p < length (c .entries)) (nowAt os)
+      → (map (entryAt (c .entries)) (nowAt os) ≡ map (rename ρ) es) × (originsOf (map (entryAt (c .entries)) (nowAt os)) ≡ os) × All (λ p. p < length (c .entries))
+      (nowAt os)
   picked-again [] [] h k = (refl, refl, tt)
   picked-again [] (e ∷ es) h k = absurd (let z : _≡_ {A = ℕ} 0 1 = cc in omega arith)
   picked-again (o ∷ os) [] h k = absurd (let z : _≡_ {A = ℕ} 0 1 = cc in omega arith)

@@ -106,7 +106,8 @@ Goes t c (a ∷ xs) e = (allowed t c (again c a (a .move)) ≡ Allowed) × Goes 
 
 abbrev pub Agains : Table → State → List Deed → Type 0
 Agains t c [] = Unit
-Agains t c (a ∷ xs) = Uniq (c .entries) × Again c (a .picks) (a .move) (again c (actOf a) (a .move)) × Agains t (after t (suc (a .place)) c (again c (actOf a) (a .move))) xs
+Agains t c (a ∷ xs) = Uniq (c .entries) × Again c (a .picks) (a .move) (again c (actOf a) (a .move)) × Agains t
+    (after t (suc (a .place)) c (again c (actOf a) (a .move))) xs
 
 pub record Ends (t : Table) (c : State) (xs : List Deed) (G : Seen) : Type 0 where
   pub state : State
@@ -122,14 +123,24 @@ again-known t c a (react r ps) h = h
 again-known t c a (commit b) h = tt
 again-known t c a (abort b) h = tt
 
-pub replay-runs : (t : Table) → TableRight t → Shaped t → (xs : List Deed) (c : State) (F G : Seen) (ρ : ℕ → ℕ) → Rel c F ρ → Sound (t .sizes) c → All (λ a. RuleKnown t (a .move)) xs → Runs t F xs G → Ends t c xs G
-replay-runs t right sd [] c F G ρ rel sound known h = record { state = c; names = ρ; goes = refl; agains = tt; rel = subst (λ (H : Seen). Rel c H ρ) h rel; sound = sound }
+pub replay-runs : (t : Table) → TableRight t → Shaped t → (xs : List Deed) (c : State) (F G : Seen) (ρ : ℕ → ℕ) → Rel c F ρ → Sound (t .sizes) c
+    → All (λ a. RuleKnown t (a .move)) xs → Runs t F xs G → Ends t c xs G
+replay-runs t right sd [] c F G ρ rel sound known h = record {
+  state = c;
+  names = ρ;
+  goes = refl;
+  agains = tt;
+  rel = subst
+      (λ (H : Seen). Rel c H ρ) h rel;
+  sound = sound;
+}
 replay-runs t right sd (a ∷ xs) c F G ρ rel sound known h =
     let n = next t sd c F ρ rel (named-of (t .sizes) c (rel .uniq) (sound .right)) a (h .0) in
     let m = again c (actOf a) (a .move) in
     let q : applied t (suc (a .place)) c m ≡ after t (suc (a .place)) c m = sym (after-allowed t (suc (a .place)) c m (n .allows)) in
     let still = applied-keeps right sound (suc (a .place)) m (again-known t c (actOf a) (a .move) (known .0)) (n .allows) in
-    let e = replay-runs t right sd xs (after t (suc (a .place)) c m) (astep t F a) G (n .names) (subst (λ (x : State). Rel x (astep t F a) (n .names)) q (n .rel)) (subst (Sound (t .sizes)) q still) (known .1) (h .1) in
+    let e = replay-runs t right sd xs (after t (suc (a .place)) c m) (astep t F a) G (n .names) (subst (λ (x : State). Rel x (astep t F a) (n .names)) q (n .rel))
+    (subst (Sound (t .sizes)) q still) (known .1) (h .1) in
     record { state = e .state; names = e .names; goes = (n .allows, e .goes); agains = (rel .uniq, n .again, e .agains); rel = e .rel; sound = e .sound }
 
 -- ---- the j-th move
@@ -139,20 +150,25 @@ abbrev pub Placed : Table → State → List Move → Deed → Type 0
 Placed t s ms a = (a .move ≡ getD ms (a .place) noMove) × (a .picks ≡ handled (stateBefore t (upFrom 0 (length ms)) s ms (a .place)) (a .move))
 
 pub deeds-placed : (t : Table) (i : ℕ) (s : State) (ms : List Move)
-    → All (λ a. (n : ℕ) × (a .place ≡ i + n) × (a .move ≡ getD ms n noMove) × (a .picks ≡ handled (stateBefore t (upFrom i (length ms)) s ms n) (a .move))) (deeds t i s ms)
+    → All (λ a. (n : ℕ) × (a .place ≡ i + n) × (a .move ≡ getD ms n noMove) × (a .picks ≡ handled (stateBefore t (upFrom i (length ms)) s ms n) (a .move)))
+    (deeds t i s ms)
 unfolding deeds stateBefore
 deeds-placed t i s [] = tt
 deeds-placed t i s (m ∷ ms) = (
   (0, omega arith, refl, refl),
-  All-map {P = λ a. (n : ℕ) × (a .place ≡ suc i + n) × (a .move ≡ getD ms n noMove) × (a .picks ≡ handled (stateBefore t (upFrom (suc i) (length ms)) (after t (suc i) s m) ms n) (a .move))}
-      {Q = λ a. (n : ℕ) × (a .place ≡ i + n) × (a .move ≡ getD (m ∷ ms) n noMove) × (a .picks ≡ handled (stateBefore t (upFrom i (length (m ∷ ms))) s (m ∷ ms) n) (a .move))}
+  All-map {P = λ a. (n : ℕ) × (a .place ≡ suc i + n) × (a .move ≡ getD ms n noMove) ×
+      (a .picks ≡ handled (stateBefore t (upFrom (suc i) (length ms)) (after t (suc i) s m) ms n) (a .move))}
+      {Q = λ a. (n : ℕ) × (a .place ≡ i + n) × (a .move ≡ getD (m ∷ ms) n noMove) ×
+      (a .picks ≡ handled (stateBefore t (upFrom i (length (m ∷ ms))) s (m ∷ ms) n) (a .move))}
       (λ a h. (suc (h .0), (let w = h .1 in omega arith), h .2, h .3)) (deeds t (suc i) (after t (suc i) s m) ms) (deeds-placed t (suc i) (after t (suc i) s m) ms),
 )
 
 pub all-placed : (t : Table) (s : State) (ms : List Move) → All (Placed t s ms) (deeds t 0 s ms)
-all-placed t s ms = All-map {P = λ a. (n : ℕ) × (a .place ≡ 0 + n) × (a .move ≡ getD ms n noMove) × (a .picks ≡ handled (stateBefore t (upFrom 0 (length ms)) s ms n) (a .move))} {Q = Placed t s ms}
+all-placed t s ms = All-map {P = λ a. (n : ℕ) × (a .place ≡ 0 + n) × (a .move ≡ getD ms n noMove) ×
+    (a .picks ≡ handled (stateBefore t (upFrom 0 (length ms)) s ms n) (a .move))} {Q = Placed t s ms}
     (λ a h. let w : h .0 ≡ a .place = (let v = h .1 in omega arith) in
-    subst (λ (n : ℕ). (a .move ≡ getD ms n noMove) × (a .picks ≡ handled (stateBefore t (upFrom 0 (length ms)) s ms n) (a .move))) w (h .2, h .3)) (deeds t 0 s ms) (deeds-placed t 0 s ms)
+    subst (λ (n : ℕ). (a .move ≡ getD ms n noMove) × (a .picks ≡ handled (stateBefore t (upFrom 0 (length ms)) s ms n) (a .move))) w (h .2, h .3)) (deeds t 0 s ms)
+    (deeds-placed t 0 s ms)
 
 pub same-moves : (t : Table) (s : State) (ms : List Move) (ds : List Deed) (c : State) → Agains t c ds → All (Placed t s ms) ds → (j : ℕ) → j < length ds
     → SameMove (stateBefore t (upFrom 0 (length ms)) s ms (getD (map (λ a. a .place) ds) j 0)) (stateBefore t (map (λ a. a .place) ds) c (replayed t c (map actOf ds)) j)
@@ -164,7 +180,8 @@ same-moves t s ms (a ∷ ds) c A P zero h =
     (again-same (stateBefore t (upFrom 0 (length ms)) s ms (a .place)) c (a .picks) (A .1) (P .0 .1))
 same-moves t s ms (a ∷ ds) c A P (suc j) h = same-moves t s ms ds (after t (suc (a .place)) c (again c (actOf a) (a .move))) (A .2) (P .1) j (omega arith)
 
-pub serial-uniq : (t : Table) (ds : List Deed) (c : State) → Agains t c ds → (j : ℕ) → j < length ds → Uniq (stateBefore t (map (λ a. a .place) ds) c (replayed t c (map actOf ds)) j .entries)
+pub serial-uniq : (t : Table) (ds : List Deed) (c : State) → Agains t c ds → (j : ℕ) → j < length ds
+    → Uniq (stateBefore t (map (λ a. a .place) ds) c (replayed t c (map actOf ds)) j .entries)
 unfolding replayed stateBefore
 serial-uniq t [] c A j h = absurd (not-suc-le-zero h)
 serial-uniq t (a ∷ ds) c A zero h = A .0

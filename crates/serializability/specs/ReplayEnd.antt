@@ -40,7 +40,8 @@ pub value-from : (f : Origin → ℕ) (v : ℕ) (os : List Origin) → isIn v (m
 value-from f v [] h = absurd (false≢true h)
 value-from f v (q ∷ os) h = go (value-from f v os) (isIn-cases v (f q) (map f os) h)
   where
-    go : (isIn v (map f os) ≡ true → (o : Origin) × (isInO o os ≡ true) × (f o ≡ v)) → (v ≡ f q) ⊎ (isIn v (map f os) ≡ true) → (o : Origin) × (isInO o (q ∷ os) ≡ true) × (f o ≡ v)
+    go : (isIn v (map f os) ≡ true → (o : Origin) × (isInO o os ≡ true) × (f o ≡ v)) → (v ≡ f q) ⊎ (isIn v (map f os) ≡ true)
+        → (o : Origin) × (isInO o (q ∷ os) ≡ true) × (f o ≡ v)
     go ih (inl w) = (q, isInO-head q os, sym w)
     go ih (inr w) = let r = ih w in (r .0, isInO-cons (r .0) q os (r .1), r .2)
 
@@ -96,14 +97,17 @@ module _ (c : State) (F : Seen) (ρ : ℕ → ℕ) (rel : Rel c F ρ) (N : Named
           let q = origin-look o (keep (marked b′) (c .entries)) h in
           let k = kept-look (marked b′) o (c .entries) (q .0) (rel .uniq) (q .1) in
           let m = marked-mark b′ (q .0) (k .1) in
-          mark-picked o (q .0) (k .0) (eqb-true (q .0 .kind) 3 (and-left (isMemberMark (q .0)) (owned b′ (q .0)) m)) (eqb-true (q .0 .owner) b′ (and-right (isMemberMark (q .0)) (owned b′ (q .0)) m))
+          mark-picked o (q .0) (k .0) (eqb-true (q .0 .kind) 3 (and-left (isMemberMark (q .0)) (owned b′ (q .0)) m))
+          (eqb-true (q .0 .owner) b′ (and-right (isMemberMark (q .0)) (owned b′ (q .0)) m))
 
       back : isInO o (a .picks) ≡ true → isInO o (marksIn (b′ ∷ []) c) ≡ true
-      back h = let d = picked-mark o h in look-isIn o (keep (marked b′) (c .entries)) (d .0) (look-kept (marked b′) o (c .entries) (d .0) (rel .uniq) (d .1) (mark-marked b′ (d .0) (d .2) (d .3)))
+      back h = let d = picked-mark o h in look-isIn o (keep (marked b′) (c .entries)) (d .0)
+          (look-kept (marked b′) o (c .entries) (d .0) (rel .uniq) (d .1) (mark-marked b′ (d .0) (d .2) (d .3)))
 
   -- the smallest of the members' ids
   pub least-members : least (map (valueAt c) (a .members)) ≡ b′
-  least-members = ap (λ (l : List Origin). least (map (valueAt c) l)) (E .members) ∙ least-is b′ (map (valueAt c) (a .picks)) own-in (λ v h. at-least v (value-from (valueAt c) v (a .picks) h))
+  least-members = ap (λ (l : List Origin). least (map (valueAt c) l)) (E .members)
+      ∙ least-is b′ (map (valueAt c) (a .picks)) own-in (λ v h. at-least v (value-from (valueAt c) v (a .picks) h))
     where
       value-is : (o : Origin) (d : Entry) → look o (c .entries) ≡ some d → valueAt c o ≡ d .value
       value-is o d h = ap (λ (x : Entry). x .value) (place-found o (c .entries) d h .1)
@@ -112,7 +116,8 @@ module _ (c : State) (F : Seen) (ρ : ℕ → ℕ) (rel : Rel c F ρ) (N : Named
       own-in = go own-there
         where
           go : OwnMark (c .entries) b′ → isIn b′ (map (valueAt c) (a .picks)) ≡ true
-          go (o, d, h, k, w, v) = subst (λ (n : ℕ). isIn n (map (valueAt c) (a .picks)) ≡ true) (value-is o d h ∙ v) (value-of (valueAt c) o (a .picks) (mark-picked o d h k w))
+          go (o, d, h, k, w, v) = subst (λ (n : ℕ). isIn n (map (valueAt c) (a .picks)) ≡ true) (value-is o d h ∙ v)
+              (value-of (valueAt c) o (a .picks) (mark-picked o d h k w))
 
       at-least : (v : ℕ) → (o : Origin) × (isInO o (a .picks) ≡ true) × (valueAt c o ≡ v) → b′ ≤ v
       at-least v (o, h, w) = let d = picked-mark o h in let x = N .marks o (d .0) (d .1) (d .2) in let y = value-is o (d .0) (d .1) in let z = d .3 in omega arith
@@ -132,7 +137,8 @@ module _ (c : State) (F : Seen) (ρ : ℕ → ℕ) (rel : Rel c F ρ) (N : Named
 
   pub may-abort : (o : Origin) × (e : Entry) × (F .cell o ≡ some e) × (e .owner ≡ b) × (isAbortMark e ≡ true) → mayAbort b′ c ≡ true
   may-abort (o, e, f, w, s) = let q = ours o e f w in
-      look-any isAbortMark o (entriesIn b′ c) (q .0) (look-kept (owned b′) o (c .entries) (q .0) (rel .uniq) (q .1) (eq-eqb (q .0 .owner) b′ (q .2))) (subst (λ (x : Entry). isAbortMark x ≡ true) (sym (q .3)) s)
+      look-any isAbortMark o (entriesIn b′ c) (q .0) (look-kept (owned b′) o (c .entries) (q .0) (rel .uniq) (q .1) (eq-eqb (q .0 .owner) b′ (q .2)))
+      (subst (λ (x : Entry). isAbortMark x ≡ true) (sym (q .3)) s)
 
   -- ---- the cells afterwards
 
@@ -142,7 +148,8 @@ module _ (c : State) (F : Seen) (ρ : ℕ → ℕ) (rel : Rel c F ρ) (N : Named
     left-rename (some e) l = rw test (go (owned b e) (eqb (e .kind) k))
       where
         test : eqb (ρ (e .owner)) b′ ≡ eqb (e .owner) b
-        test = same-test (eqb (ρ (e .owner)) b′) (eqb (e .owner) b) (λ q. eq-eqb (e .owner) b (rel .inj (e .owner) b (l e refl) live (eqb-true (ρ (e .owner)) b′ q))) (λ q. eq-eqb (ρ (e .owner)) b′ (ap ρ (eqb-true (e .owner) b q)))
+        test = same-test (eqb (ρ (e .owner)) b′) (eqb (e .owner) b) (λ q. eq-eqb (e .owner) b (rel .inj (e .owner) b (l e refl) live (eqb-true (ρ (e .owner)) b′ q)))
+            (λ q. eq-eqb (ρ (e .owner)) b′ (ap ρ (eqb-true (e .owner) b q)))
 
         go : (x y : Bool) → cond x (cond y (some (toGlobal (rename ρ e))) none) (some (rename ρ e)) ≡ omap (rename ρ) (cond x (cond y (some (toGlobal e)) none) (some e))
         go true true = λ j. some (record { origin = e .origin; owner = sym (rel .zero-is) j; kind = 0; port = e .port; value = e .value })
@@ -171,7 +178,8 @@ module _ (c : State) (F : Seen) (ρ : ℕ → ℕ) (rel : Rel c F ρ) (N : Named
       uniq = uniq-ended k b′ c (rel .uniq);
       next-is = rel .next-is;
       cells = λ o. view-cell (ended (ofKind k) b′ c) o ∙ ap (omap strip) (look-ended k b′ c (rel .uniq) o) ∙ left-strip k b′ kl (look o (c .entries))
-          ∙ ap (bindO (left k b′)) (sym (view-cell c o) ∙ rel .cells o) ∙ left-rename (F .cell o) (λ e h. inr (o, e, h, refl)) ∙ ap (omap (rename ρ)) (sym (orElse-none (bindO (left k b) (F .cell o))));
+          ∙ ap (bindO (left k b′)) (sym (view-cell c o) ∙ rel .cells o) ∙ left-rename (F .cell o) (λ e h. inr (o, e, h, refl))
+          ∙ ap (omap (rename ρ)) (sym (orElse-none (bindO (left k b) (F .cell o))));
       zero-is = rel .zero-is;
       pos = rel .pos;
       inj = λ v w l m h. rel .inj v w (still-live v l) (still-live w m) h;

@@ -141,7 +141,8 @@ module _ (t : Table) (sd : Shaped t) (c : State) (F : Seen) (ρ : ℕ → ℕ) (
 
       go : Shape R → isIn (ρ v) bs′ ≡ isIn v bs
       go (plain z b n) = ap (isIn (ρ v)) (touched-plain R (c .next) os′ z b) ∙ sym (ap (isIn v) (bs-plain z b))
-      go (begin z b n m rest q w k) = ap (isIn (ρ v)) (touched-begin R (c .next) os′ b) ∙ rw (ne-eqb (ρ v) (c .next) (λ x. let y = rel .below v live in let w = rel .next-is in omega arith)) (sym (K .unused b o e h))
+      go (begin z b n m rest q w k) = ap (isIn (ρ v)) (touched-begin R (c .next) os′ b)
+          ∙ rw (ne-eqb (ρ v) (c .next) (λ x. let y = rel .below v live in let w = rel .next-is in omega arith)) (sym (K .unused b o e h))
       go (inner z b n k) = ap (isIn (ρ v)) (bs′-inner z b) ∙ by-bool (isIn v bs)
           (λ x. isIn-map ρ v bs x ∙ sym x)
           (λ x. is-false (isIn (ρ v) (map ρ bs)) (λ y. other x (isIn-unmap ρ (ρ v) bs y) (bs-inner z b)) ∙ sym x)
@@ -149,17 +150,20 @@ module _ (t : Table) (sd : Shaped t) (c : State) (F : Seen) (ρ : ℕ → ℕ) (
   -- ---- the cells afterwards
 
   pub kept-entry : (o : Origin) (e : Entry) → F .cell o ≡ some e → merged os′ (rename ρ e) ≡ rename ρ′ (merged bs e)
-  kept-entry o e h = touched-merge R (c .next) os′ (sd r) fit-c (rename ρ e) ∙ (λ j. record { origin = e .origin; owner = own-eq j; kind = e .kind; port = e .port; value = e .value })
+  kept-entry o e h = touched-merge R (c .next) os′ (sd r) fit-c (rename ρ e)
+      ∙ (λ j. record { origin = e .origin; owner = own-eq j; kind = e .kind; port = e .port; value = e .value })
     where
       own-eq : cond (isIn (ρ (e .owner)) bs′) (least bs′) (ρ (e .owner)) ≡ ρ′ (cond (isIn (e .owner) bs) (least bs) (e .owner))
-      own-eq = ap (λ (b : Bool). cond b (least bs′) (ρ (e .owner))) (touched-same o e h) ∙ by-bool (isIn (e .owner) bs) (λ x. rw x (sym new-name)) (λ x. rw x (sym (old-name (e .owner) x)))
+      own-eq = ap (λ (b : Bool). cond b (least bs′) (ρ (e .owner))) (touched-same o e h)
+          ∙ by-bool (isIn (e .owner) bs) (λ x. rw x (sym new-name)) (λ x. rw x (sym (old-name (e .owner) x)))
 
   abbrev pub vs : List ℕ
   vs = received F a
 
   pub made-entries : map strip (productsOf R (suc (a .place)) c qs) ≡ map (rename ρ′) (map strip (make (suc (a .place)) (least bs) vs 0 (productAtoms R)))
   made-entries =
-      (λ j. map strip (make (suc (a .place)) (sym new-name j) ((ap values (seen-again .0) ∙ values-rename ρ es ∙ sym (values-found (F .cell) (a .picks) es (K .found))) j) 0 (productAtoms R)))
+      (λ j. map strip (make (suc (a .place)) (sym new-name j)
+      ((ap values (seen-again .0) ∙ values-rename ρ es ∙ sym (values-found (F .cell) (a .picks) es (K .found))) j) 0 (productAtoms R)))
       ∙ make-rename ρ′ (suc (a .place)) (least bs) vs 0 (productAtoms R)
 
   abbrev pub action : Origin → Option Entry
@@ -171,7 +175,8 @@ module _ (t : Table) (sd : Shaped t) (c : State) (F : Seen) (ρ : ℕ → ℕ) (
       ∙ ap (omap strip) (look-reacted R (sd r) (suc (a .place)) c qs fit-c (rel .uniq) (seen-again .2) fresh-c o)
       ∙ cell-eq (isInO o (originsOf (picked c qs))) (look o (c .entries)) (look o (productsOf R (suc (a .place)) c qs)) (merged os′) (merged os′) (λ e. refl)
       ∙ (λ j. orElse (cond (isInO o (seen-again .1 j)) none (bindO (λ e. some (merged os′ e)) (there-is j))) (made-is j))
-      ∙ cell-rename (isInO o (a .picks)) (F .cell o) (look o (map strip (make (suc (a .place)) (least bs) vs 0 (productAtoms R)))) ρ (merged os′) (merged bs) (rename ρ′) (λ e h. kept-entry o e h)
+      ∙ cell-rename (isInO o (a .picks)) (F .cell o) (look o (map strip (make (suc (a .place)) (least bs) vs 0 (productAtoms R)))) ρ (merged os′) (merged bs) (rename ρ′)
+      (λ e h. kept-entry o e h)
     where
       there-is : omap strip (look o (c .entries)) ≡ omap (rename ρ) (F .cell o)
       there-is = sym (view-cell c o) ∙ rel .cells o
@@ -203,16 +208,20 @@ module _ (t : Table) (sd : Shaped t) (c : State) (F : Seen) (ρ : ℕ → ℕ) (
     where
       go : Shape R → ⊥
       go (plain z b x) = false≢true (rw (bs-plain z b) at i)
-      go (begin z b x m rest q w k) = let y : c .next ≡ ρ v = sym (ap least (touched-begin R (c .next) os′ b)) ∙ h in let w = rel .below v l in let x = rel .next-is in omega arith
-      go (inner z b x k) = let u = one-of (bs-inner z b) i in clash (subst (λ (k : ℕ). isIn k bs ≡ true) (rel .inj (u .0) v (u .1) l (u .3 ∙ sym (ap least (bs′-inner z b)) ∙ h)) (u .2)) n
+      go (begin z b x m rest q w k) = let y : c .next ≡ ρ v = sym (ap least (touched-begin R (c .next) os′ b)) ∙ h in let w = rel .below v l in
+          let x = rel .next-is in omega arith
+      go (inner z b x k) = let u = one-of (bs-inner z b) i in clash
+          (subst (λ (k : ℕ). isIn k bs ≡ true) (rel .inj (u .0) v (u .1) l (u .3 ∙ sym (ap least (bs′-inner z b)) ∙ h)) (u .2)) n
 
   pub new-below : isIn (least bs) bs ≡ true → least bs′ < later (begins R) (F .next)
   new-below i = go (sd r)
     where
       go : Shape R → least bs′ < later (begins R) (F .next)
       go (plain z b x) = absurd (false≢true (rw (bs-plain z b) at i))
-      go (begin z b x m rest q w k) = let y : least bs′ ≡ c .next = ap least (touched-begin R (c .next) os′ b) in let w = rel .next-is in let x : later (begins R) (F .next) ≡ suc (F .next) = ap (λ (b : Bool). later b (F .next)) b in omega arith
-      go (inner z b x k) = let u = one-of (bs-inner z b) i in let w = rel .below (u .0) (u .1) in let y : least bs′ ≡ ρ (u .0) = ap least (bs′-inner z b) ∙ sym (u .3) in let x = later-le (begins R) (F .next) in omega arith
+      go (begin z b x m rest q w k) = let y : least bs′ ≡ c .next = ap least (touched-begin R (c .next) os′ b) in let w = rel .next-is in
+          let x : later (begins R) (F .next) ≡ suc (F .next) = ap (λ (b : Bool). later b (F .next)) b in omega arith
+      go (inner z b x k) = let u = one-of (bs-inner z b) i in let w = rel .below (u .0) (u .1) in let y : least bs′ ≡ ρ (u .0) = ap least (bs′-inner z b) ∙ sym (u .3) in
+          let x = later-le (begins R) (F .next) in omega arith
 
   pub now-inj : (v w : ℕ) → Now v → Now w → ρ′ v ≡ ρ′ w → v ≡ w
   now-inj v w (inl p) (inl q) h = p .0 ∙ sym (q .0)
@@ -222,7 +231,8 @@ module _ (t : Table) (sd : Shaped t) (c : State) (F : Seen) (ρ : ℕ → ℕ) (
 
   pub now-below : (v : ℕ) → Now v → ρ′ v < later (begins R) (F .next)
   now-below v (inl p) = subst (λ (x : ℕ). x < later (begins R) (F .next)) (sym (ap ρ′ (p .0) ∙ new-name)) (new-below (p .1))
-  now-below v (inr p) = let w = rel .below v (p .0) in let x = later-le (begins R) (F .next) in subst (λ (z : ℕ). z < later (begins R) (F .next)) (sym (old-name v (p .1))) (omega arith)
+  now-below v (inr p) = let w = rel .below v (p .0) in let x = later-le (begins R) (F .next) in subst (λ (z : ℕ). z < later (begins R) (F .next))
+      (sym (old-name v (p .1))) (omega arith)
 
   abbrev pub afterwards : Seen
   afterwards = record { next = later (begins R) (F .next); cell = action }
@@ -232,7 +242,8 @@ module _ (t : Table) (sd : Shaped t) (c : State) (F : Seen) (ρ : ℕ → ℕ) (
   now-live v (inl z) = inr (inl z, rw z (K .noZero))
   now-live v (inr (o, e, h, w)) = by-bool (eqb v 0)
       (λ z. let x = eqb-true v 0 z in inr (inl x, rw x (K .noZero)))
-      (λ z. let n = eqb-false v 0 z in now-of v o (subst (λ (x : ℕ). From (F .cell) bs false o x) w (came t (F .cell) a es vs (react r ps) T o e (apply-inv (F .cell) (reactAction R (a .place) (a .picks) bs vs) o e h) (λ x. n (sym w ∙ x)))) n)
+      (λ z. let n = eqb-false v 0 z in now-of v o (subst (λ (x : ℕ). From (F .cell) bs false o x) w
+      (came t (F .cell) a es vs (react r ps) T o e (apply-inv (F .cell) (reactAction R (a .place) (a .picks) bs vs) o e h) (λ x. n (sym w ∙ x)))) n)
 
   pub rel-react : Rel (reacted R (suc (a .place)) c qs) afterwards ρ′
   unfolding reacted

@@ -128,8 +128,22 @@ products-one r s es i w q (a ∷ ats) h = λ j. head j ∷ products-one r s es i
     value-eq true z = h .0 .1 z
     value-eq false z = refl
 
-    head : made r s es (record { maker = i; index = q }) a ≡ record { origin = record { maker = i; index = q }; owner = w; kind = kindMade (a .role); port = a .port; value = cond (eqb (a .role) 2) w (valueIn (values es) (a .value)) }
-    head = λ j. record { origin = record { maker = i; index = q }; owner = h .0 .0 j; kind = kindMade (a .role); port = a .port; value = value-eq (eqb (a .role) 2) refl j }
+    head : made r s es (record { maker = i; index = q }) a ≡ record {
+      origin = record { maker = i; index = q };
+      owner = w;
+      kind = kindMade
+          (a .role);
+      port = a .port;
+      value = cond (eqb (a .role) 2) w (valueIn (values es) (a .value));
+    }
+    head = λ j. record {
+      origin = record { maker = i; index = q };
+      owner = h .0 .0 j;
+      kind = kindMade (a .role);
+      port = a .port;
+      value = value-eq
+          (eqb (a .role) 2) refl j;
+    }
 
 pub role-is : (a : Atom) (k : ℕ) → hasRole k a ≡ true → a .role ≡ k
 role-is a k h = eqb-true (a .role) k h
@@ -145,44 +159,60 @@ products-make r sh s es i fit = products-one r s es i (least (touchedBy r (s .ne
     Fine w a = (ownerMade r s os (a .role) ≡ w) × (eqb (a .role) 2 ≡ true → s .next ≡ w)
 
     fine-plain : r .class ≡ 0 → (a : Atom) → hasRole 1 a ≡ true → Fine 0 a
-    fine-plain c a h = let q : a .role ≡ 1 = role-is a 1 h in (rw (c, q) (least-zero os (global-fit r os c fit)), λ z. absurd (let y = eqb-true (a .role) 2 z in omega arith))
+    fine-plain c a h = let q : a .role ≡ 1 = role-is a 1 h in
+        (rw (c, q) (least-zero os (global-fit r os c fit)), λ z. absurd (let y = eqb-true (a .role) 2 z in omega arith))
 
     fine-begin : r .class ≡ 0 → (a : Atom) → eqb (a .role) 1 ≡ false → Fine (s .next) a
     fine-begin c a h = (rw (c, h), λ z. refl)
 
     fine-inner : eqb (r .class) 0 ≡ false → (a : Atom) → (hasRole 1 a || hasRole 5 a) ≡ true → Fine (least os) a
-    fine-inner c a h = (rw c, λ z. absurd (let y = eqb-true (a .role) 2 z in two y (by-bool (hasRole 1 a) (λ p. ap (λ (n : ℕ). eqb n 2) (role-is a 1 p)) (λ p. ap (λ (n : ℕ). eqb n 2) (role-is a 5 (rw p at h)))) z))
+    fine-inner c a h = (
+      rw c,
+      λ z. absurd (let y = eqb-true (a .role) 2 z in two y
+          (by-bool (hasRole 1 a) (λ p. ap (λ (n : ℕ). eqb n 2) (role-is a 1 p)) (λ p. ap (λ (n : ℕ). eqb n 2) (role-is a 5 (rw p at h)))) z),
+    )
       where
         two : a .role ≡ 2 → eqb (a .role) 2 ≡ false → eqb (a .role) 2 ≡ true → ⊥
         two y p z = clash z p
 
     go : Shape r → All (Fine (least (touchedBy r (s .next) os))) (productAtoms r)
-    go (plain c b h) = rw (touched-plain r (s .next) os c b) (All-map {P = λ a. hasRole 1 a ≡ true} {Q = Fine 0} (λ a k. fine-plain c a k) (productAtoms r) (All-of (hasRole 1) (productAtoms r) h))
-    go (begin c b h m rest q w k) = rw (touched-begin r (s .next) os b, q)
-        (fine-begin c m (rw w), All-map {P = λ a. leb 3 (a .role) ≡ true} {Q = Fine (s .next)} (λ a z. fine-begin c a (ne-eqb (a .role) 1 (λ y. let x = leb-true 3 (a .role) z in omega arith))) rest (All-of (λ a. leb 3 (a .role)) rest k))
-    go (inner c b h k) = rw (touched-inner r (s .next) os c b) (All-map {P = λ a. (hasRole 1 a || hasRole 5 a) ≡ true} {Q = Fine (least os)} (λ a z. fine-inner c a z) (productAtoms r) (All-of (λ a. hasRole 1 a || hasRole 5 a) (productAtoms r) k))
+    go (plain c b h) = rw (touched-plain r (s .next) os c b) (All-map {P = λ a. hasRole 1 a ≡ true} {Q = Fine 0} (λ a k. fine-plain c a k) (productAtoms r)
+        (All-of (hasRole 1) (productAtoms r) h))
+    go (begin c b h m rest q w k) = rw (touched-begin r (s .next) os b, q) (
+      fine-begin c m (rw w),
+      All-map {P = λ a. leb 3 (a .role) ≡ true} {Q = Fine (s .next)}
+          (λ a z. fine-begin c a (ne-eqb (a .role) 1 (λ y. let x = leb-true 3 (a .role) z in omega arith))) rest (All-of (λ a. leb 3 (a .role)) rest k),
+    )
+    go (inner c b h k) = rw (touched-inner r (s .next) os c b)
+        (All-map {P = λ a. (hasRole 1 a || hasRole 5 a) ≡ true} {Q = Fine (least os)} (λ a z. fine-inner c a z) (productAtoms r)
+        (All-of (λ a. hasRole 1 a || hasRole 5 a) (productAtoms r) k))
 
 -- ---- tests on the products
 
-pub make-all : (p : Entry → Bool) (i w : ℕ) (vs : List ℕ) (q : ℕ) (ats : List Atom) → ((e : Entry) → e .origin .maker ≡ i → e .owner ≡ w → p e ≡ true) → all p (make i w vs q ats) ≡ true
+pub make-all : (p : Entry → Bool) (i w : ℕ) (vs : List ℕ) (q : ℕ) (ats : List Atom) → ((e : Entry) → e .origin .maker ≡ i → e .owner ≡ w → p e ≡ true)
+    → all p (make i w vs q ats) ≡ true
 make-all p i w vs q [] h = refl
 make-all p i w vs q (a ∷ ats) h = and-intro (h _ refl refl) (make-all p i w vs (suc q) ats h)
 
-pub make-kinds : (p : ℕ → Bool) (i w : ℕ) (vs : List ℕ) (q : ℕ) (ats : List Atom) → All (λ a. p (kindMade (a .role)) ≡ true) ats → all (λ e. p (e .kind)) (make i w vs q ats) ≡ true
+pub make-kinds : (p : ℕ → Bool) (i w : ℕ) (vs : List ℕ) (q : ℕ) (ats : List Atom) → All (λ a. p (kindMade (a .role)) ≡ true) ats
+    → all (λ e. p (e .kind)) (make i w vs q ats) ≡ true
 make-kinds p i w vs q [] h = refl
 make-kinds p i w vs q (a ∷ ats) h = and-intro (h .0) (make-kinds p i w vs (suc q) ats (h .1))
 
 -- the kinds of products
 module _ (r : Rule) where
   pub kinds-plain : all (hasRole 1) (productAtoms r) ≡ true → All (λ a. eqb (kindMade (a .role)) 0 ≡ true) (productAtoms r)
-  kinds-plain h = All-map {P = λ a. hasRole 1 a ≡ true} {Q = λ a. eqb (kindMade (a .role)) 0 ≡ true} (λ a k. ap (λ (n : ℕ). eqb (kindMade n) 0) (role-is a 1 k)) (productAtoms r) (All-of (hasRole 1) (productAtoms r) h)
+  kinds-plain h = All-map {P = λ a. hasRole 1 a ≡ true} {Q = λ a. eqb (kindMade (a .role)) 0 ≡ true} (λ a k. ap (λ (n : ℕ). eqb (kindMade n) 0) (role-is a 1 k))
+      (productAtoms r) (All-of (hasRole 1) (productAtoms r) h)
 
   pub kinds-inner : all (λ a. hasRole 1 a || hasRole 5 a) (productAtoms r) ≡ true → All (λ a. ltb (kindMade (a .role)) 3 ≡ true) (productAtoms r)
   kinds-inner h = All-map {P = λ a. (hasRole 1 a || hasRole 5 a) ≡ true} {Q = λ a. ltb (kindMade (a .role)) 3 ≡ true}
-      (λ a k. by-bool (hasRole 1 a) (λ p. ap (λ (n : ℕ). ltb (kindMade n) 3) (role-is a 1 p)) (λ p. ap (λ (n : ℕ). ltb (kindMade n) 3) (role-is a 5 (rw p at k)))) (productAtoms r) (All-of (λ a. hasRole 1 a || hasRole 5 a) (productAtoms r) h)
+      (λ a k. by-bool (hasRole 1 a) (λ p. ap (λ (n : ℕ). ltb (kindMade n) 3) (role-is a 1 p)) (λ p. ap (λ (n : ℕ). ltb (kindMade n) 3) (role-is a 5 (rw p at k))))
+      (productAtoms r) (All-of (λ a. hasRole 1 a || hasRole 5 a) (productAtoms r) h)
 
 pub kinds-rest : (ats : List Atom) → all (λ a. leb 3 (a .role)) ats ≡ true → All (λ a. ltb (kindMade (a .role)) 3 ≡ true) ats
-kinds-rest ats h = All-map {P = λ a. leb 3 (a .role) ≡ true} {Q = λ a. ltb (kindMade (a .role)) 3 ≡ true} (λ a k. go a (eqb (a .role) 4) (eqb (a .role) 5) (ne-eqb (a .role) 2 (λ q. let x = leb-true 3 (a .role) k in omega arith))) ats (All-of (λ a. leb 3 (a .role)) ats h)
+kinds-rest ats h = All-map {P = λ a. leb 3 (a .role) ≡ true} {Q = λ a. ltb (kindMade (a .role)) 3 ≡ true}
+    (λ a k. go a (eqb (a .role) 4) (eqb (a .role) 5) (ne-eqb (a .role) 2 (λ q. let x = leb-true 3 (a .role) k in omega arith))) ats (All-of (λ a. leb 3 (a .role)) ats h)
   where
     go : (a : Atom) (b c : Bool) → eqb (a .role) 2 ≡ false → ltb (kindMade (a .role)) 3 ≡ true
     go a b c z = rw z (two (eqb (a .role) 4) (eqb (a .role) 5))
@@ -194,4 +224,5 @@ kinds-rest ats h = All-map {P = λ a. leb 3 (a .role) ≡ true} {Q = λ a. ltb (
 
 -- a rule of roles other than 2 makes no member mark
 pub kind-weaken : (ats : List Atom) → All (λ a. eqb (kindMade (a .role)) 0 ≡ true) ats → All (λ a. ltb (kindMade (a .role)) 3 ≡ true) ats
-kind-weaken ats h = All-map {P = λ a. eqb (kindMade (a .role)) 0 ≡ true} {Q = λ a. ltb (kindMade (a .role)) 3 ≡ true} (λ a k. ap (λ (n : ℕ). ltb n 3) (eqb-true (kindMade (a .role)) 0 k)) ats h
+kind-weaken ats h = All-map {P = λ a. eqb (kindMade (a .role)) 0 ≡ true} {Q = λ a. ltb (kindMade (a .role)) 3 ≡ true}
+    (λ a k. ap (λ (n : ℕ). ltb n 3) (eqb-true (kindMade (a .role)) 0 k)) ats h

@@ -54,7 +54,8 @@ run-accepted ceiling t i s (w ∷ ws) e h = go (λ s′ k. run-accepted ceiling 
     go ih true p (Denied r) q k = absurd (not-ended k)
     go ih true p Allowed q k = two (leb (length (s1 .entries)) ceiling) k
       where
-        two : (c : Bool) → onward (cond c (to s1) (refused TooManyEntries)) i (λ s′. run ceiling t (suc i) s′ ws) ≡ Log.ended e → Accepted t i s (map (moveOf t) (w ∷ ws)) e × All (λ w. moveOk t w ≡ true) (w ∷ ws)
+        two : (c : Bool) → onward (cond c (to s1) (refused TooManyEntries)) i (λ s′. run ceiling t (suc i) s′ ws) ≡ Log.ended e
+            → Accepted t i s (map (moveOf t) (w ∷ ws)) e × All (λ w. moveOk t w ≡ true) (w ∷ ws)
         two true x = let r = ih s1 x in ((q, r .0), (p, r .1))
         two false x = absurd (not-ended x)
 
@@ -65,19 +66,23 @@ unfolding along
 along-head p t i s [] h = and-left (p s) true h
 along-head p t i s (m ∷ ms) h = and-left (p s) (all p (along t (suc i) (after t (suc i) s m) ms)) h
 
-pub accepted-run : (ceiling : ℕ) (t : Table) (i : ℕ) (s : State) (ms : List Move) (e : State) → Accepted t i s ms e → all (fits ceiling) (along t i s ms) ≡ true → All (Holdable t) ms
+pub accepted-run : (ceiling : ℕ) (t : Table) (i : ℕ) (s : State) (ms : List Move) (e : State) → Accepted t i s ms e → all (fits ceiling) (along t i s ms) ≡ true
+    → All (Holdable t) ms
     → run ceiling t i s (map moveWords ms) ≡ Log.ended e
 unfolding run stepWords step along
 accepted-run ceiling t i s [] e a f h = ap Log.ended a
 accepted-run ceiling t i s (m ∷ ms) e a f h =
     let q = after-allowed t (suc i) s m (a .0) in
     let s1 = applied t (suc i) s m in
-    let rest : all (fits ceiling) (along t (suc i) s1 ms) ≡ true = subst (λ (x : State). all (fits ceiling) (along t (suc i) x ms) ≡ true) q (and-right (fits ceiling s) (all (fits ceiling) (along t (suc i) (after t (suc i) s m) ms)) f) in
+    let rest : all (fits ceiling) (along t (suc i) s1 ms) ≡ true = subst (λ (x : State). all (fits ceiling) (along t (suc i) x ms) ≡ true) q
+    (and-right (fits ceiling s) (all (fits ceiling) (along t (suc i) (after t (suc i) s m) ms)) f) in
     let small : leb (length (s1 .entries)) ceiling ≡ true = along-head (fits ceiling) t (suc i) s1 ms rest in
     go (moveOf t (moveWords m)) (words-ok t m (h .0)) (words-back t m (h .0)) (a .0) small (accepted-run ceiling t (suc i) s1 ms e (a .1) rest (h .1))
   where
-    go : (m′ : Move) → moveOk t (moveWords m) ≡ true → m′ ≡ m → allowed t s m ≡ Allowed → leb (length (applied t (suc i) s m .entries)) ceiling ≡ true → run ceiling t (suc i) (applied t (suc i) s m) (map moveWords ms) ≡ Log.ended e
-        → onward (cond (moveOk t (moveWords m)) (within ceiling (steppedBy (allowed t s m′) (applied t (suc i) s m′))) (refused MoveForm)) i (λ s′. run ceiling t (suc i) s′ (map moveWords ms)) ≡ Log.ended e
+    go : (m′ : Move) → moveOk t (moveWords m) ≡ true → m′ ≡ m → allowed t s m ≡ Allowed → leb (length (applied t (suc i) s m .entries)) ceiling ≡ true
+        → run ceiling t (suc i) (applied t (suc i) s m) (map moveWords ms) ≡ Log.ended e
+        → onward (cond (moveOk t (moveWords m)) (within ceiling (steppedBy (allowed t s m′) (applied t (suc i) s m′))) (refused MoveForm)) i
+        (λ s′. run ceiling t (suc i) s′ (map moveWords ms)) ≡ Log.ended e
     go m′ ok q al sm r = rw (ok, q, al, sm) r
 
 -- ---- the moves of an accepted log can be held
@@ -99,4 +104,8 @@ module _ (t : Table) (right : TableRight t) (few : length (t .rules) ≤ 64) whe
 
   pub all-holdable : (i : ℕ) (s : State) (ms : List Move) (e : State) → Accepted t i s ms e → Sound (t .sizes) s → All (RuleKnown t) ms → All (Holdable t) ms
   all-holdable i s [] e a sound r = tt
-  all-holdable i s (m ∷ ms) e a sound r = (holdable s m (a .0) sound (r .0), all-holdable (suc i) (applied t (suc i) s m) ms e (a .1) (applied-keeps right sound (suc i) m (r .0) (a .0)) (r .1))
+  all-holdable i s (m ∷ ms) e a sound r = (
+    holdable s m (a .0) sound (r .0),
+    all-holdable (suc i) (applied t (suc i) s m) ms e (a .1)
+        (applied-keeps right sound (suc i) m (r .0) (a .0)) (r .1),
+  )

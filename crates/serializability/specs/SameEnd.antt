@@ -50,7 +50,8 @@ pub count-drop : (p : Entry → Bool) (o : Origin) (l : List Entry) (e : Entry) 
 count-drop p o [] e h = absurd (none-some h)
 count-drop p o (x ∷ l) e h = go (sameOrigin o (x .origin)) (count-drop p o l e) h
   where
-    go : (b : Bool) → (look o l ≡ some e → count p l ≡ count p (e ∷ dropOne o l)) → cond b (some x) (look o l) ≡ some e → count p (x ∷ l) ≡ count p (e ∷ cond b l (x ∷ dropOne o l))
+    go : (b : Bool) → (look o l ≡ some e → count p l ≡ count p (e ∷ dropOne o l)) → cond b (some x) (look o l) ≡ some e
+        → count p (x ∷ l) ≡ count p (e ∷ cond b l (x ∷ dropOne o l))
     go true ih w = ap (λ (y : Entry). count p (y ∷ l)) (some-inj w)
     go false ih w = let k = ih w in omega arith
 
@@ -91,7 +92,8 @@ module _ (c e : State) (ρ : ℕ → ℕ) (rel : Rel c (view e) ρ) (n : NoneOpe
 
   pub messages-same : all isMessage (c .entries) ≡ true → all isMessage (e .entries) ≡ true → (p : Entry → Bool) → count p (c .entries) ≡ count p (e .entries)
   messages-same kinds-c kinds-e p = ap (count p) (sym (strip-all (c .entries) kinds-c))
-      ∙ count-alike p (map strip (c .entries)) (map strip (e .entries)) (uniq-map strip (λ e. refl) (c .entries) (rel .uniq)) (uniq-map strip (λ e. refl) (e .entries) u) cells-same
+      ∙ count-alike p (map strip (c .entries)) (map strip (e .entries)) (uniq-map strip (λ e. refl) (c .entries) (rel .uniq))
+      (uniq-map strip (λ e. refl) (e .entries) u) cells-same
       ∙ ap (count p) (strip-all (e .entries) kinds-e)
     where
       strip-all : (l : List Entry) → all isMessage l ≡ true → map strip l ≡ l

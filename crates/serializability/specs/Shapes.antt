@@ -29,7 +29,8 @@ makes a = not (hasRole 0 a)
 pub begin-first : (m : ℕ) (l : List Atom) → risesFrom m (λ a. a .role) l ≡ true → any (hasRole 2) l ≡ true → any (hasRole 1) l ≡ false → count (hasRole 2) l ≤ 1
     → (a : Atom) × (rest : List Atom) × (keep makes l ≡ a ∷ rest) × (a .role ≡ 2) × (all (λ b. leb 3 (b .role)) rest ≡ true)
 begin-first m [] h b e c = absurd (false≢true b)
-begin-first m (a ∷ l) h b e c = go (λ b′. begin-first (a .role) l up b′ (or-right-false (hasRole 1 a) (any (hasRole 1) l) e) (omega arith)) (hasRole 0 a) refl (hasRole 2 a) refl
+begin-first m (a ∷ l) h b e c = go (λ b′. begin-first (a .role) l up b′ (or-right-false (hasRole 1 a) (any (hasRole 1) l) e) (omega arith)) (hasRole 0 a) refl
+    (hasRole 2 a) refl
   where
     up : risesFrom (a .role) (λ a. a .role) l ≡ true
     up = and-right (leb m (a .role)) (risesFrom (a .role) (λ a. a .role) l) h
@@ -53,7 +54,8 @@ begin-first m (a ∷ l) h b e c = go (λ b′. begin-first (a .role) l up b′ (
       eqb-true (a .role) 2 q,
       all-of (λ b. leb 3 (b .role)) (keep makes l) (All-keep (λ b. leb 3 (b .role) ≡ true) makes l
           (All-two {P = λ b. a .role ≤ b .role} {Q = λ b. hasRole 2 b ≡ false} {R = λ b. makes b ≡ true → leb 3 (b .role) ≡ true}
-          (λ b n k _. let x = eqb-true (a .role) 2 q in let y = eqb-false (b .role) 2 k in le-leb 3 (b .role) (omega arith)) l (rises-all (λ a. a .role) (a .role) l up) (count-zero (hasRole 2) l (let z = ap oneIf q in omega arith)))),
+          (λ b n k _. let x = eqb-true (a .role) 2 q in let y = eqb-false (b .role) 2 k in le-leb 3 (b .role) (omega arith)) l (rises-all (λ a. a .role) (a .role) l up)
+          (count-zero (hasRole 2) l (let z = ap oneIf q in omega arith)))),
     )
     go ih false p false q =
         let x = any-found (λ b. a .role ≤ b .role) (hasRole 2) l (later-one q) (rises-all (λ a. a .role) (a .role) l up) in

@@ -53,7 +53,11 @@ module _ (t : Table) (G : Seen) where
   ins-runs m (x ∷ xs) F sw r = go (λ F′. ins-runs m xs F′ (sw .1)) (leb (m .key) (x .key)) refl
     where
       swapped : ((F′ : Seen) → Runs t F′ (m ∷ xs) G → Runs t F′ (ins m xs) G) → Swap t m x → Runs t F (x ∷ ins m xs) G
-      swapped ih S = (ok-x t F m x S (r .0) (r .1 .0), ih (astep t F x) (ok-m t F m x S (r .0) (r .1 .0), subst (λ (H : Seen). Runs t H xs G) (same t F m x S (r .0) (r .1 .0)) (r .1 .1)))
+      swapped ih S = (
+        ok-x t F m x S (r .0) (r .1 .0),
+        ih (astep t F x)
+            (ok-m t F m x S (r .0) (r .1 .0), subst (λ (H : Seen). Runs t H xs G) (same t F m x S (r .0) (r .1 .0)) (r .1 .1)),
+      )
 
       go : ((F′ : Seen) → Runs t F′ (m ∷ xs) G → Runs t F′ (ins m xs) G) → (b : Bool) → leb (m .key) (x .key) ≡ b → Runs t F (cond b (m ∷ x ∷ xs) (x ∷ ins m xs)) G
       go ih true e = r
@@ -104,7 +108,8 @@ arrange-ins (suc n) e m xs h k = by-bool (eqb (m .key) e)
       q,
       arrange-skip n (suc e) m xs (omega arith),
       ins-first m (keep (keyIs e) xs ++ arrange (suc e) n xs)
-          (All-map {P = λ x. e ≤ x .key} {Q = λ x. m .key ≤ x .key} (λ x p. omega arith) (keep (keyIs e) xs ++ arrange (suc e) n xs) (arrange-ge (suc n) e e xs (omega arith))),
+          (All-map {P = λ x. e ≤ x .key} {Q = λ x. m .key ≤ x .key} (λ x p. omega arith) (keep (keyIs e) xs ++ arrange (suc e) n xs)
+          (arrange-ge (suc n) e e xs (omega arith))),
     ))
     (λ q. let w = eqb-false (m .key) e q in
     rw (

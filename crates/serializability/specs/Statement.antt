@@ -83,7 +83,8 @@ pub record Serial (t : Table) (s : State) (ms : List Move) (e : State) : Type 0 
   -- (Origins tell entries apart: in none of these states have two entries the same one. And they change nothing: the second states are those along the
   -- serial log.)
   pub origins : (j : ℕ) → j < length ms → (o : Origin)
-      → (count (hasOrigin o) (stateBefore t (upFrom 0 (length ms)) s ms j .entries) ≤ 1) × (count (hasOrigin o) (stateBefore t (placesOf t s ms) s (serial t s ms) j .entries) ≤ 1)
+      → (count (hasOrigin o) (stateBefore t (upFrom 0 (length ms)) s ms j .entries) ≤ 1) ×
+      (count (hasOrigin o) (stateBefore t (placesOf t s ms) s (serial t s ms) j .entries) ≤ 1)
   pub states : (j : ℕ) → j ≤ length ms → stateWords (stateBefore t (placesOf t s ms) s (serial t s ms) j) ≡ stateWords (getD (along t 0 s (serial t s ms)) j s)
   -- 2. Blocks: directly before a commit or abort a stand the begins of the members that it ends and the reactions made in their transactions, in
   -- log order, with no other move between;

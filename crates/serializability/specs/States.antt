@@ -31,7 +31,8 @@ pub origin-none : (o : Origin) (l : List Entry) → look o l ≡ none → count 
 origin-none o [] h = refl
 origin-none o (e ∷ l) h = go (sameOrigin o (e .origin)) (origin-none o l) h
   where
-    go : (b : Bool) → (look o l ≡ none → count (λ e. sameOrigin o (e .origin)) l ≡ 0) → cond b (some e) (look o l) ≡ none → oneIf b + count (λ e. sameOrigin o (e .origin)) l ≡ 0
+    go : (b : Bool) → (look o l ≡ none → count (λ e. sameOrigin o (e .origin)) l ≡ 0) → cond b (some e) (look o l) ≡ none
+        → oneIf b + count (λ e. sameOrigin o (e .origin)) l ≡ 0
     go true ih w = absurd (none-some (sym w))
     go false ih w = let k = ih w in omega arith
 
@@ -44,7 +45,8 @@ origin-once o (e ∷ l) u = go (sameOrigin o (e .origin)) refl (origin-once o l 
     go false q ih = omega arith
 
 -- every state of the log
-pub log-uniq : (t : Table) → Shaped t → (i : ℕ) (s : State) (ms : List Move) (e : State) → Uniq (s .entries) → Good i (view s) → Accepted t i s ms e → (j : ℕ) → Uniq (stateBefore t (upFrom i (length ms)) s ms j .entries)
+pub log-uniq : (t : Table) → Shaped t → (i : ℕ) (s : State) (ms : List Move) (e : State) → Uniq (s .entries) → Good i (view s) → Accepted t i s ms e → (j : ℕ)
+    → Uniq (stateBefore t (upFrom i (length ms)) s ms j .entries)
 unfolding stateBefore
 log-uniq t sd i s ms e u g h zero = u
 log-uniq t sd i s [] e u g h (suc j) = u
@@ -53,7 +55,8 @@ log-uniq t sd i s (m ∷ ms) e u g h (suc j) =
     let a = deedAt t i 0 s m in
     let q : applied t (suc i) s m ≡ after t (suc i) s m = sym (after-allowed t (suc i) s m (h .0)) in
     log-uniq t sd (suc i) (after t (suc i) s m) ms e (subst (λ (x : State). Uniq (x .entries)) q (S .uniq))
-    (subst (λ (F : Seen). Good (suc i) F) (sym (ap view (sym q) ∙ S .same-cells)) (good-next t sd i (view s) a g (S .step))) (subst (λ (x : State). Accepted t (suc i) x ms e) q (h .1)) j
+    (subst (λ (F : Seen). Good (suc i) F) (sym (ap view (sym q) ∙ S .same-cells)) (good-next t sd i (view s) a g (S .step)))
+    (subst (λ (x : State). Accepted t (suc i) x ms e) q (h .1)) j
 
 -- ---- the states along
 
@@ -74,4 +77,5 @@ along-same t ps [] i s c d l h zero k = h
 along-same t ps (m ∷ ms) i s c d l h zero k = h
 along-same t ps [] i s c d l h (suc j) k = absurd (omega arith)
 along-same t [] (m ∷ ms) i s c d l h (suc j) k = absurd (omega arith)
-along-same t (p ∷ ps) (m ∷ ms) i s c d l h (suc j) k = along-same t ps ms (suc i) (after t (suc i) s m) (after t (suc p) c m) d (omega arith) (after-same t (suc p) (suc i) c s m h) j (omega arith)
+along-same t (p ∷ ps) (m ∷ ms) i s c d l h (suc j) k = along-same t ps ms (suc i) (after t (suc i) s m) (after t (suc p) c m) d (omega arith)
+    (after-same t (suc p) (suc i) c s m h) j (omega arith)

@@ -70,7 +70,8 @@ module _ (t : Table) (F : Seen) (m x : Deed) (S : Swap t m x) (km : Ok t F m) (k
   unfolding f1
   keep-x o e h l = frame-keep (F .cell) A (m .touched) (m .place) LA o e h (is-false (isIn (e .owner) (m .touched)) (λ k. S .apart (e .owner) k l))
       (is-false (A .gone o) (λ k. let q = m-picked o k in
-      clash l (subst (λ (z : Entry). isIn (z .owner) (x .touched) ≡ false) (some-inj (sym (q .1) ∙ h)) (not-in (m .touched) (x .touched) (q .0) (kx .noZero) apart′ (q .2)))))
+      clash l (subst (λ (z : Entry). isIn (z .owner) (x .touched) ≡ false) (some-inj (sym (q .1) ∙ h))
+      (not-in (m .touched) (x .touched) (q .0) (kx .noZero) apart′ (q .2)))))
 
   pub fresh-x : (o : Origin) → o .maker ≡ suc (x .place) → F .cell o ≡ none
   unfolding astep f1 A

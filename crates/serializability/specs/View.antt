@@ -28,7 +28,8 @@ look-append o (e ∷ l) r = go (sameOrigin o (e .origin)) (look-append o l r)
 
 pub look-map : (g : Entry → Entry) → ((e : Entry) → g e .origin ≡ e .origin) → (o : Origin) (l : List Entry) → look o (map g l) ≡ omap g (look o l)
 look-map g h o [] = refl
-look-map g h o (e ∷ l) = subst (λ (p : Origin). cond (sameOrigin o p) (some (g e)) (look o (map g l)) ≡ omap g (look o (e ∷ l))) (sym (h e)) (go (sameOrigin o (e .origin)) (look-map g h o l))
+look-map g h o (e ∷ l) = subst (λ (p : Origin). cond (sameOrigin o p) (some (g e)) (look o (map g l)) ≡ omap g (look o (e ∷ l))) (sym (h e))
+    (go (sameOrigin o (e .origin)) (look-map g h o l))
   where
     go : (b : Bool) → look o (map g l) ≡ omap g (look o l) → cond b (some (g e)) (look o (map g l)) ≡ omap g (cond b (some e) (look o l))
     go true ih = refl
@@ -57,7 +58,8 @@ pub look-keep : (q : Entry → Bool) (o : Origin) (l : List Entry) → Uniq l �
 look-keep q o [] u = refl
 look-keep q o (e ∷ l) u = go (q e) refl (sameOrigin o (e .origin)) refl (look-keep q o l (u .1))
   where
-    go : (c : Bool) → q e ≡ c → (b : Bool) → sameOrigin o (e .origin) ≡ b → look o (keep q l) ≡ bindO (onlyIf q) (look o l) → look o (keepIf c e (keep q l)) ≡ bindO (onlyIf q) (cond b (some e) (look o l))
+    go : (c : Bool) → q e ≡ c → (b : Bool) → sameOrigin o (e .origin) ≡ b → look o (keep q l) ≡ bindO (onlyIf q) (look o l)
+        → look o (keepIf c e (keep q l)) ≡ bindO (onlyIf q) (cond b (some e) (look o l))
     go true p true w ih = rw (w, p)
     go true p false w ih = rw w ih
     go false p true w ih = ih ∙ rw (same-eq o (e .origin) w, u .0, p)
@@ -77,7 +79,11 @@ uniq-map g h (e ∷ l) u = (rw (h e) (look-map g h (e .origin) l ∙ ap (omap g)
 
 pub uniq-append : (l r : List Entry) → Uniq l → Uniq r → ((o : Origin) (e : Entry) → look o l ≡ some e → look o r ≡ none) → Uniq (l ++ r)
 uniq-append [] r u v h = v
-uniq-append (e ∷ l) r u v h = (look-append (e .origin) l r ∙ rw (u .0, h (e .origin) e (look-head e l)), uniq-append l r (u .1) v (λ o e′ k. h o e′ (look-deeper e l (u .0) o k)))
+uniq-append (e ∷ l) r u v h = (
+  look-append (e .origin) l r ∙ rw (u .0, h (e .origin) e (look-head e l)),
+  uniq-append l r (u .1) v
+      (λ o e′ k. h o e′ (look-deeper e l (u .0) o k)),
+)
 
 -- ---- places
 
@@ -126,16 +132,22 @@ ports-messages (t ∷ ts) (e ∷ es) h = and-intro (ports-head t ts e es h) (por
 
 pub ports-range : (l : List Entry) (ps : List ℕ) → all isMessage (map (entryAt l) ps) ≡ true → All (λ p. p < length l) ps
 ports-range l [] h = tt
-ports-range l (p ∷ ps) h = (in-range l p (and-left (isMessage (entryAt l p)) (all isMessage (map (entryAt l) ps)) h), ports-range l ps (and-right (isMessage (entryAt l p)) (all isMessage (map (entryAt l) ps)) h))
+ports-range l (p ∷ ps) h = (
+  in-range l p (and-left (isMessage (entryAt l p)) (all isMessage (map (entryAt l) ps)) h),
+  ports-range l ps
+      (and-right (isMessage (entryAt l p)) (all isMessage (map (entryAt l) ps)) h),
+)
 
-pub picks-same : (l : List Entry) (ps : List ℕ) (j : ℕ) → Uniq l → All (λ p. p < length l) ps → j < length l → isIn j ps ≡ isInO (entryAt l j .origin) (originsOf (map (entryAt l) ps))
+pub picks-same : (l : List Entry) (ps : List ℕ) (j : ℕ) → Uniq l → All (λ p. p < length l) ps → j < length l
+    → isIn j ps ≡ isInO (entryAt l j .origin) (originsOf (map (entryAt l) ps))
 picks-same l [] j u h k = refl
 picks-same l (p ∷ ps) j u h k = rw (test, picks-same l ps j u (h .1) k)
   where
     test : eqb j p ≡ sameOrigin (entryAt l j .origin) (entryAt l p .origin)
     test = by-bool (eqb j p)
         (λ q. q ∙ sym (subst (λ (n : ℕ). sameOrigin (entryAt l j .origin) (entryAt l n .origin) ≡ true) (eqb-true j p q) (same-refl (entryAt l j .origin))))
-        (λ q. q ∙ sym (is-false (sameOrigin (entryAt l j .origin) (entryAt l p .origin)) (λ w. eqb-false j p q (at-inj l j p u k (h .0) (same-eq (entryAt l j .origin) (entryAt l p .origin) w)))))
+        (λ q. q ∙ sym (is-false (sameOrigin (entryAt l j .origin) (entryAt l p .origin))
+        (λ w. eqb-false j p q (at-inj l j p u k (h .0) (same-eq (entryAt l j .origin) (entryAt l p .origin) w)))))
 
 pub picks-distinct : (l : List Entry) (ps : List ℕ) → Uniq l → All (λ p. p < length l) ps → distinct ps ≡ distinctO (originsOf (map (entryAt l) ps))
 picks-distinct l [] u h = refl
@@ -146,16 +158,22 @@ picks-distinct l (p ∷ ps) u h = rw (picks-same l ps p u (h .1) (h .0), picks-d
 abbrev pub notAmong : List Origin → Entry → Bool
 notAmong os e = not (isInO (e .origin) os)
 
-pub without-keep : (ps : List ℕ) (os : List Origin) (l : List Entry) (k : ℕ) → ((j : ℕ) → j < length l → isIn (k + j) ps ≡ isInO (entryAt l j .origin) os) → without ps k l ≡ keep (notAmong os) l
+pub without-keep : (ps : List ℕ) (os : List Origin) (l : List Entry) (k : ℕ) → ((j : ℕ) → j < length l → isIn (k + j) ps ≡ isInO (entryAt l j .origin) os)
+    → without ps k l ≡ keep (notAmong os) l
 without-keep ps os [] k h = refl
-without-keep ps os (e ∷ l) k h = rw (head, without-keep ps os l (suc k) (λ j q. subst (λ (n : ℕ). isIn n ps ≡ isInO (entryAt l j .origin) os) (omega arith) (h (suc j) (omega arith))))
+without-keep ps os (e ∷ l) k h = rw (
+  head,
+  without-keep ps os l (suc k)
+      (λ j q. subst (λ (n : ℕ). isIn n ps ≡ isInO (entryAt l j .origin) os) (omega arith) (h (suc j) (omega arith))),
+)
   where
     head : isIn k ps ≡ isInO (e .origin) os
     head = subst (λ (n : ℕ). isIn n ps ≡ isInO (e .origin) os) (add-zero k) (h 0 (omega arith))
 
 module _ (l : List Entry) (ps : List ℕ) (u : Uniq l) (h : All (λ p. p < length l) ps) where
   pub without-is : without ps 0 l ≡ keep (notAmong (originsOf (map (entryAt l) ps))) l
-  without-is = without-keep ps (originsOf (map (entryAt l) ps)) l 0 (λ j k. subst (λ (n : ℕ). isIn n ps ≡ isInO (entryAt l j .origin) (originsOf (map (entryAt l) ps))) (omega arith) (picks-same l ps j u h k))
+  without-is = without-keep ps (originsOf (map (entryAt l) ps)) l 0
+      (λ j k. subst (λ (n : ℕ). isIn n ps ≡ isInO (entryAt l j .origin) (originsOf (map (entryAt l) ps))) (omega arith) (picks-same l ps j u h k))
 
   pub look-without : (o : Origin) → look o (without ps 0 l) ≡ cond (isInO o (originsOf (map (entryAt l) ps))) none (look o l)
   look-without o = ap (look o) without-is ∙ look-keep (notAmong (originsOf (map (entryAt l) ps))) o l u ∙ go (look o l) refl
@@ -170,7 +188,8 @@ module _ (l : List Entry) (ps : List ℕ) (u : Uniq l) (h : All (λ p. p < lengt
 
       go : (x : Option Entry) → look o l ≡ x → bindO (onlyIf (notAmong (originsOf (map (entryAt l) ps)))) x ≡ cond (isInO o (originsOf (map (entryAt l) ps))) none x
       go none q = both-none (isInO o (originsOf (map (entryAt l) ps)))
-      go (some e) q = ap (λ (z : Origin). cond (not (isInO z (originsOf (map (entryAt l) ps)))) (some e) none) (look-origin o l q) ∙ two (isInO o (originsOf (map (entryAt l) ps))) e
+      go (some e) q = ap (λ (z : Origin). cond (not (isInO z (originsOf (map (entryAt l) ps)))) (some e) none) (look-origin o l q)
+          ∙ two (isInO o (originsOf (map (entryAt l) ps))) e
 
   pub uniq-without : Uniq (without ps 0 l)
   uniq-without = rw without-is (uniq-keep (notAmong (originsOf (map (entryAt l) ps))) l u)
@@ -189,7 +208,8 @@ pub any-look : (p : Entry → Bool) (l : List Entry) → Uniq l → any p l ≡ 
 any-look p [] u h = absurd (false≢true h)
 any-look p (x ∷ l) u h = go (any-look p l (u .1)) (p x) refl h
   where
-    go : (any p l ≡ true → (o : Origin) × (e : Entry) × (look o l ≡ some e) × (p e ≡ true)) → (c : Bool) → p x ≡ c → (c || any p l) ≡ true → (o : Origin) × (e : Entry) × (look o (x ∷ l) ≡ some e) × (p e ≡ true)
+    go : (any p l ≡ true → (o : Origin) × (e : Entry) × (look o l ≡ some e) × (p e ≡ true)) → (c : Bool) → p x ≡ c → (c || any p l) ≡ true
+        → (o : Origin) × (e : Entry) × (look o (x ∷ l) ≡ some e) × (p e ≡ true)
     go ih true q w = (x .origin, x, look-head x l, q)
     go ih false q w = let r = ih w in (r .0, r .1, look-deeper x l (u .0) (r .0) (r .2), r .3)
 
@@ -217,7 +237,8 @@ pub origin-look : (o : Origin) (l : List Entry) → isInO o (originsOf l) ≡ tr
 origin-look o [] h = absurd (false≢true h)
 origin-look o (x ∷ l) h = go (sameOrigin o (x .origin)) (origin-look o l) h
   where
-    go : (b : Bool) → (isInO o (originsOf l) ≡ true → (e : Entry) × (look o l ≡ some e)) → (b || isInO o (originsOf l)) ≡ true → (e : Entry) × (cond b (some x) (look o l) ≡ some e)
+    go : (b : Bool) → (isInO o (originsOf l) ≡ true → (e : Entry) × (look o l ≡ some e)) → (b || isInO o (originsOf l)) ≡ true
+        → (e : Entry) × (cond b (some x) (look o l) ≡ some e)
     go true ih w = (x, refl)
     go false ih w = ih w
 
