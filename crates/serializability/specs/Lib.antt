@@ -26,6 +26,7 @@ pub mod ReplayEnd
 pub mod Replay
 pub mod States
 pub mod SameEnd
+pub mod Start
 pub mod Decoded
 pub mod LogWords
 pub mod RunWords
