@@ -8,7 +8,7 @@ use mir.Val.{Fits}
 use lib.ListN.{length, getD, take, set, length-take}
 use lib.Seq.{set-set, length-take-le}
 use Rattle.lists.specs.Lists.{over}
-use Rattle.lists.specs.Prefix.{over-next, take-taken}
+use Rattle.lists.specs.Beginning.{over-next, take-taken}
 use Rattle.semantics.specs.Program.{wordOf, wordsOf}
 use Rattle.intake.specs.Gather.{Gathered, fitting, length-words}
 

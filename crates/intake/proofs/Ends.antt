@@ -6,7 +6,7 @@ use native.Mathlib.Nat.{add-zero}
 use native.Mathlib.Omega.{arith}
 use lib.ListN.{length, getD, drop, length-take}
 use lib.Seq.{getD-drop, drop-drop, length-take-le}
-use Rattle.lists.specs.Prefix.{take-taken, part-end, part-cut}
+use Rattle.lists.specs.Beginning.{take-taken, part-end, part-cut}
 use Rattle.semantics.specs.Program.{tablePart, statePart, afterTable, afterState, partsOf}
 use Rattle.intake.specs.Split.{CutAt}
 

@@ -10,7 +10,7 @@ use lib.Dec.{leb, eqb}
 use lib.ListN.{length, getD, take, drop, length-take}
 use lib.Seq.{getD-take, take-take, take-all, length-take-le}
 use Rattle.lists.specs.Tests.{and-both}
-use Rattle.lists.specs.Prefix.{drop-take}
+use Rattle.lists.specs.Beginning.{drop-take}
 use Rattle.semantics.specs.Table.{sizesOf, tableSizesOk}
 use Rattle.semantics.specs.TableLaws as TableLaws
 use Rattle.semantics.specs.State.{stateSizesOk}

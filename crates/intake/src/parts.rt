@@ -5,7 +5,6 @@ use semantics::Verdict;
 ghost use Prim.Native.Nat.{_<_};
 ghost use mathlib.Core.Path.{_≡_};
 ghost use lib.ListN.{getD};
-ghost use Rattle.semantics.specs.Log.{logSizesOk};
 ghost use Rattle.semantics.specs.Move.{both};
 ghost use Rattle.semantics.specs.Move as Move;
 ghost use Rattle.semantics.specs.Answers.{tableVerdict, logVerdict};
@@ -54,13 +53,6 @@ fn cuts_of(words: &[u32]) -> Cuts
     }
 }
 
-fn log_ok(log: &[u32]) -> bool
-    ensures { λ r. ⌜ r ≡ logSizesOk (now (log .entry)) ⌝ }
-{
-    let moves = size_at(log, 0);
-    (1 <= log.len()) & ((moves <= 1024) & (log.len() == 1 + 5 * moves))
-}
-
 fn unless(ok: bool, r: Refusal) -> Verdict
     ensures { λ v. ⌜ v ≡ Move.unless ok r ⌝ }
 {
@@ -89,7 +81,7 @@ fn verdict_of<'a>(
     if let Verdict::Denied(of_state) = second {
         return Verdict::Denied(of_state);
     }
-    unless(log_ok(log) & whole, Refusal::LogSizes)
+    unless(log::sizes_ok(log) & whole, Refusal::LogSizes)
 }
 
 // Where the three parts of an input of so many bytes lie, and the verdict on it. The words are those

@@ -14,9 +14,15 @@ pub mod Counting
 pub mod Rising
 pub mod Ahead
 pub mod Seen
+pub mod Prefix
+pub mod Least
 pub mod Rows
 pub mod Over
 pub mod Neither
 pub mod Numbers
 pub mod Each
 pub mod UpFrom
+pub mod Sift
+pub mod Padded
+pub mod Found
+pub mod Beginning

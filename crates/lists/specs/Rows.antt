@@ -1,8 +1,8 @@
 -- Lists given by a function of the place: the first n places of arrays side by side.
 use Prim.Native.Nat.{ℕ, zero, suc, _+_, _-_, _≤_, _<_}
-use mathlib.Core.Path.{_≡_, refl, ap}
+use mathlib.Core.Path.{_≡_, refl, ap, _∙_}
 use mathlib.Core.List.{List, [], _∷_, _++_, map}
-use native.Mathlib.Nat.{add-zero, sub-zero}
+use native.Mathlib.Nat.{add-zero, sub-zero, le-of-suc-le-suc, not-suc-le-zero}
 use native.Mathlib.Numerals.{add-one}
 use native.Mathlib.Omega.{arith}
 use lib.ListN.{length, getD, take, drop}
@@ -42,6 +42,15 @@ module _ {A : Type 0} where
   rows-last f i (suc n) =
       let e : suc i + n ≡ i + suc n = omega arith in
       rw (rows-last f (suc i) n, e)
+
+  -- the element at a place
+  pub getD-rows : (d : A) (f : ℕ → A) (i n k : ℕ) → k < n → getD (rows f i n) k d ≡ f (i + k)
+  unfolding rows
+  getD-rows d f i zero k h = absurd (not-suc-le-zero h)
+  getD-rows d f i (suc n) zero h = rw add-zero
+  getD-rows d f i (suc n) (suc k) h =
+      let e : suc i + k ≡ i + suc k = omega arith in
+      getD-rows d f (suc i) n k (le-of-suc-le-suc h) ∙ ap f e
 
   -- one place more at the end
   pub rows-more : (f : ℕ → A) (i n : ℕ) → rows f i (n + 1) ≡ rows f i n ++ (f (i + n) ∷ [])

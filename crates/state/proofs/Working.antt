@@ -1,53 +1,19 @@
--- Laws of the working state: a row stored in its columns, and what its words are.
+-- Laws of the working state: an entry of the start, and what its words are.
 use Prim.Native.Nat.{ℕ, _+_, _*_, _/_, _%_, _≤_, _<_}
 use mathlib.Core.Path.{_≡_, _∙_}
-use mathlib.Core.List.{List, [], _∷_, _++_, map, append-assoc}
-use native.Mathlib.Nat.{zero-add}
+use mathlib.Core.List.{List, [], _∷_, _++_, map}
 use native.Mathlib.Omega.{arith}
-use lib.ListN.{length, getD, take, set, length-set, length-append}
-use lib.Seq.{length-take-le, getD-set-same, getD-set-other}
+use lib.ListN.{length, getD, take, set, length-append}
+use lib.Seq.{length-take-le}
 use Rattle.lists.specs.Lists.{over}
 use Rattle.lists.specs.Over.{Pasted, over-two, over-column}
-use Rattle.lists.specs.Rows.{rows, length-rows, rows-ext, rows-more, rows-take, map-rows}
+use Rattle.lists.specs.Rows.{rows, length-rows, rows-ext, rows-take, map-rows}
 use Rattle.semantics.specs.Words.{itemKind, itemWord, portOf, valueOf}
 use Rattle.semantics.specs.State as semantics
-use Rattle.semantics.specs.State.{Entry, entryOf, stateWords}
-use Rattle.state.specs.Working.{entryFrom, rowOf, entryIn, stateIn, Holds, Stored}
+use Rattle.semantics.specs.State.{entryOf, stateWords}
+use Rattle.state.specs.Working.{entryFrom, entryIn, stateIn, Stored}
+use Rattle.state.specs.Arrays.{Arrays}
 use Rattle.state.specs.declared.State.{State}
-
--- three columns of 1,024 places
-pub record Arrays (os ws gs : List ℕ) : Type 0 where
-  pub owners : length os ≡ 1024
-  pub items : length ws ≡ 1024
-  pub origins : length gs ≡ 1024
-
-module _ (os ws gs : List ℕ) (w o x g : ℕ) where
-  -- the columns with an entry stored at w
-  abbrev pub stored : ℕ → Entry
-  stored = rowOf (set os w o) (set ws w x) (set gs w g)
-
-  pub stored-same : Arrays os ws gs → w < 1024 → stored w ≡ entryFrom o x g
-  stored-same c h =
-      let lo : w < length os = omega arith in
-      let li : w < length ws = omega arith in
-      let lg : w < length gs = omega arith in
-      simp getD-set-same
-
-  pub stored-other : (k : ℕ) → (k ≡ w → ⊥) → stored k ≡ rowOf os ws gs k
-  stored-other k h = simp getD-set-other
-
-  pub stored-sized : Arrays os ws gs → Arrays (set os w o) (set ws w x) (set gs w g)
-  stored-sized c = record { owners = simp length-set (c .owners); items = simp length-set (c .items); origins = simp length-set (c .origins) }
-
-  -- an entry stored after the last is one more
-  pub stored-more : Arrays os ws gs → w < 1024 → rows stored 0 (w + 1) ≡ rows (rowOf os ws gs) 0 w ++ (entryFrom o x g ∷ [])
-  stored-more c h =
-      let same : rows stored 0 w ≡ rows (rowOf os ws gs) 0 w = rows-ext _ _ 0 w (λ k l u. stored-other k (λ q. omega arith)) in
-      rw (rows-more, same, zero-add, stored-same c h)
-
-  -- .. and what follows may follow it
-  pub stored-before : Arrays os ws gs → w < 1024 → {e : Entry} → entryFrom o x g ≡ e → (es : List Entry) → rows (rowOf os ws gs) 0 w ++ (e ∷ es) ≡ rows stored 0 (w + 1) ++ es
-  stored-before c h q es = rw (stored-more c h, q, append-assoc)
 
 -- an entry of the start has its place as its origin
 pub from-place : (i o w : ℕ) → i < 1024 → entryFrom o w i ≡ entryOf i o w
@@ -55,14 +21,6 @@ from-place i o w h =
     let m : i / 1024 ≡ 0 = omega arith in
     let x : i % 1024 ≡ i = omega arith in
     rw (m, x)
-
-pub holds-of : (s : State) {n next : ℕ} {es : List Entry} → s .next ≡ next → s .len ≡ n → n ≤ 1024 → rows (entryIn s) 0 n ≡ es → Holds s (record { next = next; entries = es })
-unfolding stateIn
-holds-of s t n h e = record { value = rw (t, n, e); fits = omega arith }
-
-pub count-in : (s : State) → length (stateIn s .entries) ≡ s .len
-unfolding stateIn
-count-in s = length-rows (entryIn s) 0 (s .len)
 
 -- ---- words
 

@@ -1,2 +1,4 @@
 pub mod Check
 pub mod Working
+pub mod Arrays
+pub mod Compact

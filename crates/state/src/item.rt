@@ -1,7 +1,8 @@
 // The fields of an item, kind × 2^24 + port × 2^16 + value: the only code that knows how it holds
 // them; and its kinds.
+ghost use Prim.Native.Nat.{_<_};
 ghost use mathlib.Core.Path.{_≡_};
-ghost use Rattle.semantics.specs.Words.{itemKind, portOf, valueOf};
+ghost use Rattle.semantics.specs.Words.{itemKind, itemWord, portOf, valueOf};
 
 // 01's note
 pub const MESSAGE: u32 = 0;
@@ -31,4 +32,11 @@ pub fn value_of(item: u32) -> u32
     ensures { λ r. ⌜ r ≡ valueOf item ⌝ }
 {
     item % 65536
+}
+
+pub fn item_of(kind: u32, port: u32, value: u32) -> u32
+    requires { ⌜ (kind < 256) × (port < 256) × (value < 65536) ⌝ }
+    ensures { λ r. ⌜ r ≡ itemWord kind port value ⌝ }
+{
+    kind * 16777216 + port * 65536 + value
 }

@@ -1,7 +1,7 @@
 -- The picks of a reaction that is allowed: places of messages, one for each consume, owned as the rule's class wants.
 use Prim.Native.Nat.{ℕ, suc, _+_, _≤_, _<_}
 use mathlib.Core.Bool.{Bool, true, false, _&&_, cond, false≢true}
-use mathlib.Core.List.{List, [], _∷_}
+use mathlib.Core.List.{List, [], _∷_, map}
 use mathlib.Core.Logic.{inl, inr}
 use mathlib.Core.Path.{_≡_, refl, sym, ap, subst, _∙_}
 use native.Mathlib.Omega.{arith}
@@ -33,6 +33,18 @@ onPorts-length [] (x ∷ es) h = absurd (false≢true h)
 onPorts-length (p ∷ ps) [] h = absurd (false≢true h)
 onPorts-length (p ∷ ps) (x ∷ es) h = ap suc (onPorts-length ps es (and-three (isMessage x) (eqb (x .port) p) (onPorts ps es) h .2))
 
+-- a message stands at no place past the last
+pub message-within : (es : List Entry) (p : ℕ) → entryAt es p .kind ≡ 0 → p < length es
+message-within es p h = by-bool (ltb p (length es)) (ltb-true p (length es))
+    (λ q. absurd (four (ap (λ (e : Entry). e .kind) (List·getD-eq-default es nothing (ltb-false p (length es) q))) h))
+  where
+    four : {n : ℕ} → n ≡ 4 → n ≡ 0 → ⊥
+    four a b = omega arith
+
+-- picks that are messages on these ports are places
+pub picks-within : (ports : List ℕ) (es : List Entry) (ps : List ℕ) → onPorts ports (map (entryAt es) ps) ≡ true → (p : ℕ) → Among p ps → p < length es
+picks-within ports es ps h p m = message-within es p (onPorts-messages ports (map (entryAt es) ps) h (entryAt es p) (map-among (entryAt es) ps p m))
+
 module _ (R : Rule) (s : State) (ps : List ℕ) where
   pub record ReactGiven : Type 0 where
     pub different : distinct ps ≡ true
@@ -57,11 +69,7 @@ module _ {R : Rule} {s : State} {ps : List ℕ} (g : ReactGiven R s ps) where
   pick-message p m = onPorts-messages (consumed R) (picked s ps) (g .ports) (entryAt (s .entries) p) (map-among (entryAt (s .entries)) ps p m)
 
   pub pick-lt : (p : ℕ) → Among p ps → p < length (s .entries)
-  pick-lt p m = by-bool (ltb p (length (s .entries))) (ltb-true p (length (s .entries)))
-      (λ q. absurd (four (ap (λ (e : Entry). e .kind) (List·getD-eq-default (s .entries) nothing (ltb-false p (length (s .entries)) q))) (pick-message p m)))
-    where
-      four : {n : ℕ} → n ≡ 4 → n ≡ 0 → ⊥
-      four a b = omega arith
+  pick-lt = picks-within (consumed R) (s .entries) ps (g .ports)
 
   pub pick-among : (e : Entry) → Among e (picked s ps) → Among e (s .entries)
   pick-among e m = let (p, k, q) = among-map (entryAt (s .entries)) ps e m in

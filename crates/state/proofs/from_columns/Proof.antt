@@ -10,7 +10,8 @@ use Rattle.lists.specs.Rows.{rows}
 use Rattle.semantics.specs.State.{entriesOf}
 use Rattle.semantics.specs.Columns.{entriesFrom, entries-tails}
 use Rattle.state.specs.Working.{entryIn}
-use Rattle.state.proofs.Working.{Arrays, stored-before, stored-sized, from-place, holds-of}
+use Rattle.state.specs.Arrays.{Arrays, stored-before, stored-sized, holds-of}
+use Rattle.state.proofs.Working.{from-place}
 use Rattle.state.proofs.from_columns.Statement.{statement}
 use Rattle.state.proofs.from_columns.Tie as tie
 

@@ -24,7 +24,7 @@ returns-3 c =
     let l = c .before in
     let s = l .before .before .before in
     let t = s .before .before in
-    rw (l .log-ok .ensures) at (c .unless .ensures)
+    rw (l .sizes-ok .ensures) at (c .unless .ensures)
     ∙ log-tested _ _ _ (sym (t .before .before .before .before .before .pre) ∙ t .enum-told .given .1) _
     (rw (s .before .sizes-of .ensures) at (sym (s .check .ensures) ∙ l .before .enum-told2 .given .1))
 

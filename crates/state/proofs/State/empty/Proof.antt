@@ -2,7 +2,7 @@
 use mathlib.Core.Path.{refl}
 use borrow.Author.Needs.{needs}
 use Rattle.lists.specs.Rows.{rows-none}
-use Rattle.state.proofs.Working.{holds-of}
+use Rattle.state.specs.Arrays.{holds-of}
 use Rattle.state.proofs.State.empty.Statement.{statement}
 use Rattle.state.proofs.State.empty.Tie as tie
 

@@ -1,0 +1,50 @@
+-- A loop that notes whether a test held somewhere, and what such notes say of the elements that another test keeps.
+use Prim.Native.Nat.{ℕ, _+_, _≤_, _<_}
+use mathlib.Core.Path.{_≡_, refl, sym, ap, _∙_}
+use mathlib.Core.Bool.{Bool, true, false, _&&_, _||_, not}
+use mathlib.Core.List.{List, [], _∷_}
+use Rattle.lists.specs.Lists.{all, any, keepIf, keep}
+use Rattle.lists.specs.Ahead.{Tails, Ahead, ahead-start, ahead-next, ahead-done}
+use Rattle.lists.specs.Rows.{rows, rowsFrom, rows-whole}
+
+regroup : (a b c : Bool) → a || (b || c) ≡ a || b || c
+regroup true b c = refl
+regroup false b c = refl
+
+or-none : (a : Bool) → a || false ≡ a
+or-none true = refl
+or-none false = refl
+
+neither : (a b c d : Bool) → not a && not b && not (c || d) ≡ not ((a || c) || (b || d))
+neither true b c d = refl
+neither false true true d = refl
+neither false true false d = refl
+neither false false c d = refl
+
+module _ {A : Type 0} where
+  -- b: whether p held of an element before place i
+  pub record Finding (p : A → Bool) (rest : ℕ → List A) (n : ℕ) (b : Bool) (i : ℕ) (goal : Bool) : Type 0 where
+    pub ahead : Ahead rest n (λ xs. b || any p xs) i goal
+
+  pub finding-start : (p : A → Bool) (f : ℕ → A) (n : ℕ) → Finding p (rowsFrom f n) n false 0 (any p (rows f 0 n))
+  finding-start p f n = record { ahead = rw (← rows-whole f n) (ahead-start (rowsFrom f n) n (any p)) }
+
+  module _ {p : A → Bool} {at : ℕ → A} {rest : ℕ → List A} {n : ℕ} (t : Tails at rest n) {b : Bool} {i : ℕ} {goal : Bool} (a : Finding p rest n b i goal) where
+    pub finding-next : i < n → Finding p rest n (b || p (at i)) (i + 1) goal
+    finding-next l = record { ahead = ahead-next t (a .ahead) l _ (λ xs. regroup b (p (at i)) (any p xs)) }
+
+    pub finding-done : n ≤ i → b ≡ goal
+    finding-done l = sym (or-none b) ∙ ahead-done t (a .ahead) l
+
+  pub any-keep : (p q : A → Bool) (xs : List A) → any (λ x. q x && p x) xs ≡ any p (keep q xs)
+  any-keep p q [] = refl
+  any-keep p q (x ∷ xs) = go (q x) (any-keep p q xs)
+    where
+      go : (b : Bool) → any (λ x. q x && p x) xs ≡ any p (keep q xs) → b && p x || any (λ x. q x && p x) xs ≡ any p (keepIf b x (keep q xs))
+      go true e = rw e
+      go false e = e
+
+  -- of no element p, and of none q
+  pub all-neither : (p q r : A → Bool) → ((x : A) → r x ≡ not (p x) && not (q x)) → (xs : List A) → all r xs ≡ not (any p xs || any q xs)
+  all-neither p q r e [] = refl
+  all-neither p q r e (x ∷ xs) = rw (e x, all-neither p q r e xs) (neither (p x) (q x) (any p xs) (any q xs))

@@ -1,0 +1,91 @@
+-- The end of a transaction: an entry that stays, and the tests of what the transaction owns.
+use Prim.Native.Nat.{ℕ, _+_, _/_, _%_, _^_, _≤_, _<_}
+use mathlib.Core.Path.{_≡_, refl, sym, ap, _∙_}
+use mathlib.Core.Bool.{Bool, true, false, _&&_, _||_, not, cond, false≢true}
+use mathlib.Core.List.{List}
+use native.Mathlib.Omega.{arith}
+use lib.Dec.{eqb, ltb, leb}
+use borrow.Author.Tests.{ltb-true, ltb-false, lt-leb, le-leb}
+use Rattle.lists.specs.Lists.{all, any}
+use Rattle.lists.specs.Found.{Finding, finding-start, finding-next, finding-done, any-keep, all-neither}
+use Rattle.lists.specs.Rows.{rows, rowsFrom, rows-tails}
+use Rattle.semantics.specs.Words.{itemKind, portOf, valueOf}
+use Rattle.semantics.specs.State.{Entry, State, isMessage, isAbortMark, owned}
+use Rattle.semantics.specs.Move.{unless, both, toGlobal, freed}
+use Rattle.semantics.specs.declared.Refusal.the-variants.{NoTransaction, EndNotAllowed}
+use Rattle.state.specs.Working.{entryFrom}
+use Rattle.step.specs.End.{Surveyed, commitVerdict, abortVerdict}
+use Rattle.step.specs.declared.end.Survey.{Survey}
+
+-- an item without its kind is a message on the same port with the same value
+freed-item : (o x g : ℕ) → entryFrom 0 (x % 2 ^ 24) g ≡ toGlobal (entryFrom o x g)
+freed-item o x g =
+    let k : itemKind (x % 2 ^ 24) ≡ 0 = omega arith in
+    let p : portOf (x % 2 ^ 24) ≡ portOf x = omega arith in
+    let v : valueOf (x % 2 ^ 24) ≡ valueOf x = omega arith in
+    rw (k, p, v)
+
+pub freed-entry : (id kind o x g : ℕ) → not (eqb o id) || eqb (itemKind x) kind ≡ true
+    → entryFrom (cond (eqb o id) 0 o) (cond (eqb o id) (x % 2 ^ 24) x) g ≡ freed (λ e. eqb (e .kind) kind) id (entryFrom o x g)
+freed-entry id kind o x g = go (eqb o id) (eqb (itemKind x) kind)
+  where
+    go : (a b : Bool) → not a || b ≡ true → entryFrom (cond a 0 o) (cond a (x % 2 ^ 24) x) g ≡ cond (a && b) (toGlobal (entryFrom o x g)) (entryFrom o x g)
+    go true true h = freed-item o x g
+    go true false h = absurd (false≢true h)
+    go false b h = refl
+
+-- ---- what the transaction owns
+
+-- a message on no global port
+abbrev inside : ℕ → Entry → Bool
+inside globals e = isMessage e && leb globals (e .port)
+
+-- the survey's loop before row i
+pub record Surveying (id globals : ℕ) (row : ℕ → Entry) (n : ℕ) (o a m : Bool) (i : ℕ) : Type 0 where
+  pub open-so-far : Finding (owned id) (rowsFrom row n) n o i (any (owned id) (rows row 0 n))
+  pub aborting-so-far : Finding (λ e. owned id e && isAbortMark e) (rowsFrom row n) n a i (any (λ e. owned id e && isAbortMark e) (rows row 0 n))
+  pub inside-so-far : Finding (λ e. owned id e && inside globals e) (rowsFrom row n) n m i (any (λ e. owned id e && inside globals e) (rows row 0 n))
+
+pub surveying-start : (id globals : ℕ) (row : ℕ → Entry) (n : ℕ) → Surveying id globals row n false false false 0
+surveying-start id globals row n = record {
+  open-so-far = finding-start _ row n;
+  aborting-so-far = finding-start _ row n;
+  inside-so-far = finding-start _ row n;
+}
+
+module _ {id globals : ℕ} {row : ℕ → Entry} {n : ℕ} {o a m : Bool} {i : ℕ} (s : Surveying id globals row n o a m i) where
+  pub surveying-next : i < n
+      → Surveying id globals row n (o || owned id (row i)) (a || owned id (row i) && isAbortMark (row i)) (m || owned id (row i) && inside globals (row i)) (i + 1)
+  surveying-next l = record {
+    open-so-far = finding-next (rows-tails row n) (s .open-so-far) l;
+    aborting-so-far = finding-next (rows-tails row n) (s .aborting-so-far) l;
+    inside-so-far = finding-next (rows-tails row n) (s .inside-so-far) l;
+  }
+
+  pub surveying-done : n ≤ i → (next : ℕ) → Surveyed (record { «open» = o; aborting = a; inside = m }) (record { next = next; entries = rows row 0 n }) id globals
+  surveying-done l next = record {
+    open-is = finding-done (rows-tails row n) (s .open-so-far) l;
+    aborting-is = finding-done (rows-tails row n) (s .aborting-so-far) l ∙ any-keep isAbortMark (owned id) (rows row 0 n);
+    inside-is = finding-done (rows-tails row n) (s .inside-so-far) l ∙ any-keep (inside globals) (owned id) (rows row 0 n);
+  }
+
+-- ---- the verdicts by what was found
+
+-- either not a message, or on a global port
+on-global : (globals : ℕ) (e : Entry) → not (isMessage e) || ltb (e .port) globals ≡ not (inside globals e)
+on-global globals e = go (isMessage e) (ltb (e .port) globals) refl
+  where
+    go : (a b : Bool) → ltb (e .port) globals ≡ b → not a || b ≡ not (a && leb globals (e .port))
+    go true true h = rw (lt-leb globals (e .port) (ltb-true (e .port) globals h))
+    go true false h = rw (le-leb globals (e .port) (ltb-false (e .port) globals h))
+    go false b h = refl
+
+module _ {r : Survey} {s : State} {id globals : ℕ} (f : Surveyed r s id globals) where
+  pub commit-found : both (unless (ltb 0 id && r .open) NoTransaction) (unless (not (r .aborting || r .inside)) EndNotAllowed) ≡ commitVerdict globals id s
+  unfolding commitVerdict
+  commit-found =
+      rw (f .open-is, f .aborting-is, f .inside-is, all-neither isAbortMark (inside globals) _ (λ e. ap (λ b. not (isAbortMark e) && b) (on-global globals e)) _)
+
+  pub abort-found : both (unless (ltb 0 id && r .open) NoTransaction) (unless (r .aborting) EndNotAllowed) ≡ abortVerdict id s
+  unfolding abortVerdict
+  abort-found = rw (f .open-is, f .aborting-is)

@@ -1,0 +1,6 @@
+pub mod Working
+pub mod End
+pub mod Products
+pub mod React
+pub mod Narrow
+pub mod Moves
