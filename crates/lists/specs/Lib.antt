@@ -18,11 +18,11 @@ pub mod Prefix
 pub mod Least
 pub mod Rows
 pub mod Over
-pub mod Neither
-pub mod Numbers
-pub mod Each
-pub mod UpFrom
 pub mod Sift
 pub mod Padded
 pub mod Found
 pub mod Beginning
+pub mod Neither
+pub mod Numbers
+pub mod Each
+pub mod UpFrom
