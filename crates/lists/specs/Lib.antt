@@ -14,7 +14,6 @@ pub mod Counting
 pub mod Rising
 pub mod Ahead
 pub mod Seen
-pub mod Prefix
 pub mod Least
 pub mod Rows
 pub mod Over
