@@ -18,7 +18,7 @@ use Rattle.semantics.specs.Serial.{isEnd, sameOrigin}
 use Rattle.semantics.specs.declared.Atom.{Atom}
 use Rattle.serializability.specs.Base.{isInO, isInO-head, look, some-inj, none-some, look-all, same-eq, omap-some}
 use Rattle.serializability.specs.View.{look-map}
-use Rattle.serializability.specs.Rules.{Shape, plain, begin, inner, Shaped, make, make-kinds, kinds-plain, kinds-inner, kinds-rest, kind-weaken}
+use Rattle.serializability.specs.Rules.{Shape, plain, begin, inner, Shaped, make, make-kinds, kinds-plain, kinds-inner, kinds-rest}
 use Rattle.serializability.specs.Key.{Deed, begun}
 use Rattle.serializability.specs.Cells.{Cells, Source, apply-inv}
 use Rattle.serializability.specs.Actions.{Seen, strip, received, left, actionBy, actionOf, astep, end-ok}
@@ -36,9 +36,9 @@ no-marks i w vs q ats o d h k z = let y = ltb-true (d .kind) 3 (look-all (λ e. 
 pub made-mark : (R : Rule) → Shape R → (i w : ℕ) (vs : List ℕ) (o : Origin) (d : Entry) → look o (make (suc i) w vs 0 (productAtoms R)) ≡ some d → d .kind ≡ 3
     → (begins R ≡ true) × (o ≡ firstOf i)
 made-mark R (plain c b h) i w vs o d k z = absurd (no-marks (suc i) w vs 0 (productAtoms R) o d
-    (make-kinds (λ n. ltb n 3) (suc i) w vs 0 (productAtoms R) (kind-weaken (productAtoms R) (kinds-plain R h))) k z)
+    (make-kinds (λ n. ltb n 3) (suc i) w vs 0 (productAtoms R) (kinds-plain (productAtoms R) h)) k z)
 made-mark R (inner c b h n) i w vs o d k z = absurd (no-marks (suc i) w vs 0 (productAtoms R) o d
-    (make-kinds (λ n. ltb n 3) (suc i) w vs 0 (productAtoms R) (kinds-inner R n)) k z)
+    (make-kinds (λ n. ltb n 3) (suc i) w vs 0 (productAtoms R) (kinds-inner (productAtoms R) n)) k z)
 made-mark R (begin c b h m rest q y n) i w vs o d k z = (b, go (sameOrigin o (firstOf i)) refl (subst (λ (l : List Atom). look o (make (suc i) w vs 0 l) ≡ some d) q k))
   where
     go : (x : Bool) → sameOrigin o (firstOf i) ≡ x → look o (make (suc i) w vs 0 (m ∷ rest)) ≡ some d → o ≡ firstOf i

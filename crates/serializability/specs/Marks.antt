@@ -6,7 +6,6 @@ use mathlib.Core.Option.{none, some}
 use mathlib.Core.List.{List, [], _∷_, map, nil≢cons}
 use Prim.Native.Nat.{ℕ, suc, _<_}
 use native.Mathlib.Omega.{arith}
-use lib.Dec.{eqb}
 use borrow.Author.Tests.{eqb-true, eq-eqb, ne-eqb}
 use Rattle.lists.specs.Lists.{all, isEmpty, isIn, least}
 use Rattle.lists.specs.Choices.{by-bool, clash, is-false, and-left, and-right}
@@ -14,12 +13,12 @@ use Rattle.lists.specs.Numbers.{isIn-cases}
 use Rattle.lists.specs.Each.{head-eq, tail-eq}
 use Rattle.semantics.specs.Table.{Table, Rule, ruleAt, consumed, productAtoms, begins}
 use Rattle.semantics.specs.State.{Origin, Entry, isMessage, isMemberMark, owned}
-use Rattle.semantics.specs.Move.{Move, react, commit, abort, merged, valueIn, kindMade}
+use Rattle.semantics.specs.Move.{Move, react, commit, abort, merged, kindMade}
 use Rattle.semantics.specs.Serial.{isEnd}
 use Rattle.semantics.specs.declared.Atom.{Atom}
 use Rattle.serializability.specs.Base.{orElse, bindO, isInO, look, some-inj, none-some, found-at, same-refl}
 use Rattle.serializability.specs.View.{ports-messages}
-use Rattle.serializability.specs.Rules.{Shape, plain, begin, inner, Shaped, owners, touched-plain, touched-inner, make}
+use Rattle.serializability.specs.Rules.{productOf, Shape, plain, begin, inner, Shaped, owners, touched-plain, touched-inner, make}
 use Rattle.serializability.specs.Key.{Deed, begun}
 use Rattle.serializability.specs.Cells.{Cells, apply, Source}
 use Rattle.serializability.specs.Actions.{Seen, strip, left, endAction, actionBy, markOf, EndTests, Tests, Ok, product-of, left-result, in-one, end-local}
@@ -141,7 +140,7 @@ begin-mark R (plain c b h) n i w vs = absurd (clash n b)
 begin-mark R (inner c b h k) n i w vs = absurd (clash n b)
 begin-mark R (begin c b h m rest q z k) n i w vs = subst (λ (l : List Atom). (e : Entry) × (look (firstOf i) (map strip (make (suc i) w vs 0 l)) ≡ some e) ×
     (e .kind ≡ 3) × (e .owner ≡ w)) (sym q) (
-      strip (record { origin = firstOf i; owner = w; kind = kindMade (m .role); port = m .port; value = cond (eqb (m .role) 2) w (valueIn vs (m .value)) }),
+      strip (productOf w vs (firstOf i) m),
       rw (same-refl (firstOf i)),
       ap kindMade z,
       refl,

@@ -11,8 +11,8 @@ use Rattle.lists.specs.Choices.{by-bool, clash, and-left, and-intro}
 use Rattle.lists.specs.Numbers.{isIn-one, least-in, all-use, all-intro, all-not}
 use Rattle.lists.specs.Each.{All, All-map, All-of}
 use Rattle.semantics.specs.Table.{Table, Rule, ruleAt, hasRole, consumed, productAtoms, begins}
-use Rattle.semantics.specs.State.{Entry, State}
-use Rattle.semantics.specs.Move.{isZero, ownersFit, merged, valueIn, kindMade, ownerMade, made, products}
+use Rattle.semantics.specs.State.{Origin, Entry, State}
+use Rattle.semantics.specs.Move.{isZero, ownersFit, merged, valueIn, kindMade, ownerMade, products}
 use Rattle.semantics.specs.declared.Atom.{Atom}
 
 -- one of three sorts
@@ -109,44 +109,37 @@ module _ (r : Rule) (n : ℕ) (os : List ℕ) where
 
 -- ---- products: all belong to w
 
+-- the product of an atom, of the origin o and the owner w; a begin's mark has its owner's id
+abbrev pub productOf : ℕ → List ℕ → Origin → Atom → Entry
+productOf w vs o a = record { origin = o; owner = w; kind = kindMade (a .role); port = a .port; value = cond (eqb (a .role) 2) w (valueIn vs (a .value)) }
+
 abbrev pub make : ℕ → ℕ → List ℕ → ℕ → List Atom → List Entry
 make i w vs q [] = []
-make i w vs q (a ∷ ats) = record {
-  origin = record { maker = i; index = q };
-  owner = w;
-  kind = kindMade (a .role);
-  port = a .port;
-  value = cond (eqb (a .role) 2) w (valueIn vs (a .value));
-} ∷ make i w vs (suc q) ats
+make i w vs q (a ∷ ats) = productOf w vs (record { maker = i; index = q }) a ∷ make i w vs (suc q) ats
 
 pub products-one : (r : Rule) (s : State) (es : List Entry) (i w q : ℕ) (ats : List Atom)
     → All (λ a. (ownerMade r s (owners es) (a .role) ≡ w) × (eqb (a .role) 2 ≡ true → s .next ≡ w)) ats → products r s es i q ats ≡ make i w (values es) q ats
 products-one r s es i w q [] h = refl
-products-one r s es i w q (a ∷ ats) h = λ j. head j ∷ products-one r s es i w (suc q) ats (h .1) j
+products-one r s es i w q (a ∷ ats) h = λ j. record {
+  origin = o;
+  owner = h .0 .0 j;
+  kind = kindMade (a .role);
+  port = a .port;
+  value = value-eq
+      (eqb (a .role) 2) refl j;
+}
+    ∷ products-one r s es i w (suc q) ats (h .1) j
   where
+    o : Origin
+    o = record { maker = i; index = q }
+
     value-eq : (b : Bool) → eqb (a .role) 2 ≡ b → cond b (s .next) (valueIn (values es) (a .value)) ≡ cond b w (valueIn (values es) (a .value))
     value-eq true z = h .0 .1 z
     value-eq false z = refl
 
-    head : made r s es (record { maker = i; index = q }) a ≡ record {
-      origin = record { maker = i; index = q };
-      owner = w;
-      kind = kindMade
-          (a .role);
-      port = a .port;
-      value = cond (eqb (a .role) 2) w (valueIn (values es) (a .value));
-    }
-    head = λ j. record {
-      origin = record { maker = i; index = q };
-      owner = h .0 .0 j;
-      kind = kindMade (a .role);
-      port = a .port;
-      value = value-eq
-          (eqb (a .role) 2) refl j;
-    }
-
-pub role-is : (a : Atom) (k : ℕ) → hasRole k a ≡ true → a .role ≡ k
-role-is a k h = eqb-true (a .role) k h
+-- a test on the role of an atom of a local or merge rule
+pub inner-role : (P : ℕ → Type 0) (a : Atom) → (hasRole 1 a || hasRole 5 a) ≡ true → P 1 → P 5 → P (a .role)
+inner-role P a h x y = by-bool (hasRole 1 a) (λ p. subst P (sym (eqb-true (a .role) 1 p)) x) (λ p. subst P (sym (eqb-true (a .role) 5 (rw p at h))) y)
 
 pub products-make : (r : Rule) → Shape r → (s : State) (es : List Entry) (i : ℕ) → ownersFit (r .class) (owners es) ≡ true
     → products r s es i 0 (productAtoms r) ≡ make i (least (touchedBy r (s .next) (owners es))) (values es) 0 (productAtoms r)
@@ -159,21 +152,14 @@ products-make r sh s es i fit = products-one r s es i (least (touchedBy r (s .ne
     Fine w a = (ownerMade r s os (a .role) ≡ w) × (eqb (a .role) 2 ≡ true → s .next ≡ w)
 
     fine-plain : r .class ≡ 0 → (a : Atom) → hasRole 1 a ≡ true → Fine 0 a
-    fine-plain c a h = let q : a .role ≡ 1 = role-is a 1 h in
+    fine-plain c a h = let q = eqb-true (a .role) 1 h in
         (rw (c, q) (least-zero os (global-fit r os c fit)), λ z. absurd (let y = eqb-true (a .role) 2 z in omega arith))
 
     fine-begin : r .class ≡ 0 → (a : Atom) → eqb (a .role) 1 ≡ false → Fine (s .next) a
     fine-begin c a h = (rw (c, h), λ z. refl)
 
     fine-inner : eqb (r .class) 0 ≡ false → (a : Atom) → (hasRole 1 a || hasRole 5 a) ≡ true → Fine (least os) a
-    fine-inner c a h = (
-      rw c,
-      λ z. absurd (let y = eqb-true (a .role) 2 z in two y
-          (by-bool (hasRole 1 a) (λ p. ap (λ (n : ℕ). eqb n 2) (role-is a 1 p)) (λ p. ap (λ (n : ℕ). eqb n 2) (role-is a 5 (rw p at h)))) z),
-    )
-      where
-        two : a .role ≡ 2 → eqb (a .role) 2 ≡ false → eqb (a .role) 2 ≡ true → ⊥
-        two y p z = clash z p
+    fine-inner c a h = (rw c, λ z. absurd (clash z (inner-role (λ k. eqb k 2 ≡ false) a h refl refl)))
 
     go : Shape r → All (Fine (least (touchedBy r (s .next) os))) (productAtoms r)
     go (plain c b h) = rw (touched-plain r (s .next) os c b) (All-map {P = λ a. hasRole 1 a ≡ true} {Q = Fine 0} (λ a k. fine-plain c a k) (productAtoms r)
@@ -199,30 +185,26 @@ pub make-kinds : (p : ℕ → Bool) (i w : ℕ) (vs : List ℕ) (q : ℕ) (ats :
 make-kinds p i w vs q [] h = refl
 make-kinds p i w vs q (a ∷ ats) h = and-intro (h .0) (make-kinds p i w vs (suc q) ats (h .1))
 
--- the kinds of products
-module _ (r : Rule) where
-  pub kinds-plain : all (hasRole 1) (productAtoms r) ≡ true → All (λ a. eqb (kindMade (a .role)) 0 ≡ true) (productAtoms r)
-  kinds-plain h = All-map {P = λ a. hasRole 1 a ≡ true} {Q = λ a. eqb (kindMade (a .role)) 0 ≡ true} (λ a k. ap (λ (n : ℕ). eqb (kindMade n) 0) (role-is a 1 k))
-      (productAtoms r) (All-of (hasRole 1) (productAtoms r) h)
+-- ---- kinds of products
 
-  pub kinds-inner : all (λ a. hasRole 1 a || hasRole 5 a) (productAtoms r) ≡ true → All (λ a. ltb (kindMade (a .role)) 3 ≡ true) (productAtoms r)
-  kinds-inner h = All-map {P = λ a. (hasRole 1 a || hasRole 5 a) ≡ true} {Q = λ a. ltb (kindMade (a .role)) 3 ≡ true}
-      (λ a k. by-bool (hasRole 1 a) (λ p. ap (λ (n : ℕ). ltb (kindMade n) 3) (role-is a 1 p)) (λ p. ap (λ (n : ℕ). ltb (kindMade n) 3) (role-is a 5 (rw p at k))))
-      (productAtoms r) (All-of (λ a. hasRole 1 a || hasRole 5 a) (productAtoms r) h)
+pub kinds-plain : (ats : List Atom) → all (hasRole 1) ats ≡ true → All (λ a. ltb (kindMade (a .role)) 3 ≡ true) ats
+kinds-plain ats h = All-map {P = λ a. hasRole 1 a ≡ true} {Q = λ a. ltb (kindMade (a .role)) 3 ≡ true}
+    (λ a k. ap (λ (n : ℕ). ltb (kindMade n) 3) (eqb-true (a .role) 1 k)) ats
+    (All-of (hasRole 1) ats h)
+
+pub kinds-inner : (ats : List Atom) → all (λ a. hasRole 1 a || hasRole 5 a) ats ≡ true → All (λ a. ltb (kindMade (a .role)) 3 ≡ true) ats
+kinds-inner ats h = All-map {P = λ a. (hasRole 1 a || hasRole 5 a) ≡ true} {Q = λ a. ltb (kindMade (a .role)) 3 ≡ true}
+    (λ a k. inner-role (λ n. ltb (kindMade n) 3 ≡ true) a k refl refl) ats (All-of (λ a. hasRole 1 a || hasRole 5 a) ats h)
 
 pub kinds-rest : (ats : List Atom) → all (λ a. leb 3 (a .role)) ats ≡ true → All (λ a. ltb (kindMade (a .role)) 3 ≡ true) ats
 kinds-rest ats h = All-map {P = λ a. leb 3 (a .role) ≡ true} {Q = λ a. ltb (kindMade (a .role)) 3 ≡ true}
-    (λ a k. go a (eqb (a .role) 4) (eqb (a .role) 5) (ne-eqb (a .role) 2 (λ q. let x = leb-true 3 (a .role) k in omega arith))) ats (All-of (λ a. leb 3 (a .role)) ats h)
+    (λ a k. go a (ne-eqb (a .role) 2 (λ q. let x = leb-true 3 (a .role) k in omega arith))) ats
+    (All-of (λ a. leb 3 (a .role)) ats h)
   where
-    go : (a : Atom) (b c : Bool) → eqb (a .role) 2 ≡ false → ltb (kindMade (a .role)) 3 ≡ true
-    go a b c z = rw z (two (eqb (a .role) 4) (eqb (a .role) 5))
-      where
-        two : (b c : Bool) → ltb (cond b 1 (cond c 2 0)) 3 ≡ true
-        two true c = refl
-        two false true = refl
-        two false false = refl
+    two : (b c : Bool) → ltb (cond b 1 (cond c 2 0)) 3 ≡ true
+    two true c = refl
+    two false true = refl
+    two false false = refl
 
--- a rule of roles other than 2 makes no member mark
-pub kind-weaken : (ats : List Atom) → All (λ a. eqb (kindMade (a .role)) 0 ≡ true) ats → All (λ a. ltb (kindMade (a .role)) 3 ≡ true) ats
-kind-weaken ats h = All-map {P = λ a. eqb (kindMade (a .role)) 0 ≡ true} {Q = λ a. ltb (kindMade (a .role)) 3 ≡ true}
-    (λ a k. ap (λ (n : ℕ). ltb n 3) (eqb-true (kindMade (a .role)) 0 k)) ats h
+    go : (a : Atom) → eqb (a .role) 2 ≡ false → ltb (kindMade (a .role)) 3 ≡ true
+    go a z = rw z (two (eqb (a .role) 4) (eqb (a .role) 5))
