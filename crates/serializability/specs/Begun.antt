@@ -28,12 +28,12 @@ use Rattle.serializability.specs.Fate.{LogRuns}
 use Rattle.serializability.specs.Follow.{seenAfter, log-rest}
 use Rattle.serializability.specs.Blocks.{end-member}
 
-pub no-marks : (i w : ℕ) (vs : List ℕ) (q : ℕ) (ats : List Atom) (o : Origin) (d : Entry) → all (λ e. ltb (e .kind) 3) (make i w vs q ats) ≡ true
+no-marks : (i w : ℕ) (vs : List ℕ) (q : ℕ) (ats : List Atom) (o : Origin) (d : Entry) → all (λ e. ltb (e .kind) 3) (make i w vs q ats) ≡ true
     → look o (make i w vs q ats) ≡ some d → d .kind ≡ 3 → ⊥
 no-marks i w vs q ats o d h k z = let y = ltb-true (d .kind) 3 (look-all (λ e. ltb (e .kind) 3) o (make i w vs q ats) h k) in omega arith
 
 -- a product that is a member mark is the first product of a begin
-pub made-mark : (R : Rule) → Shape R → (i w : ℕ) (vs : List ℕ) (o : Origin) (d : Entry) → look o (make (suc i) w vs 0 (productAtoms R)) ≡ some d → d .kind ≡ 3
+made-mark : (R : Rule) → Shape R → (i w : ℕ) (vs : List ℕ) (o : Origin) (d : Entry) → look o (make (suc i) w vs 0 (productAtoms R)) ≡ some d → d .kind ≡ 3
     → (begins R ≡ true) × (o ≡ firstOf i)
 made-mark R (plain c b h) i w vs o d k z = absurd (no-marks (suc i) w vs 0 (productAtoms R) o d
     (make-kinds (λ n. ltb n 3) (suc i) w vs 0 (productAtoms R) (kinds-plain (productAtoms R) h)) k z)
@@ -45,7 +45,7 @@ made-mark R (begin c b h m rest q y n) i w vs o d k z = (b, go (sameOrigin o (fi
     go true p k = same-eq o (firstOf i) p
     go false p k = absurd (no-marks (suc i) w vs 1 rest o d (make-kinds (λ n. ltb n 3) (suc i) w vs 1 rest (kinds-rest rest n)) (rw p at k) z)
 
-pub left-mark : (k b : ℕ) (c d : Entry) → left k b c ≡ some d → d .kind ≡ 3 → c .kind ≡ 3
+left-mark : (k b : ℕ) (c d : Entry) → left k b c ≡ some d → d .kind ≡ 3 → c .kind ≡ 3
 left-mark k b c d h z = go (owned b c) (eqb (c .kind) k) h
   where
     go : (x y : Bool) → cond x (cond y (some (toGlobal c)) none) (some c) ≡ some d → c .kind ≡ 3
@@ -54,7 +54,7 @@ left-mark k b c d h z = go (owned b c) (eqb (c .kind) k) h
     go false y w = ap (λ (x : Entry). x .kind) (some-inj w) ∙ z
 
 -- a mark after a move was there before, or the move is its begin
-pub mark-from : (t : Table) → Shaped t → (f : Cells) (a : Deed) (vs : List ℕ) (mv : Move) (o : Origin) (d : Entry)
+mark-from : (t : Table) → Shaped t → (f : Cells) (a : Deed) (vs : List ℕ) (mv : Move) (o : Origin) (d : Entry)
     → Source f (actionBy t (a .place) (a .picks) (a .touched) vs mv) o d → d .kind ≡ 3
     → ((c : Entry) × (f o ≡ some c) × (c .kind ≡ 3)) ⊎ ((begun t mv ≡ true) × (o ≡ firstOf (a .place)))
 unfolding actionBy
@@ -72,7 +72,7 @@ mark-from t sd f a vs (abort b) o d (inr q) z = absurd (none-some q)
 abbrev pub begunIn : Table → Origin → List Deed → Bool
 begunIn t o xs = any (λ x. begun t (x .move) && any (sameOrigin o) (x .members)) xs
 
-pub mark-source : (t : Table) → Shaped t → (xs : List Deed) (i : ℕ) (F G : Seen) (ys : List Deed) → LogRuns t i F (xs ++ ys) G → (o : Origin) (d : Entry)
+mark-source : (t : Table) → Shaped t → (xs : List Deed) (i : ℕ) (F G : Seen) (ys : List Deed) → LogRuns t i F (xs ++ ys) G → (o : Origin) (d : Entry)
     → seenAfter t F xs .cell o ≡ some d → d .kind ≡ 3
     → ((c : Entry) × (F .cell o ≡ some c) × (c .kind ≡ 3)) ⊎ (begunIn t o xs ≡ true)
 unfolding astep

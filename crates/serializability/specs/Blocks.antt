@@ -44,17 +44,17 @@ end-member F a E o h =
 
 module _ (t : Table) (sd : Shaped t) (G : Seen) where
   module _ (i : ℕ) (F : Seen) (x : Deed) (zs ys : List Deed) (a : Deed) (g : Good i F) (r : LogRuns t i F (x ∷ zs ++ a ∷ ys) G) where
-    pub Fa : Seen
+    Fa : Seen
     Fa = seenAfter t (astep t F x) zs
 
-    pub good-x : Good (suc i) (astep t F x)
+    good-x : Good (suc i) (astep t F x)
     good-x = next-good t sd G i F x (zs ++ a ∷ ys) g (r .0)
 
-    pub rest-a : LogRuns t (suc i + length zs) Fa (a ∷ ys) G × Good (suc i + length zs) Fa
+    rest-a : LogRuns t (suc i + length zs) Fa (a ∷ ys) G × Good (suc i + length zs) Fa
     unfolding Fa
     rest-a = log-rest t sd (suc i) (astep t F x) G zs (a ∷ ys) good-x (r .1) (suc i + length zs) refl
 
-    pub later-place : i < a .place
+    later-place : i < a .place
     later-place = let w = place-length t (suc i) (astep t F x) G zs ys a (r .1) in omega arith
 
     pub same-block : isEnd (x .move) ≡ false → isEmpty (x .touched) ≡ false → isEnd (a .move) ≡ true → eqb (x .key) (a .place) ≡ shares x a
@@ -87,7 +87,7 @@ module _ (t : Table) (sd : Shaped t) (G : Seen) where
                 eq-eqb (x .key) (a .place) (key-is (e .owner) w ∙ fo o e p k .1 (d .0) (d .1) (d .3))
 
     -- x's place in the block of a, or in none
-    pub in-block : keyIs (a .place) x ≡ cond (isInner (actOf a)) false (belongsTo (actOf a) (actOf x))
+    in-block : keyIs (a .place) x ≡ cond (isInner (actOf a)) false (belongsTo (actOf a) (actOf x))
     in-block = go (isEnd (x .move)) refl (isEmpty (x .touched)) refl
       where
         own-key : keyOf (isEnd (x .move)) i (x .touched) (zs ++ a ∷ ys) ≡ i → keyIs (a .place) x ≡ false
@@ -123,13 +123,13 @@ module _ (t : Table) (sd : Shaped t) (G : Seen) where
             (λ en. not-key p q en ∙ by-members en (isEmpty (a .members)) refl)
 
   -- the moves before a, in its block or not
-  pub before-block : (xs : List Deed) (i : ℕ) (F : Seen) (a : Deed) (ys : List Deed) → Good i F → LogRuns t i F (xs ++ a ∷ ys) G
+  before-block : (xs : List Deed) (i : ℕ) (F : Seen) (a : Deed) (ys : List Deed) → Good i F → LogRuns t i F (xs ++ a ∷ ys) G
       → All (λ x. keyIs (a .place) x ≡ cond (isInner (actOf a)) false (belongsTo (actOf a) (actOf x))) xs
   before-block [] i F a ys g r = tt
   before-block (x ∷ xs) i F a ys g r = (in-block i F x xs ys a g r, before-block xs (suc i) (astep t F x) a ys (next-good t sd G i F x (xs ++ a ∷ ys) g (r .0)) (r .1))
 
   -- a's own key
-  pub own-block : (i : ℕ) (F : Seen) (a : Deed) (ys : List Deed) → LogRuns t i F (a ∷ ys) G → keyIs (a .place) a ≡ not (isInner (actOf a))
+  own-block : (i : ℕ) (F : Seen) (a : Deed) (ys : List Deed) → LogRuns t i F (a ∷ ys) G → keyIs (a .place) a ≡ not (isInner (actOf a))
   own-block i F a ys r = go (isEnd (a .move)) refl (isEmpty (a .touched)) refl
     where
       is-own : keyOf (isEnd (a .move)) i (a .touched) ys ≡ i → keyIs (a .place) a ≡ true
@@ -144,7 +144,7 @@ module _ (t : Table) (sd : Shaped t) (G : Seen) where
           ∙ rw (p, r .0 .marked p .1 ∙ q)
 
   -- the moves with the key of a's place are the block of a
-  pub block-is : (xs : List Deed) (i : ℕ) (F : Seen) (a : Deed) (ys : List Deed) → Good i F → LogRuns t i F (xs ++ a ∷ ys) G
+  block-is : (xs : List Deed) (i : ℕ) (F : Seen) (a : Deed) (ys : List Deed) → Good i F → LogRuns t i F (xs ++ a ∷ ys) G
       → map actOf (keep (keyIs (a .place)) (xs ++ a ∷ ys)) ≡ block (map actOf xs) (actOf a)
   block-is xs i F a ys g r = ap (map actOf) (keep-append (keyIs (a .place)) xs (a ∷ ys)
       ∙ ap (λ (l : List Deed). keep (keyIs (a .place)) xs ++ keepIf (keyIs (a .place) a) a l) none-later)
@@ -170,7 +170,7 @@ module _ (t : Table) (sd : Shaped t) (G : Seen) where
           (map-append actOf (keep (λ x. belongsTo (actOf a) (actOf x)) xs) (a ∷ [])
           ∙ ap (λ (l : List Act). l ++ actOf a ∷ []) (sym (keep-map actOf (belongsTo (actOf a)) xs)))
 
-  pub ordered-is : (rest xs : List Deed) (F : Seen) → Good 0 F → LogRuns t 0 F (xs ++ rest) G
+  ordered-is : (rest xs : List Deed) (F : Seen) → Good 0 F → LogRuns t 0 F (xs ++ rest) G
       → ordered (map actOf xs) (map actOf rest) ≡ map actOf (arrange (length xs) (length rest) (xs ++ rest))
   ordered-is [] xs F g r = refl
   ordered-is (a ∷ rest) xs F g r =

@@ -38,7 +38,7 @@ use Rattle.serializability.specs.SameEnd.{end-closed, messages-same}
 
 -- ---- the end
 
-pub sound-runs : (t : Table) → TableRight t → (i : ℕ) (s : State) (ms : List Move) (e : State) → Accepted t i s ms e → Sound (t .sizes) s → All (RuleKnown t) ms
+sound-runs : (t : Table) → TableRight t → (i : ℕ) (s : State) (ms : List Move) (e : State) → Accepted t i s ms e → Sound (t .sizes) s → All (RuleKnown t) ms
     → Sound (t .sizes) e
 sound-runs t right i s [] e h sound known = subst (Sound (t .sizes)) h sound
 sound-runs t right i s (m ∷ ms) e h sound known = sound-runs t right (suc i) (applied t (suc i) s m) ms e (h .1) (applied-keeps right sound (suc i) m (known .0) (h .0))
@@ -46,7 +46,7 @@ sound-runs t right i s (m ∷ ms) e h sound known = sound-runs t right (suc i) (
 
 -- ---- the serial log is a run, with its own places for makers
 
-pub goes-accepted : (t : Table) (xs : List Act) (i : ℕ) (s c c′ : State) → bareState s ≡ bareState c → Goes t c xs c′
+goes-accepted : (t : Table) (xs : List Act) (i : ℕ) (s c c′ : State) → bareState s ≡ bareState c → Goes t c xs c′
     → (e : State) × Accepted t i s (replayed t c xs) e × (bareState e ≡ bareState c′)
 unfolding replayed
 goes-accepted t [] i s c c′ b h = (s, refl, b ∙ ap bareState h)
@@ -56,26 +56,26 @@ goes-accepted t (a ∷ xs) i s c c′ b h =
     let r = goes-accepted t xs (suc i) (applied t (suc i) s m) (after t (suc (a .place)) c m) c′ n (h .1) in
     (r .0, (allowed-same s c b t m ∙ h .0, r .1), r .2)
 
-pub replayed-length : (t : Table) (c : State) (xs : List Act) → length (replayed t c xs) ≡ length xs
+replayed-length : (t : Table) (c : State) (xs : List Act) → length (replayed t c xs) ≡ length xs
 unfolding replayed
 replayed-length t c [] = refl
 replayed-length t c (a ∷ xs) = ap suc (replayed-length t (after t (suc (a .place)) c (again c a (a .move))) xs)
 
-pub count-bare : (p : Entry → Bool) → ((x : Entry) → p (bare x) ≡ p x) → (l : List Entry) → count p (map bare l) ≡ count p l
+count-bare : (p : Entry → Bool) → ((x : Entry) → p (bare x) ≡ p x) → (l : List Entry) → count p (map bare l) ≡ count p l
 count-bare p h [] = refl
 count-bare p h (x ∷ l) = rw (h x, count-bare p h l)
 
-pub deeds-known : (t : Table) (i : ℕ) (s : State) (ms : List Move) → All (RuleKnown t) ms → All (λ a. RuleKnown t (a .move)) (deeds t i s ms)
+deeds-known : (t : Table) (i : ℕ) (s : State) (ms : List Move) → All (RuleKnown t) ms → All (λ a. RuleKnown t (a .move)) (deeds t i s ms)
 unfolding deeds
 deeds-known t i s [] h = tt
 deeds-known t i s (m ∷ ms) h = (h .0, deeds-known t (suc i) (after t (suc i) s m) ms (h .1))
 
-pub replayed-known : (t : Table) (c : State) (xs : List Act) → All (λ a. RuleKnown t (a .move)) xs → All (RuleKnown t) (replayed t c xs)
+replayed-known : (t : Table) (c : State) (xs : List Act) → All (λ a. RuleKnown t (a .move)) xs → All (RuleKnown t) (replayed t c xs)
 unfolding replayed
 replayed-known t c [] h = tt
 replayed-known t c (a ∷ xs) h = (again-known t c a (a .move) (h .0), replayed-known t (after t (suc (a .place)) c (again c a (a .move))) xs (h .1))
 
-pub begin-same : (t : Table) (m : Move) → begun t m ≡ isBegin t m
+begin-same : (t : Table) (m : Move) → begun t m ≡ isBegin t m
 begin-same t (react r ps) = refl
 begin-same t (commit b) = refl
 begin-same t (abort b) = refl
@@ -97,36 +97,36 @@ module _ (t : Table) (right : TableRight t) (ne : beginsEmit t ≡ false) (s : S
   unfolding ds
   ran = log-runs t sd 0 s ms e (uniq-numbered 0 (s .entries) (S .numbered)) g run
 
-  pub shut : NoneOpen (view e)
+  shut : NoneOpen (view e)
   shut = closed-view e cl
 
-  pub acts-are : acts t 0 s ms ≡ map actOf ds
+  acts-are : acts t 0 s ms ≡ map actOf ds
   unfolding ds
   acts-are = acts-deeds t 0 s ms
 
-  pub order-is : orderOf t s ms ≡ map actOf (isort ds)
+  order-is : orderOf t s ms ≡ map actOf (isort ds)
   order-is = ap (ordered []) acts-are ∙ order-sorted t sd (view e) ds (view s) g (ran .0) shut
 
-  pub serial-is : serial t s ms ≡ replayed t s (map actOf (isort ds))
+  serial-is : serial t s ms ≡ replayed t s (map actOf (isort ds))
   unfolding serial
   serial-is = ap (replayed t s) order-is
 
-  pub places-are : placesOf t s ms ≡ map (λ a. a .place) (isort ds)
+  places-are : placesOf t s ms ≡ map (λ a. a .place) (isort ds)
   places-are = ap (map (λ a. a .place)) order-is ∙ places (isort ds)
     where
       places : (xs : List Deed) → map (λ a. a .place) (map actOf xs) ≡ map (λ a. a .place) xs
       places [] = refl
       places (x ∷ xs) = λ j. x .place ∷ places xs j
 
-  pub placed-log : All (Placed t s ms) ds
+  placed-log : All (Placed t s ms) ds
   unfolding ds
   placed-log = all-placed t s ms
 
-  pub known-log : All (λ a. RuleKnown t (a .move)) ds
+  known-log : All (λ a. RuleKnown t (a .move)) ds
   unfolding ds
   known-log = deeds-known t 0 s ms known
 
-  pub again-runs : Ends t s (isort ds) (view e)
+  again-runs : Ends t s (isort ds) (view e)
   again-runs = replay-runs t right sd (isort ds) s (view s) (view e) (λ v. v) (rel-start (t .sizes) s S) (S .sound) (All-isort (λ a. RuleKnown t (a .move)) ds known-log)
       (sort-runs t (view e) ds (view s) (pairs t sd (view e) 0 (view s) ds g (ran .0)) (runs t 0 (view s) ds (view e) (ran .0)))
 
@@ -135,10 +135,10 @@ module _ (t : Table) (right : TableRight t) (ne : beginsEmit t ≡ false) (s : S
   serial-known = subst (All (RuleKnown t)) (sym serial-is) (replayed-known t s (map actOf (isort ds))
       (All-unmap actOf (λ a. RuleKnown t (a .move)) (isort ds) (All-isort (λ a. RuleKnown t (a .move)) ds known-log)))
 
-  pub accepted : (z : State) × Accepted t 0 s (replayed t s (map actOf (isort ds))) z × (bareState z ≡ bareState (again-runs .state))
+  accepted : (z : State) × Accepted t 0 s (replayed t s (map actOf (isort ds))) z × (bareState z ≡ bareState (again-runs .state))
   accepted = goes-accepted t (map actOf (isort ds)) 0 s s (again-runs .state) refl (again-runs .goes)
 
-  pub sorted-length : length (isort ds) ≡ length ms
+  sorted-length : length (isort ds) ≡ length ms
   unfolding ds
   sorted-length = go
     where
@@ -183,7 +183,7 @@ module _ (t : Table) (right : TableRight t) (ne : beginsEmit t ≡ false) (s : S
           (subst (λ (l : List Deed). LogRuns t 0 (view s) l (view e)) p (ran .0))
           (subst (λ (y : Act). isEnd (y .move) ≡ true) (sym b) h) o (subst (λ (y : Act). any (sameOrigin o) (y .members) ≡ true) (sym b) m)
 
-  pub same-at : (j : ℕ) → j < length ms
+  same-at : (j : ℕ) → j < length ms
       → SameMove (stateBefore t (upFrom 0 (length ms)) s ms (getD (placesOf t s ms) j 0)) (stateBefore t (placesOf t s ms) s (serial t s ms) j)
       (getD ms (getD (placesOf t s ms) j 0) noMove) (getD (serial t s ms) j noMove)
   same-at j h =
@@ -196,7 +196,7 @@ module _ (t : Table) (right : TableRight t) (ne : beginsEmit t ≡ false) (s : S
       placed : All (Placed t s ms) (isort ds)
       placed = All-isort (Placed t s ms) ds placed-log
 
-  pub origins-at : (j : ℕ) → j < length ms → (o : Origin)
+  origins-at : (j : ℕ) → j < length ms → (o : Origin)
       → (count (hasOrigin o) (stateBefore t (upFrom 0 (length ms)) s ms j .entries) ≤ 1) ×
       (count (hasOrigin o) (stateBefore t (placesOf t s ms) s (serial t s ms) j .entries) ≤ 1)
   origins-at j h o = (
@@ -207,23 +207,23 @@ module _ (t : Table) (right : TableRight t) (ne : beginsEmit t ≡ false) (s : S
         (serial-uniq t (isort ds) s (again-runs .agains) j (let w = sorted-length in omega arith)))),
   )
 
-  pub serial-size : length (serial t s ms) ≡ length ms
+  serial-size : length (serial t s ms) ≡ length ms
   serial-size = ap length serial-is ∙ replayed-length t s (map actOf (isort ds)) ∙ length-map (isort ds) actOf ∙ sorted-length
 
-  pub states-at : (j : ℕ) → j ≤ length ms → stateWords (stateBefore t (placesOf t s ms) s (serial t s ms) j) ≡ stateWords (getD (along t 0 s (serial t s ms)) j s)
+  states-at : (j : ℕ) → j ≤ length ms → stateWords (stateBefore t (placesOf t s ms) s (serial t s ms) j) ≡ stateWords (getD (along t 0 s (serial t s ms)) j s)
   states-at j h = words-same (stateBefore t (placesOf t s ms) s (serial t s ms) j) (getD (along t 0 s (serial t s ms)) j s)
       (along-same t (placesOf t s ms) (serial t s ms) 0 s s s lengths refl j (let w = serial-size in omega arith))
     where
       lengths : length (placesOf t s ms) ≡ length (serial t s ms)
       lengths = ap length places-are ∙ length-map (isort ds) (λ a. a .place) ∙ sorted-length ∙ sym serial-size
 
-  pub closed-end : anyOpen (accepted .0) ≡ false
+  closed-end : anyOpen (accepted .0) ≡ false
   closed-end =
       let p : Entry → Bool = λ e. not (owned 0 e) in
       sym (any-map bare p (accepted .0 .entries)) ∙ ap (λ (x : State). any p (x .entries)) (accepted .2) ∙ any-map bare p (again-runs .state .entries)
       ∙ end-closed (again-runs .state) e (again-runs .names) (again-runs .rel) shut (ran .1)
 
-  pub same-count : (k p v : ℕ) → count (isGlobal k p v) (accepted .0 .entries) ≡ count (isGlobal k p v) (e .entries)
+  same-count : (k p v : ℕ) → count (isGlobal k p v) (accepted .0 .entries) ≡ count (isGlobal k p v) (e .entries)
   same-count k p v =
       sym (count-bare (isGlobal k p v) (λ x. refl) (accepted .0 .entries)) ∙ ap (λ (x : State). count (isGlobal k p v) (x .entries)) (accepted .2)
       ∙ count-bare (isGlobal k p v) (λ x. refl) (again-runs .state .entries)

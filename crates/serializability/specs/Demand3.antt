@@ -26,12 +26,12 @@ use Rattle.serializability.specs.Decoded.{serial-known, serial-decoded}
 use Rattle.serializability.specs.LogWords.{Holdable, log-length, log-ok, moves-back, moves-count, count-1024}
 use Rattle.serializability.specs.RunWords.{run-accepted, accepted-run, all-holdable}
 
-pub entries-numbered : (q : ℕ) (os ws : List ℕ) → Numbered q (entriesOf q os ws)
+entries-numbered : (q : ℕ) (os ws : List ℕ) → Numbered q (entriesOf q os ws)
 entries-numbered q [] ws = tt
 entries-numbered q (o ∷ os) [] = tt
 entries-numbered q (o ∷ os) (w ∷ ws) = (refl, entries-numbered (suc q) os ws)
 
-pub state-numbered : (S : List ℕ) → Numbered 0 (stateOf S .entries)
+state-numbered : (S : List ℕ) → Numbered 0 (stateOf S .entries)
 unfolding stateOf
 state-numbered S = entries-numbered 0 (ownersOf S) (itemsOf S)
 
@@ -46,7 +46,7 @@ module _ (ceiling : ℕ) (T S L : List ℕ) (e : State) (ok : stateVerdict T S �
   abbrev pub ms : List Move
   ms = movesIn T L
 
-  pub table-ok : tableVerdict T ≡ Allowed
+  table-ok : tableVerdict T ≡ Allowed
   table-ok = state-given S T ok .0
 
   pub right : TableRight t
@@ -55,32 +55,32 @@ module _ (ceiling : ℕ) (T S L : List ℕ) (e : State) (ok : stateVerdict T S �
   pub start : Start (t .sizes) s
   start = record { sound = rw (sizes-tableOf T) (stateOf-held T S ok .sound); numbered = state-numbered S; closed = op }
 
-  pub taken : Accepted t 0 s ms e × All (λ w. moveOk t w ≡ true) (movesOf L)
+  taken : Accepted t 0 s ms e × All (λ w. moveOk t w ≡ true) (movesOf L)
   taken = run-accepted ceiling t 0 s (movesOf L) e ran
 
   pub known : All (RuleKnown t) ms
   known = All-unmap (moveOf t) (RuleKnown t) (movesOf L) (All-map {P = λ w. moveOk t w ≡ true} {Q = λ w. RuleKnown t (moveOf t w)} (λ w h. rule-known t w h) (movesOf L)
       (taken .1))
 
-  pub serial-log : Serial t s ms e
+  serial-log : Serial t s ms e
   serial-log = serial-decoded t right ne s start ms known e (taken .0) cl
 
-  pub count-is : length ms ≡ moveCount L
+  count-is : length ms ≡ moveCount L
   count-is = length-map (movesOf L) (moveOf t) ∙ moves-count L
 
   pub held : All (Holdable t) (serial t s ms)
   held = all-holdable t right (let k = length-rules T in let l = sizes-given T (table-given T table-ok .0) .rules in omega arith)
       0 s (serial t s ms) (serial-log .end) (serial-log .accepted) (start .sound) (serial-known t right ne s start ms known e (taken .0) cl)
 
-  pub log-allowed : logVerdict T S L ≡ Allowed
+  log-allowed : logVerdict T S L ≡ Allowed
   unfolding logVerdict
   log-allowed = rw (ok, lo)
 
-  pub words-are : length (logWords (serialOf T S L)) ≡ 1 + 5 * moveCount L
+  words-are : length (logWords (serialOf T S L)) ≡ 1 + 5 * moveCount L
   unfolding serialOf
   words-are = log-length (serial t s ms) ∙ ap (λ (n : ℕ). 1 + 5 * n) (serial-log .size ∙ count-is)
 
-  pub answered : (target : List ℕ) → 1 + 5 * moveCount L ≤ length target
+  answered : (target : List ℕ) → 1 + 5 * moveCount L ≤ length target
       → serialResult ceiling T S L target ≡ cond (roomAlong ceiling T S L) (write (logWords (serialOf T S L))) (refuse SerialTooManyEntries)
   unfolding serialResult serialFitsOf serialFits serialOf
   answered target h = rw (log-allowed, le-leb (1 + 5 * moveCount L) (length target) h, ne, op, ran, cl) (go (all (fits ceiling) (along t 0 s (serial t s ms))))
@@ -90,14 +90,14 @@ module _ (ceiling : ℕ) (T S L : List ℕ) (e : State) (ok : stateVerdict T S �
       go true = refl
       go false = refl
 
-  pub rerun-is : all (fits ceiling) (along t 0 s (serial t s ms)) ≡ true → run ceiling t 0 s (movesOf (logWords (serial t s ms))) ≡ ended (serial-log .end)
+  rerun-is : all (fits ceiling) (along t 0 s (serial t s ms)) ≡ true → run ceiling t 0 s (movesOf (logWords (serial t s ms))) ≡ ended (serial-log .end)
   rerun-is f = ap (run ceiling t 0 s) (moves-back (serial t s ms)) ∙ accepted-run ceiling t 0 s (serial t s ms) (serial-log .end) (serial-log .accepted) f held
 
-  pub rerun-log : logVerdict T S (logWords (serial t s ms)) ≡ Allowed
+  rerun-log : logVerdict T S (logWords (serial t s ms)) ≡ Allowed
   unfolding logVerdict
   rerun-log = rw (ok, log-ok (serial t s ms) (let a = serial-log .size in let b = count-is in let c = count-1024 L lo in omega arith))
 
-  pub reran : roomAlong ceiling T S L ≡ true → (target : List ℕ) → 2050 ≤ length target
+  reran : roomAlong ceiling T S L ≡ true → (target : List ℕ) → 2050 ≤ length target
       → runResult ceiling T S (logWords (serialOf T S L)) target ≡ write (stateWords (serial-log .end))
   unfolding runResult serialOf
   reran f target h = rw (rerun-log, le-leb 2050 (length target) h) (ap ranResult (rerun-is f))

@@ -52,30 +52,30 @@ pub later-le : (b : Bool) (n : ℕ) → n ≤ later b n
 later-le true n = omega arith
 later-le false n = omega arith
 
-pub next-le : (t : Table) (F : Seen) (a : Deed) → F .next ≤ astep t F a .next
+next-le : (t : Table) (F : Seen) (a : Deed) → F .next ≤ astep t F a .next
 unfolding astep
 next-le t F a = later-le (begun t (a .move)) (F .next)
 
 -- ---- a step of a log
 
 module _ (t : Table) (sd : Shaped t) (i : ℕ) (F : Seen) (a : Deed) (g : Good i F) (st : StepOk t i F a) where
-  pub not-zero : (v : ℕ) → isIn v (a .touched) ≡ true → v ≡ 0 → ⊥
+  not-zero : (v : ℕ) → isIn v (a .touched) ≡ true → v ≡ 0 → ⊥
   not-zero v h q = clash h (rw q (st .ok .noZero))
 
-  pub touched-bound : (v : ℕ) → isIn v (a .touched) ≡ true → v < astep t F a .next
+  touched-bound : (v : ℕ) → isIn v (a .touched) ≡ true → v < astep t F a .next
   unfolding astep
   touched-bound v h = by-bool (begun t (a .move))
       (λ b. let w = isIn-one v (F .next) (subst (λ (l : List ℕ). isIn v l ≡ true) (st .tick b) h) in rw b (omega arith))
       (λ b. let l = touched-live t sd F a (st .ok) b v h in let w = g .below (l .0) (l .1) (l .2) in let x = l .3 in rw b (omega arith))
 
   -- a transaction of an earlier id that a move touches is there already
-  pub old-mark : (v : ℕ) → v < F .next → isIn v (a .touched) ≡ true → Mark (F .cell) v
+  old-mark : (v : ℕ) → v < F .next → isIn v (a .touched) ≡ true → Mark (F .cell) v
   old-mark v lt h = by-bool (begun t (a .move))
       (λ b. let w = isIn-one v (F .next) (subst (λ (l : List ℕ). isIn v l ≡ true) (st .tick b) h) in absurd (omega arith))
       (λ b. let l = touched-live t sd F a (st .ok) b v h in subst (λ (x : ℕ). Mark (F .cell) x) (l .3)
       (g .marks (l .0) (l .1) (l .2) (λ z. not-zero v h (sym (l .3) ∙ z))))
 
-  pub keeps-mark : (v : ℕ) → (isEnd (a .move) ≡ true → isIn v (a .touched) ≡ false) → Mark (F .cell) v
+  keeps-mark : (v : ℕ) → (isEnd (a .move) ≡ true → isIn v (a .touched) ≡ false) → Mark (F .cell) v
       → Mark (astep t F a .cell) (cond (isIn v (a .touched)) (least (a .touched)) v)
   unfolding astep
   keeps-mark v e (o, d, h, x, w) =
@@ -83,7 +83,7 @@ module _ (t : Table) (sd : Shaped t) (i : ℕ) (F : Seen) (a : Deed) (g : Good i
       (o, q .0, q .1, q .2, q .3 ∙ ap (λ (y : ℕ). cond (isIn y (a .touched)) (least (a .touched)) y) w)
 
   -- after a move that is no end, its transaction has a mark
-  pub new-mark : (v : ℕ) → isEnd (a .move) ≡ false → isIn v (a .touched) ≡ true → Mark (astep t F a .cell) (least (a .touched))
+  new-mark : (v : ℕ) → isEnd (a .move) ≡ false → isIn v (a .touched) ≡ true → Mark (astep t F a .cell) (least (a .touched))
   unfolding astep
   new-mark v e h = by-bool (begun t (a .move))
       (λ b. let q = mark-made t sd (F .cell) a (received F a) (a .move) b (st .ok .fresh (firstOf (a .place)) refl) in (firstOf (a .place), q .0, q .1, q .2, q .3))
@@ -91,11 +91,11 @@ module _ (t : Table) (sd : Shaped t) (i : ℕ) (F : Seen) (a : Deed) (g : Good i
       let m = keeps-mark v (λ z. absurd (clash z e)) (subst (λ (x : ℕ). Mark (F .cell) x) (l .3) (g .marks (l .0) (l .1) (l .2) (λ z. not-zero v h (sym (l .3) ∙ z)))) in
       subst (λ (x : Bool). Mark (astep t F a .cell) (cond x (least (a .touched)) v)) h m)
 
-  pub came-from : (o : Origin) (e : Entry) → astep t F a .cell o ≡ some e → (e .owner ≡ 0 → ⊥) → From (F .cell) (a .touched) (isEnd (a .move)) o (e .owner)
+  came-from : (o : Origin) (e : Entry) → astep t F a .cell o ≡ some e → (e .owner ≡ 0 → ⊥) → From (F .cell) (a .touched) (isEnd (a .move)) o (e .owner)
   unfolding astep
   came-from o e h nz = came t (F .cell) a (st .ok .es) (received F a) (a .move) (st .ok .tests) o e (apply-inv (F .cell) (actionOf t (received F a) a) o e h) nz
 
-  pub good-marks : (o : Origin) (e : Entry) → astep t F a .cell o ≡ some e → (e .owner ≡ 0 → ⊥) → Mark (astep t F a .cell) (e .owner)
+  good-marks : (o : Origin) (e : Entry) → astep t F a .cell o ≡ some e → (e .owner ≡ 0 → ⊥) → Mark (astep t F a .cell) (e .owner)
   good-marks o e h nz = go (came-from o e h nz)
     where
       zero-case : (c : Entry) → c .owner ≡ 0 → cond (isIn (c .owner) (a .touched)) (least (a .touched)) (c .owner) ≡ 0
@@ -158,7 +158,7 @@ module _ (t : Table) (sd : Shaped t) (G : Seen) where
   next-good i F a xs g r = good-next t sd i F a g (r .step)
 
   -- the key of a move that touches the transaction v is the place of v's end
-  pub fate : (i : ℕ) (F : Seen) (xs : List Deed) → Good i F → LogRuns t i F xs G → (v : ℕ) → (v ≡ 0 → ⊥) → v < F .next
+  fate : (i : ℕ) (F : Seen) (xs : List Deed) → Good i F → LogRuns t i F xs G → (v : ℕ) → (v ≡ 0 → ⊥) → v < F .next
       → All (λ x. isIn v (x .touched) ≡ true → Mark (F .cell) v × (x .key ≡ ender i xs v)) xs
   fate i F [] g r v nz lt = tt
   fate i F (a ∷ xs) g r v nz lt = (
@@ -175,7 +175,7 @@ module _ (t : Table) (sd : Shaped t) (G : Seen) where
           (λ y. rw y)
 
   -- a transaction that is there is ended before a log that leaves none open is over
-  pub fate-bound : (i : ℕ) (F : Seen) (xs : List Deed) → Good i F → LogRuns t i F xs G → NoneOpen G → (v : ℕ) → (v ≡ 0 → ⊥) → Mark (F .cell) v
+  fate-bound : (i : ℕ) (F : Seen) (xs : List Deed) → Good i F → LogRuns t i F xs G → NoneOpen G → (v : ℕ) → (v ≡ 0 → ⊥) → Mark (F .cell) v
       → ender i xs v < i + length xs
   unfolding NoneOpen
   fate-bound i F [] g r n v nz (o, e, h, x, w) = absurd (nz (sym w ∙ n o e (ap (λ (H : Seen). H .cell o) (sym r) ∙ h)))
@@ -195,7 +195,7 @@ module _ (t : Table) (sd : Shaped t) (G : Seen) where
       go ih false p d q =
           let h = ih v nz (subst (λ (x : Bool). Mark (astep t F a .cell) (cond x (least (a .touched)) v)) p (moved (λ z. p))) in omega arith
 
-  pub All-forall : (Q : ℕ → Type 0) (P : ℕ → Deed → Type 0) (xs : List Deed) → ((v : ℕ) → Q v → All (P v) xs) → All (λ x. (v : ℕ) → Q v → P v x) xs
+  All-forall : (Q : ℕ → Type 0) (P : ℕ → Deed → Type 0) (xs : List Deed) → ((v : ℕ) → Q v → All (P v) xs) → All (λ x. (v : ℕ) → Q v → P v x) xs
   All-forall Q P [] h = tt
   All-forall Q P (x ∷ xs) h = (λ v q. h v q .0, All-forall Q P xs (λ v q. h v q .1))
 

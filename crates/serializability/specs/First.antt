@@ -27,12 +27,12 @@ use Rattle.serializability.specs.Link.{view, view-look, view-some, Good,
 use Rattle.serializability.specs.Marks.{MarkAt, mark-stay, firstOf, mark-made, touched-live}
 use Rattle.serializability.specs.Fate.{Marked, LogRuns, good-next}
 
-pub ports-some : (ts : List ℕ) (es : List Entry) → isEmpty ts ≡ false → onPorts ts es ≡ true → isEmpty (owners es) ≡ false
+ports-some : (ts : List ℕ) (es : List Entry) → isEmpty ts ≡ false → onPorts ts es ≡ true → isEmpty (owners es) ≡ false
 ports-some [] es n h = absurd (true≢false n)
 ports-some (t ∷ ts) [] n h = absurd (false≢true h)
 ports-some (t ∷ ts) (e ∷ es) n h = refl
 
-pub origins-some : (o : Origin) (l : List Entry) → isInO o (originsOf l) ≡ true → isEmpty (originsOf l) ≡ false
+origins-some : (o : Origin) (l : List Entry) → isInO o (originsOf l) ≡ true → isEmpty (originsOf l) ≡ false
 origins-some o [] h = absurd (false≢true h)
 origins-some o (e ∷ l) h = refl
 
@@ -44,14 +44,14 @@ module _ (t : Table) (sd : Shaped t) (i k : ℕ) (s : State) (r : ℕ) (ps : Lis
   abbrev pub os : List ℕ
   os = ownersAt s ps
 
-  abbrev pub theDeed : Deed
+  abbrev theDeed : Deed
   theDeed = deedAt t i k s (react r ps)
 
-  abbrev pub inOs : Entry → Bool
+  abbrev inOs : Entry → Bool
   inOs e = isMemberMark e && isIn (e .owner) os
 
   -- the members of a reaction in transactions: the marks there
-  pub inner-marks : touched t s (react r ps) ≡ os → All (λ o. MarkAt (astep t (view s) theDeed .cell) o (least (touched t s (react r ps)))) (marksIn os s)
+  inner-marks : touched t s (react r ps) ≡ os → All (λ o. MarkAt (astep t (view s) theDeed .cell) o (least (touched t s (react r ps)))) (marksIn os s)
   unfolding astep
   inner-marks q = All-unmap (λ e. e .origin) (λ o. MarkAt (astep t (view s) theDeed .cell) o (least (touched t s (react r ps)))) (keep inOs (s .entries))
       (All-keep (λ e. MarkAt (astep t (view s) theDeed .cell) (e .origin) (least (touched t s (react r ps)))) inOs (s .entries)
@@ -66,11 +66,11 @@ module _ (t : Table) (sd : Shaped t) (i k : ℕ) (s : State) (r : ℕ) (ps : Lis
           (λ x. absurd (false≢true x)) (view-look s (e .origin) e h) (eqb-true (e .kind) 3 (and-left (isMemberMark e) (isIn (e .owner) os) z)) in
           (m .0, m .1, m .2, m .3 ∙ rw w)
 
-  pub begin-marks : begins R ≡ true → MarkAt (astep t (view s) theDeed .cell) (firstOf i) (least (touched t s (react r ps)))
+  begin-marks : begins R ≡ true → MarkAt (astep t (view s) theDeed .cell) (firstOf i) (least (touched t s (react r ps)))
   unfolding astep
   begin-marks b = mark-made t sd (view s .cell) theDeed (received (view s) theDeed) (react r ps) b (K .fresh (firstOf i) refl)
 
-  pub inner-some : begins R ≡ false → touched t s (react r ps) ≡ os → isEmpty os ≡ false → isEmpty (marksIn os s) ≡ false
+  inner-some : begins R ≡ false → touched t s (react r ps) ≡ os → isEmpty os ≡ false → isEmpty (marksIn os s) ≡ false
   inner-some b q n =
       let h : isIn (least os) (touched t s (react r ps)) ≡ true = subst (λ (x : List ℕ). isIn (least os) x ≡ true) (sym q) (least-full os n) in
       let l = touched-live t sd (view s) theDeed K b (least os) h in
@@ -87,16 +87,16 @@ module _ (t : Table) (sd : Shaped t) (i k : ℕ) (s : State) (r : ℕ) (ps : Lis
       there o e h k w = let v = view-some s o e h in seen o e (v .0) (v .1) (v .2) k w
 
   -- what a reaction's members are, by the sort of its rule
-  pub members-plain : R .class ≡ 0 → begins R ≡ false → membersOf t i s (react r ps) ≡ []
+  members-plain : R .class ≡ 0 → begins R ≡ false → membersOf t i s (react r ps) ≡ []
   members-plain c b = rw (b, c)
 
-  pub members-begin : begins R ≡ true → count (hasRole 1) (R .atoms) ≡ 0 → membersOf t i s (react r ps) ≡ firstOf i ∷ []
+  members-begin : begins R ≡ true → count (hasRole 1) (R .atoms) ≡ 0 → membersOf t i s (react r ps) ≡ firstOf i ∷ []
   members-begin b n = rw (b, n)
 
-  pub members-inner : eqb (R .class) 0 ≡ false → begins R ≡ false → membersOf t i s (react r ps) ≡ marksIn os s
+  members-inner : eqb (R .class) 0 ≡ false → begins R ≡ false → membersOf t i s (react r ps) ≡ marksIn os s
   members-inner c b = rw (b, c)
 
-  pub marked-react : isEmpty (consumed R) ≡ true ⊎ (isEmpty os ≡ false) → Marked t (view s) theDeed
+  marked-react : isEmpty (consumed R) ≡ true ⊎ (isEmpty os ≡ false) → Marked t (view s) theDeed
   unfolding touched astep
   marked-react ne _ = go (sd r)
     where
@@ -118,14 +118,14 @@ module _ (t : Table) (sd : Shaped t) (i k : ℕ) (s : State) (r : ℕ) (ps : Lis
           full (inl x) y = absurd (clash x y)
           full (inr x) y = x
 
-pub marked-of : (t : Table) → Shaped t → (i k : ℕ) (s : State) (m : Move) → Uniq (s .entries) → Good i (view s) → Ok t (view s) (deedAt t i k s m)
+marked-of : (t : Table) → Shaped t → (i k : ℕ) (s : State) (m : Move) → Uniq (s .entries) → Good i (view s) → Ok t (view s) (deedAt t i k s m)
     → allowed t s m ≡ Allowed → Marked t (view s) (deedAt t i k s m)
 marked-of t sd i k s (react r ps) u g K h = marked-react t sd i k s r ps u g K
     (by-bool (isEmpty (consumed (ruleAt t r))) (λ n. inl n) (λ n. inr (ports-some (consumed (ruleAt t r)) (picked s ps) n (react-passes t s r ps h .ports))))
 marked-of t sd i k s (commit b) u g K h = λ z. absurd (true≢false z)
 marked-of t sd i k s (abort b) u g K h = λ z. absurd (true≢false z)
 
-pub first-of : (t : Table) → Shaped t → (i : ℕ) (s : State) (m : Move) → begun t m ≡ true → membersOf t i s m ≡ firstOf i ∷ []
+first-of : (t : Table) → Shaped t → (i : ℕ) (s : State) (m : Move) → begun t m ≡ true → membersOf t i s m ≡ firstOf i ∷ []
 first-of t sd i s (react r ps) h = go (sd r)
   where
     go : Shape (ruleAt t r) → membersOf t i s (react r ps) ≡ firstOf i ∷ []

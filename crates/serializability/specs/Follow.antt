@@ -51,7 +51,7 @@ place-length t i F G [] ys a r = let w = r .0 .step .place in omega arith
 place-length t i F G (x ∷ xs) ys a r = let w = place-length t (suc i) (astep t F x) G xs ys a (r .1) in omega arith
 
 module _ (t : Table) (sd : Shaped t) (G : Seen) (a : Deed) (ys : List Deed) where
-  pub place-ge : (i : ℕ) (F : Seen) (xs : List Deed) → LogRuns t i F (xs ++ a ∷ ys) G → i ≤ a .place
+  place-ge : (i : ℕ) (F : Seen) (xs : List Deed) → LogRuns t i F (xs ++ a ∷ ys) G → i ≤ a .place
   place-ge i F xs r = let w = place-length t i F G xs ys a r in omega arith
 
   -- only a commit or abort ends a transaction

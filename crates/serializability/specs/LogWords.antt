@@ -29,33 +29,33 @@ Holdable t (abort b) = (1 ≤ b) × (b ≤ 65535)
 
 -- ---- heads
 
-pub head-kind : (k n : ℕ) → n < 2 ^ 24 → headKind (headWord k n) ≡ k
+head-kind : (k n : ℕ) → n < 2 ^ 24 → headKind (headWord k n) ≡ k
 head-kind k n h = omega arith
 
-pub head-number : (k n : ℕ) → n < 2 ^ 24 → headNumber (headWord k n) ≡ n
+head-number : (k n : ℕ) → n < 2 ^ 24 → headNumber (headWord k n) ≡ n
 head-number k n h = omega arith
 
 -- ---- picks
 
-pub four-length : (ps : List ℕ) → length (take 4 (ps ++ replicate 4 0)) ≡ 4
+four-length : (ps : List ℕ) → length (take 4 (ps ++ replicate 4 0)) ≡ 4
 four-length ps = let a = length-take 4 (ps ++ replicate 4 0) in let b = length-append ps (replicate 4 0) in omega arith
 
-pub fourPicks-length : (m : Move) → length (fourPicks m) ≡ 4
+fourPicks-length : (m : Move) → length (fourPicks m) ≡ 4
 fourPicks-length (react r ps) = four-length ps
 fourPicks-length (commit b) = refl
 fourPicks-length (abort b) = refl
 
-pub zeros-take : (k j : ℕ) → all isZero (take k (replicate j 0)) ≡ true
+zeros-take : (k j : ℕ) → all isZero (take k (replicate j 0)) ≡ true
 zeros-take zero j = refl
 zeros-take (suc k) zero = refl
 zeros-take (suc k) (suc j) = zeros-take k j
 
-pub rest-zero : (ps : List ℕ) (k j : ℕ) → all isZero (drop (length ps) (take k (ps ++ replicate j 0))) ≡ true
+rest-zero : (ps : List ℕ) (k j : ℕ) → all isZero (drop (length ps) (take k (ps ++ replicate j 0))) ≡ true
 rest-zero [] k j = zeros-take k j
 rest-zero (p ∷ ps) zero j = refl
 rest-zero (p ∷ ps) (suc k) j = rest-zero ps k j
 
-pub picks-back : (ps : List ℕ) → length ps ≤ 4 → take (length ps) (take 4 (ps ++ replicate 4 0)) ≡ ps
+picks-back : (ps : List ℕ) → length ps ≤ 4 → take (length ps) (take 4 (ps ++ replicate 4 0)) ≡ ps
 picks-back ps h = take-take (length ps) 4 (ps ++ replicate 4 0) h ∙ take-at ps (replicate 4 0) (length ps) refl
 
 -- ---- a move's words
@@ -80,10 +80,10 @@ words-back t (abort b) (l, h) = let k = head-kind 2 b (omega arith) in let q = h
 -- ---- the columns of a log
 
 -- the words of the move at place i, from the two columns
-abbrev pub fromColumns : List Move → ℕ → List ℕ
+abbrev fromColumns : List Move → ℕ → List ℕ
 fromColumns ms i = getD (map headOf ms) i 0 ∷ take 4 (drop (4 * i) (allPicks ms))
 
-pub columns : (ms : List Move) → map (fromColumns ms) (upFrom 0 (length ms)) ≡ map moveWords ms
+columns : (ms : List Move) → map (fromColumns ms) (upFrom 0 (length ms)) ≡ map moveWords ms
 columns [] = refl
 columns (m ∷ ms) = λ j. (headOf m ∷ take-at (fourPicks m) (allPicks ms) 4 (fourPicks-length m) j) ∷ rest (columns ms) j
   where
@@ -107,7 +107,7 @@ pub log-length : (ms : List Move) → length (logWords ms) ≡ 1 + 5 * length ms
 unfolding logWords
 log-length ms = let a = length-append (map headOf ms) (allPicks ms) in let b = length-map ms headOf in let c = picks-length ms in omega arith
 
-pub log-count : (ms : List Move) → moveCount (logWords ms) ≡ length ms
+log-count : (ms : List Move) → moveCount (logWords ms) ≡ length ms
 unfolding logWords
 log-count ms = refl
 

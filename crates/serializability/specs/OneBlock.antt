@@ -30,18 +30,18 @@ use Rattle.serializability.specs.Blocks.{shares, end-member, same-block}
 -- ---- one place of a log
 
 module _ (t : Table) (G : Seen) where
-  pub place-none : (ys : List Deed) (j : ℕ) (F : Seen) (k : ℕ) → LogRuns t j F ys G → k < j → count (λ a. eqb k (a .place)) ys ≡ 0
+  place-none : (ys : List Deed) (j : ℕ) (F : Seen) (k : ℕ) → LogRuns t j F ys G → k < j → count (λ a. eqb k (a .place)) ys ≡ 0
   place-none [] j F k r l = refl
   place-none (y ∷ ys) j F k r l = let w = r .0 .step .place in rw (ne-eqb k (y .place) (λ q. omega arith), place-none ys (suc j) (astep t F y) k (r .1) (omega arith))
 
-  pub place-once : (ys : List Deed) (j : ℕ) (F : Seen) (k : ℕ) → LogRuns t j F ys G → j ≤ k → k < j + length ys → count (λ a. eqb k (a .place)) ys ≡ 1
+  place-once : (ys : List Deed) (j : ℕ) (F : Seen) (k : ℕ) → LogRuns t j F ys G → j ≤ k → k < j + length ys → count (λ a. eqb k (a .place)) ys ≡ 1
   place-once [] j F k r l h = absurd (omega arith)
   place-once (y ∷ ys) j F k r l h = by-bool (eqb k (y .place))
       (λ q. let w = r .0 .step .place in let z = eqb-true k (y .place) q in rw (q, place-none ys (suc j) (astep t F y) k (r .1) (omega arith)))
       (λ q. let w = r .0 .step .place in let z = eqb-false k (y .place) q in rw (q, place-once ys (suc j) (astep t F y) k (r .1) (omega arith) (omega arith)))
 
 -- an end removes its members' marks
-pub removed : (t : Table) (F : Seen) (b : Deed) → Ok t F b → isEnd (b .move) ≡ true → (o : Origin) → isInO o (b .members) ≡ true → astep t F b .cell o ≡ none
+removed : (t : Table) (F : Seen) (b : Deed) → Ok t F b → isEnd (b .move) ≡ true → (o : Origin) → isInO o (b .members) ≡ true → astep t F b .cell o ≡ none
 unfolding astep
 removed t F b k en o h =
     let E = end-ok t F b k en in
@@ -50,7 +50,7 @@ removed t F b k en o h =
 
 module _ (t : Table) (sd : Shaped t) (G : Seen) where
   -- x shares no member with an end before it
-  pub ended-before : (i : ℕ) (F : Seen) (b : Deed) (zs ys : List Deed) (x : Deed) → Good i F → LogRuns t i F (b ∷ zs ++ x ∷ ys) G → isEnd (x .move) ≡ false
+  ended-before : (i : ℕ) (F : Seen) (b : Deed) (zs ys : List Deed) (x : Deed) → Good i F → LogRuns t i F (b ∷ zs ++ x ∷ ys) G → isEnd (x .move) ≡ false
       → endsMemberOf (actOf x) (actOf b) ≡ false
   ended-before i F b zs ys x g r nx = is-false (endsMemberOf (actOf x) (actOf b)) (λ h.
       let en = and-left (isEnd (b .move)) (belongsTo (actOf b) (actOf x)) h in
@@ -71,7 +71,7 @@ module _ (t : Table) (sd : Shaped t) (G : Seen) where
           × (MarkAt (astep t (seenAfter t (astep t F b) zs) x .cell) o (least (x .touched))) → ⊥
       go en (o, z, (e, p, k, w)) = none-some (sym (gone o en z) ∙ p)
 
-  pub none-before : (xs : List Deed) (i : ℕ) (F : Seen) (x : Deed) (ys : List Deed) → Good i F → LogRuns t i F (xs ++ x ∷ ys) G → isEnd (x .move) ≡ false
+  none-before : (xs : List Deed) (i : ℕ) (F : Seen) (x : Deed) (ys : List Deed) → Good i F → LogRuns t i F (xs ++ x ∷ ys) G → isEnd (x .move) ≡ false
       → All (λ b. endsMemberOf (actOf x) (actOf b) ≡ false) xs
   none-before [] i F x ys g r nx = tt
   none-before (b ∷ xs) i F x ys g r nx = (
@@ -81,7 +81,7 @@ module _ (t : Table) (sd : Shaped t) (G : Seen) where
   )
 
   -- the commit or abort after x with which it shares a member is the one at the place of its key
-  pub after-key : (i : ℕ) (F : Seen) (x : Deed) (zs : List Deed) (ys : List Deed) → Good i F → LogRuns t i F (x ∷ zs ++ ys) G → isEnd (x .move) ≡ false
+  after-key : (i : ℕ) (F : Seen) (x : Deed) (zs : List Deed) (ys : List Deed) → Good i F → LogRuns t i F (x ∷ zs ++ ys) G → isEnd (x .move) ≡ false
       → isEmpty (x .touched) ≡ false
       → All (λ a. endsMemberOf (actOf x) (actOf a) ≡ eqb (x .key) (a .place)) ys
   after-key i F x zs [] g r nx ne = tt
@@ -93,7 +93,7 @@ module _ (t : Table) (sd : Shaped t) (G : Seen) where
     after-key i F x (zs ++ a ∷ []) ys g (subst (λ (l : List Deed). LogRuns t i F (x ∷ l) G) (sym (append-assoc zs (a ∷ []) ys)) r) nx ne,
   )
 
-  pub one-after : (i : ℕ) (F : Seen) (x : Deed) (ys : List Deed) → Good i F → LogRuns t i F (x ∷ ys) G → NoneOpen G → isEnd (x .move) ≡ false
+  one-after : (i : ℕ) (F : Seen) (x : Deed) (ys : List Deed) → Good i F → LogRuns t i F (x ∷ ys) G → NoneOpen G → isEnd (x .move) ≡ false
       → isEmpty (x .touched) ≡ false → count (λ a. endsMemberOf (actOf x) (actOf a)) ys ≡ 1
   one-after i F x ys g r n nx ne =
       count-same (λ a. endsMemberOf (actOf x) (actOf a)) (λ a. eqb (x .key) (a .place)) ys (after-key i F x [] ys g r nx ne)

@@ -6,17 +6,17 @@ use Rattle.lists.specs.Lists.{any, keep, keepIf}
 use Rattle.lists.specs.Parts.{keep-append}
 use Rattle.semantics.specs.Serial.{Act, isEnd, isInner, sameOrigin, belongsTo, block, ordered}
 
-pub ordered-append : (us xs zs : List Act) → ordered us (xs ++ zs) ≡ ordered us xs ++ ordered (us ++ xs) zs
+ordered-append : (us xs zs : List Act) → ordered us (xs ++ zs) ≡ ordered us xs ++ ordered (us ++ xs) zs
 ordered-append us [] zs = ap (λ (l : List Act). ordered l zs) (sym (append-nil us))
 ordered-append us (x ∷ xs) zs =
     ap (λ (l : List Act). block us x ++ l) (ordered-append (us ++ x ∷ []) xs zs
     ∙ ap (λ (l : List Act). ordered (us ++ x ∷ []) xs ++ ordered l zs) (append-assoc us (x ∷ []) xs))
     ∙ sym (append-assoc (block us x) (ordered (us ++ x ∷ []) xs) (ordered (us ++ x ∷ xs) zs))
 
-pub end-outer : (a : Act) → isEnd (a .move) ≡ true → isInner a ≡ false
+end-outer : (a : Act) → isEnd (a .move) ≡ true → isInner a ≡ false
 end-outer a h = rw h
 
-pub block-outer : (xs : List Act) (a : Act) → isInner a ≡ false → block xs a ≡ keep (belongsTo a) xs ++ a ∷ []
+block-outer : (xs : List Act) (a : Act) → isInner a ≡ false → block xs a ≡ keep (belongsTo a) xs ++ a ∷ []
 block-outer xs a h = rw h
 
 pub block-there : (xs ys : List Act) (a : Act) → isEnd (a .move) ≡ true
@@ -28,10 +28,10 @@ block-there xs ys a h = (
       ∙ append-assoc (keep (belongsTo a) xs) (a ∷ []) (ordered (xs ++ a ∷ []) ys)),
 )
 
-abbrev pub isOuter : Act → Bool
+abbrev isOuter : Act → Bool
 isOuter a = not (isInner a)
 
-pub outer-none : (a : Act) (xs : List Act) → keep isOuter (keep (belongsTo a) xs) ≡ []
+outer-none : (a : Act) (xs : List Act) → keep isOuter (keep (belongsTo a) xs) ≡ []
 outer-none a [] = refl
 outer-none a (x ∷ xs) = go (isInner x) refl (any (λ o. any (sameOrigin o) (a .members)) (x .members)) (outer-none a xs)
   where
@@ -40,7 +40,7 @@ outer-none a (x ∷ xs) = go (isInner x) refl (any (λ o. any (sameOrigin o) (a 
     go true q false ih = ih
     go false q c ih = ih
 
-pub outer-block : (us : List Act) (a : Act) → keep isOuter (block us a) ≡ keepIf (isOuter a) a []
+outer-block : (us : List Act) (a : Act) → keep isOuter (block us a) ≡ keepIf (isOuter a) a []
 outer-block us a = go (isInner a) refl
   where
     go : (b : Bool) → isInner a ≡ b → keep isOuter (cond b [] (keep (belongsTo a) us ++ a ∷ [])) ≡ keepIf (not b) a []

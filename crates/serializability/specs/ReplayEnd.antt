@@ -28,7 +28,7 @@ use Rattle.serializability.specs.Named.{OwnMark, Named}
 use Rattle.serializability.specs.Rename.{rename, Live, Rel, there, back-again, live-zero}
 
 -- a function on the origins of a list
-pub value-of : (f : Origin → ℕ) (o : Origin) (os : List Origin) → isInO o os ≡ true → isIn (f o) (map f os) ≡ true
+value-of : (f : Origin → ℕ) (o : Origin) (os : List Origin) → isInO o os ≡ true → isIn (f o) (map f os) ≡ true
 value-of f o [] h = absurd (false≢true h)
 value-of f o (q ∷ os) h = go (sameOrigin o q) refl h (value-of f o os)
   where
@@ -36,7 +36,7 @@ value-of f o (q ∷ os) h = go (sameOrigin o q) refl h (value-of f o os)
     go true p w ih = subst (λ (z : Origin). isIn (f o) (f z ∷ map f os) ≡ true) (same-eq o q p) (isIn-head (f o) (map f os))
     go false p w ih = isIn-cons (f o) (f q) (map f os) (ih w)
 
-pub value-from : (f : Origin → ℕ) (v : ℕ) (os : List Origin) → isIn v (map f os) ≡ true → (o : Origin) × (isInO o os ≡ true) × (f o ≡ v)
+value-from : (f : Origin → ℕ) (v : ℕ) (os : List Origin) → isIn v (map f os) ≡ true → (o : Origin) × (isInO o os ≡ true) × (f o ≡ v)
 value-from f v [] h = absurd (false≢true h)
 value-from f v (q ∷ os) h = go (value-from f v os) (isIn-cases v (f q) (map f os) h)
   where
@@ -62,15 +62,15 @@ module _ (c : State) (F : Seen) (ρ : ℕ → ℕ) (rel : Rel c F ρ) (N : Named
   pub live : Live F b
   live = inr (mark-there .0, mark-there .1, mark-there .2, mark-there .4)
 
-  pub positive′ : b′ ≡ 0 → ⊥
+  positive′ : b′ ≡ 0 → ⊥
   positive′ z = positive (live-zero c F ρ rel b live z)
 
   -- the entries of b′ are those of b
-  pub theirs : (o : Origin) (d : Entry) → look o (c .entries) ≡ some d → d .owner ≡ b′ → (e : Entry) × (F .cell o ≡ some e) × (e .owner ≡ b) × (rename ρ e ≡ strip d)
+  theirs : (o : Origin) (d : Entry) → look o (c .entries) ≡ some d → d .owner ≡ b′ → (e : Entry) × (F .cell o ≡ some e) × (e .owner ≡ b) × (rename ρ e ≡ strip d)
   theirs o d h w = let q = back-again c F ρ rel o d h in
       (q .0, q .1, rel .inj (q .0 .owner) b (inr (o, q .0, q .1, refl)) live (ap (λ (x : Entry). x .owner) (q .2) ∙ w), q .2)
 
-  pub ours : (o : Origin) (e : Entry) → F .cell o ≡ some e → e .owner ≡ b → (d : Entry) × (look o (c .entries) ≡ some d) × (d .owner ≡ b′) × (strip d ≡ rename ρ e)
+  ours : (o : Origin) (e : Entry) → F .cell o ≡ some e → e .owner ≡ b → (d : Entry) × (look o (c .entries) ≡ some d) × (d .owner ≡ b′) × (strip d ≡ rename ρ e)
   ours o e h w = let q = there c F ρ rel o e h in (q .0, q .1, ap (λ (x : Entry). x .owner) (q .2) ∙ ap ρ w, q .2)
 
   pub own-there : OwnMark (c .entries) b′
@@ -80,10 +80,10 @@ module _ (c : State) (F : Seen) (ρ : ℕ → ℕ) (rel : Rel c F ρ) (N : Named
   -- ---- the same members
 
   -- a mark of b′ is one of the end's picks
-  pub mark-picked : (o : Origin) (d : Entry) → look o (c .entries) ≡ some d → d .kind ≡ 3 → d .owner ≡ b′ → isInO o (a .picks) ≡ true
+  mark-picked : (o : Origin) (d : Entry) → look o (c .entries) ≡ some d → d .kind ≡ 3 → d .owner ≡ b′ → isInO o (a .picks) ≡ true
   mark-picked o d h k w = let q = theirs o d h w in E .all-marks o (q .0) (q .1) (q .2) (ap (λ (x : Entry). x .kind) (q .3) ∙ k)
 
-  pub picked-mark : (o : Origin) → isInO o (a .picks) ≡ true → (d : Entry) × (look o (c .entries) ≡ some d) × (d .kind ≡ 3) × (d .owner ≡ b′)
+  picked-mark : (o : Origin) → isInO o (a .picks) ≡ true → (d : Entry) × (look o (c .entries) ≡ some d) × (d .kind ≡ 3) × (d .owner ≡ b′)
   picked-mark o h =
       let q = found-at (F .cell) (markOf b) o (a .picks) (E .es) (E .found) (E .marks) h in
       let d = ours o (q .0) (q .1) (eqb-true (q .0 .owner) b (and-right (isMemberMark (q .0)) (owned b (q .0)) (q .2))) in
@@ -143,7 +143,7 @@ module _ (c : State) (F : Seen) (ρ : ℕ → ℕ) (rel : Rel c F ρ) (N : Named
   -- ---- the cells afterwards
 
   module _ (k : ℕ) (kl : k < 2) where
-    pub left-rename : (x : Option Entry) → ((e : Entry) → x ≡ some e → Live F (e .owner)) → bindO (left k b′) (omap (rename ρ) x) ≡ omap (rename ρ) (bindO (left k b) x)
+    left-rename : (x : Option Entry) → ((e : Entry) → x ≡ some e → Live F (e .owner)) → bindO (left k b′) (omap (rename ρ) x) ≡ omap (rename ρ) (bindO (left k b) x)
     left-rename none l = refl
     left-rename (some e) l = rw test (go (owned b e) (eqb (e .kind) k))
       where
@@ -159,7 +159,7 @@ module _ (c : State) (F : Seen) (ρ : ℕ → ℕ) (rel : Rel c F ρ) (N : Named
     abbrev pub afterwards : Seen
     afterwards = record { next = F .next; cell = apply (F .cell) (endAction k (a .touched)) }
 
-    pub still-live : (v : ℕ) → Live afterwards v → Live F v
+    still-live : (v : ℕ) → Live afterwards v → Live F v
     still-live v (inl z) = inl z
     still-live v (inr (o, e, h, w)) = go (F .cell o) refl h
       where

@@ -32,13 +32,13 @@ use Rattle.serializability.specs.Marks.{From, came, owner-live}
 use Rattle.serializability.specs.Fate.{later-le}
 use Rattle.serializability.specs.Rename.{rename, Live, Rel, ports-rename, owners-rename, values-rename, fit-rename, make-rename, cell-rename, back-again, nowAt, picked-again, live-zero}
 
-abbrev pub upd : (ℕ → ℕ) → ℕ → ℕ → ℕ → ℕ
+abbrev upd : (ℕ → ℕ) → ℕ → ℕ → ℕ → ℕ
 upd ρ b n v = cond (eqb v b) n (ρ v)
 
-pub upd-at : (ρ : ℕ → ℕ) (b n : ℕ) → upd ρ b n b ≡ n
+upd-at : (ρ : ℕ → ℕ) (b n : ℕ) → upd ρ b n b ≡ n
 upd-at ρ b n = rw (eq-eqb b b refl)
 
-pub upd-off : (ρ : ℕ → ℕ) (b n v : ℕ) → (v ≡ b → ⊥) → upd ρ b n v ≡ ρ v
+upd-off : (ρ : ℕ → ℕ) (b n v : ℕ) → (v ≡ b → ⊥) → upd ρ b n v ≡ ρ v
 upd-off ρ b n v h = rw (ne-eqb v b h)
 
 module _ (t : Table) (sd : Shaped t) (c : State) (F : Seen) (ρ : ℕ → ℕ) (rel : Rel c F ρ) (a : Deed) (r : ℕ) (ps : List ℕ) (K : Ok t F (withMove a (react r ps))) where
@@ -58,25 +58,25 @@ module _ (t : Table) (sd : Shaped t) (c : State) (F : Seen) (ρ : ℕ → ℕ) (
   qs = nowAt c F ρ rel (a .picks)
 
   -- the owners of the picks, and the transactions touched, by their new names
-  abbrev pub os′ : List ℕ
+  abbrev os′ : List ℕ
   os′ = ownersAt c qs
 
-  abbrev pub bs′ : List ℕ
+  abbrev bs′ : List ℕ
   bs′ = touchedBy R (c .next) os′
 
   pub seen-again : (picked c qs ≡ map (rename ρ) es) × (originsOf (picked c qs) ≡ a .picks) × All (λ p. p < length (c .entries)) qs
   seen-again = picked-again c F ρ rel (a .picks) es (K .found) (ports-messages (consumed R) es (T .0))
 
-  pub fresh-c : (o : Origin) → o .maker ≡ suc (a .place) → look o (c .entries) ≡ none
+  fresh-c : (o : Origin) → o .maker ≡ suc (a .place) → look o (c .entries) ≡ none
   fresh-c o h = is-none (look o (c .entries)) (λ d q. let w = back-again c F ρ rel o d q in none-some (sym (K .fresh o h) ∙ w .1))
 
-  pub owner-of : (v : ℕ) → isIn v (owners es) ≡ true → Live F v
+  owner-of : (v : ℕ) → isIn v (owners es) ≡ true → Live F v
   owner-of v h = inr (owner-live (F .cell) v (a .picks) es (K .found) h)
 
-  pub owners-c : os′ ≡ map ρ (owners es)
+  owners-c : os′ ≡ map ρ (owners es)
   owners-c = ap owners (seen-again .0) ∙ owners-rename ρ es
 
-  pub fit-c : ownersFit (R .class) os′ ≡ true
+  fit-c : ownersFit (R .class) os′ ≡ true
   fit-c = ap (ownersFit (R .class)) owners-c ∙ fit-rename ρ (R .class) (owners es) (rel .zero-is) (λ v q x. live-zero c F ρ rel v (owner-of v q) x) (T .1)
 
   pub passes : ReactGiven R c qs
@@ -93,20 +93,20 @@ module _ (t : Table) (sd : Shaped t) (c : State) (F : Seen) (ρ : ℕ → ℕ) (
 
   -- ---- by the sort of the rule
 
-  pub bs-plain : R .class ≡ 0 → begins R ≡ false → bs ≡ []
+  bs-plain : R .class ≡ 0 → begins R ≡ false → bs ≡ []
   bs-plain c b = T .2 ∙ touched-plain R (least bs) (owners es) c b
 
-  pub bs-begin : begins R ≡ true → bs ≡ least bs ∷ []
+  bs-begin : begins R ≡ true → bs ≡ least bs ∷ []
   bs-begin b = T .2 ∙ touched-begin R (least bs) (owners es) b
 
-  pub bs-inner : eqb (R .class) 0 ≡ false → begins R ≡ false → bs ≡ owners es
+  bs-inner : eqb (R .class) 0 ≡ false → begins R ≡ false → bs ≡ owners es
   bs-inner c b = T .2 ∙ touched-inner R (least bs) (owners es) c b
 
-  pub bs′-inner : eqb (R .class) 0 ≡ false → begins R ≡ false → bs′ ≡ map ρ bs
+  bs′-inner : eqb (R .class) 0 ≡ false → begins R ≡ false → bs′ ≡ map ρ bs
   bs′-inner z b = touched-inner R (c .next) os′ z b ∙ owners-c ∙ ap (map ρ) (sym (bs-inner z b))
 
   -- no transaction keeps none
-  pub none-none : bs ≡ [] → least bs′ ≡ 0
+  none-none : bs ≡ [] → least bs′ ≡ 0
   none-none q = go (sd r)
     where
       go : Shape R → least bs′ ≡ 0
@@ -114,7 +114,7 @@ module _ (t : Table) (sd : Shaped t) (c : State) (F : Seen) (ρ : ℕ → ℕ) (
       go (begin z b h m rest x w k) = absurd (let n : _≡_ {A = List ℕ} [] (least bs ∷ []) = sym q ∙ bs-begin b in let z : _≡_ {A = ℕ} 0 1 = cc in omega arith)
       go (inner z b h k) = ap least (bs′-inner z b) ∙ ap (λ (l : List ℕ). least (map ρ l)) q
 
-  pub old-name : (v : ℕ) → isIn v bs ≡ false → ρ′ v ≡ ρ v
+  old-name : (v : ℕ) → isIn v bs ≡ false → ρ′ v ≡ ρ v
   old-name v h = go bs refl
     where
       go : (l : List ℕ) → bs ≡ l → ρ′ v ≡ ρ v
@@ -123,11 +123,11 @@ module _ (t : Table) (sd : Shaped t) (c : State) (F : Seen) (ρ : ℕ → ℕ) (
           (λ x. let y : v ≡ 0 = eqb-true v (least bs) x ∙ ap least w in rw x (none-none w ∙ sym (rel .zero-is) ∙ ap ρ (sym y)))
           (λ x. rw x)
 
-  pub new-name : ρ′ (least bs) ≡ least bs′
+  new-name : ρ′ (least bs) ≡ least bs′
   new-name = upd-at ρ (least bs) (least bs′)
 
   -- the name of an owner that is there is touched as the owner is
-  pub touched-same : (o : Origin) (e : Entry) → F .cell o ≡ some e → isIn (ρ (e .owner)) bs′ ≡ isIn (e .owner) bs
+  touched-same : (o : Origin) (e : Entry) → F .cell o ≡ some e → isIn (ρ (e .owner)) bs′ ≡ isIn (e .owner) bs
   touched-same o e h = go (sd r)
     where
       v : ℕ
@@ -149,7 +149,7 @@ module _ (t : Table) (sd : Shaped t) (c : State) (F : Seen) (ρ : ℕ → ℕ) (
 
   -- ---- the cells afterwards
 
-  pub kept-entry : (o : Origin) (e : Entry) → F .cell o ≡ some e → merged os′ (rename ρ e) ≡ rename ρ′ (merged bs e)
+  kept-entry : (o : Origin) (e : Entry) → F .cell o ≡ some e → merged os′ (rename ρ e) ≡ rename ρ′ (merged bs e)
   kept-entry o e h = touched-merge R (c .next) os′ (sd r) fit-c (rename ρ e)
       ∙ (λ j. record { origin = e .origin; owner = own-eq j; kind = e .kind; port = e .port; value = e .value })
     where
@@ -160,7 +160,7 @@ module _ (t : Table) (sd : Shaped t) (c : State) (F : Seen) (ρ : ℕ → ℕ) (
   abbrev pub vs : List ℕ
   vs = received F a
 
-  pub made-entries : map strip (productsOf R (suc (a .place)) c qs) ≡ map (rename ρ′) (map strip (make (suc (a .place)) (least bs) vs 0 (productAtoms R)))
+  made-entries : map strip (productsOf R (suc (a .place)) c qs) ≡ map (rename ρ′) (map strip (make (suc (a .place)) (least bs) vs 0 (productAtoms R)))
   made-entries =
       (λ j. map strip (make (suc (a .place)) (sym new-name j)
       ((ap values (seen-again .0) ∙ values-rename ρ es ∙ sym (values-found (F .cell) (a .picks) es (K .found))) j) 0 (productAtoms R)))
@@ -169,7 +169,7 @@ module _ (t : Table) (sd : Shaped t) (c : State) (F : Seen) (ρ : ℕ → ℕ) (
   abbrev pub action : Origin → Option Entry
   action = apply (F .cell) (reactAction R (a .place) (a .picks) bs vs)
 
-  pub cells-after : (o : Origin) → view (reacted R (suc (a .place)) c qs) .cell o ≡ omap (rename ρ′) (action o)
+  cells-after : (o : Origin) → view (reacted R (suc (a .place)) c qs) .cell o ≡ omap (rename ρ′) (action o)
   cells-after o =
       view-cell (reacted R (suc (a .place)) c qs) o
       ∙ ap (omap strip) (look-reacted R (sd r) (suc (a .place)) c qs fit-c (rel .uniq) (seen-again .2) fresh-c o)
@@ -187,23 +187,23 @@ module _ (t : Table) (sd : Shaped t) (c : State) (F : Seen) (ρ : ℕ → ℕ) (
 
   -- ---- the owners afterwards
 
-  abbrev pub Now : ℕ → Type 0
+  abbrev Now : ℕ → Type 0
   Now v = ((v ≡ least bs) × (isIn (least bs) bs ≡ true)) ⊎ (Live F v × (isIn v bs ≡ false))
 
-  pub now-of : (v : ℕ) (o : Origin) → From (F .cell) bs false o v → (v ≡ 0 → ⊥) → Now v
+  now-of : (v : ℕ) (o : Origin) → From (F .cell) bs false o v → (v ≡ 0 → ⊥) → Now v
   now-of v o (inl (d, h, q, x)) n = by-bool (isIn (d .owner) bs)
       (λ y. let w : v ≡ least bs = q ∙ rw y in inl (w, least-pos bs (λ z. n (w ∙ z))))
       (λ y. let w : v ≡ d .owner = q ∙ rw y in inr (inr (o, d, h, sym w), rw w y))
   now-of v o (inr (q, x)) n = inl (q, least-pos bs (λ z. n (q ∙ z)))
 
   -- the name that merged transactions get is that of one of them
-  pub one-of : bs ≡ owners es → isIn (least bs) bs ≡ true → (u : ℕ) × Live F u × (isIn u bs ≡ true) × (ρ u ≡ least (map ρ bs))
+  one-of : bs ≡ owners es → isIn (least bs) bs ≡ true → (u : ℕ) × Live F u × (isIn u bs ≡ true) × (ρ u ≡ least (map ρ bs))
   one-of q i = go (isIn-unmap ρ (least (map ρ bs)) bs (least-some (ρ (least bs)) (map ρ bs) (isIn-map ρ (least bs) bs i)))
     where
       go : (u : ℕ) × (isIn u bs ≡ true) × (ρ u ≡ least (map ρ bs)) → (u : ℕ) × Live F u × (isIn u bs ≡ true) × (ρ u ≡ least (map ρ bs))
       go (u, x, y) = (u, owner-of u (subst (λ (l : List ℕ). isIn u l ≡ true) q x), x, y)
 
-  pub new-apart : isIn (least bs) bs ≡ true → (v : ℕ) → Live F v → isIn v bs ≡ false → least bs′ ≡ ρ v → ⊥
+  new-apart : isIn (least bs) bs ≡ true → (v : ℕ) → Live F v → isIn v bs ≡ false → least bs′ ≡ ρ v → ⊥
   new-apart i v l n h = go (sd r)
     where
       go : Shape R → ⊥
@@ -213,7 +213,7 @@ module _ (t : Table) (sd : Shaped t) (c : State) (F : Seen) (ρ : ℕ → ℕ) (
       go (inner z b x k) = let u = one-of (bs-inner z b) i in clash
           (subst (λ (k : ℕ). isIn k bs ≡ true) (rel .inj (u .0) v (u .1) l (u .3 ∙ sym (ap least (bs′-inner z b)) ∙ h)) (u .2)) n
 
-  pub new-below : isIn (least bs) bs ≡ true → least bs′ < later (begins R) (F .next)
+  new-below : isIn (least bs) bs ≡ true → least bs′ < later (begins R) (F .next)
   new-below i = go (sd r)
     where
       go : Shape R → least bs′ < later (begins R) (F .next)
@@ -223,13 +223,13 @@ module _ (t : Table) (sd : Shaped t) (c : State) (F : Seen) (ρ : ℕ → ℕ) (
       go (inner z b x k) = let u = one-of (bs-inner z b) i in let w = rel .below (u .0) (u .1) in let y : least bs′ ≡ ρ (u .0) = ap least (bs′-inner z b) ∙ sym (u .3) in
           let x = later-le (begins R) (F .next) in omega arith
 
-  pub now-inj : (v w : ℕ) → Now v → Now w → ρ′ v ≡ ρ′ w → v ≡ w
+  now-inj : (v w : ℕ) → Now v → Now w → ρ′ v ≡ ρ′ w → v ≡ w
   now-inj v w (inl p) (inl q) h = p .0 ∙ sym (q .0)
   now-inj v w (inl p) (inr q) h = absurd (new-apart (p .1) w (q .0) (q .1) (sym new-name ∙ ap ρ′ (sym (p .0)) ∙ h ∙ old-name w (q .1)))
   now-inj v w (inr p) (inl q) h = absurd (new-apart (q .1) v (p .0) (p .1) (sym new-name ∙ ap ρ′ (sym (q .0)) ∙ sym h ∙ old-name v (p .1)))
   now-inj v w (inr p) (inr q) h = rel .inj v w (p .0) (q .0) (sym (old-name v (p .1)) ∙ h ∙ old-name w (q .1))
 
-  pub now-below : (v : ℕ) → Now v → ρ′ v < later (begins R) (F .next)
+  now-below : (v : ℕ) → Now v → ρ′ v < later (begins R) (F .next)
   now-below v (inl p) = subst (λ (x : ℕ). x < later (begins R) (F .next)) (sym (ap ρ′ (p .0) ∙ new-name)) (new-below (p .1))
   now-below v (inr p) = let w = rel .below v (p .0) in let x = later-le (begins R) (F .next) in subst (λ (z : ℕ). z < later (begins R) (F .next))
       (sym (old-name v (p .1))) (omega arith)
@@ -237,7 +237,7 @@ module _ (t : Table) (sd : Shaped t) (c : State) (F : Seen) (ρ : ℕ → ℕ) (
   abbrev pub afterwards : Seen
   afterwards = record { next = later (begins R) (F .next); cell = action }
 
-  pub now-live : (v : ℕ) → Live afterwards v → Now v
+  now-live : (v : ℕ) → Live afterwards v → Now v
   unfolding actionBy
   now-live v (inl z) = inr (inl z, rw z (K .noZero))
   now-live v (inr (o, e, h, w)) = by-bool (eqb v 0)

@@ -31,7 +31,7 @@ use Rattle.serializability.specs.LogWords.{moveWords, Holdable, words-ok
 
 -- ---- from words to moves
 
-pub not-ended : {i : ℕ} {r : Refusal} {e : State} → stopped i r ≡ Log.ended e → ⊥
+not-ended : {i : ℕ} {r : Refusal} {e : State} → stopped i r ≡ Log.ended e → ⊥
 not-ended h = let z : _≡_ {A = ℕ} 0 1 = cc in omega arith
 
 pub run-accepted : (ceiling : ℕ) (t : Table) (i : ℕ) (s : State) (ws : List (List ℕ)) (e : State) → run ceiling t i s ws ≡ Log.ended e
@@ -61,7 +61,7 @@ run-accepted ceiling t i s (w ∷ ws) e h = go (λ s′ k. run-accepted ceiling 
 
 -- ---- and back
 
-pub along-head : (p : State → Bool) (t : Table) (i : ℕ) (s : State) (ms : List Move) → all p (along t i s ms) ≡ true → p s ≡ true
+along-head : (p : State → Bool) (t : Table) (i : ℕ) (s : State) (ms : List Move) → all p (along t i s ms) ≡ true → p s ≡ true
 unfolding along
 along-head p t i s [] h = and-left (p s) true h
 along-head p t i s (m ∷ ms) h = and-left (p s) (all p (along t (suc i) (after t (suc i) s m) ms)) h
@@ -89,7 +89,7 @@ accepted-run ceiling t i s (m ∷ ms) e a f h =
 
 module _ (t : Table) (right : TableRight t) (few : length (t .rules) ≤ 64) where
   -- the id of an open transaction of a well-formed state is that of a member
-  pub open-id : (b : ℕ) (s : State) → Sound (t .sizes) s → isOpen b s ≡ true → (1 ≤ b) × (b ≤ 65535)
+  open-id : (b : ℕ) (s : State) → Sound (t .sizes) s → isOpen b s ≡ true → (1 ≤ b) × (b ≤ 65535)
   open-id b s sound o =
       let l = ltb-true 0 b (and-left (ltb 0 b) (any (owned b) (s .entries)) o) in
       let (e, m, w) = any-some (owned b) (s .entries) (and-right (ltb 0 b) (any (owned b) (s .entries)) o) in
@@ -97,7 +97,7 @@ module _ (t : Table) (right : TableRight t) (few : length (t .rules) ≤ 64) whe
       let (d, n, k, x, v) = sound .right .own e m (λ z. omega arith) in
       let y = sound .right .each d n .member-mark k .value-lt in let z = sound .next-high in (omega arith, omega arith)
 
-  pub holdable : (s : State) (m : Move) → allowed t s m ≡ Allowed → Sound (t .sizes) s → RuleKnown t m → Holdable t m
+  holdable : (s : State) (m : Move) → allowed t s m ≡ Allowed → Sound (t .sizes) s → RuleKnown t m → Holdable t m
   holdable s (react r ps) a sound l = let n = picks-length (react-passes t s r ps a) in let f = right .rule r l .consumes-le in (l, omega arith, n, omega arith)
   holdable s (commit b) a sound l = open-id b s sound (commit-passes t s b a .0)
   holdable s (abort b) a sound l = open-id b s sound (abort-passes t s b a .0)

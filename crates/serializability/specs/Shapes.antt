@@ -22,11 +22,11 @@ use Rattle.semantics.specs.declared.Atom.{Atom}
 use Rattle.wellformed.specs.Rules.{RuleRight, TableRight, product-atom, role-begins, begins-global}
 use Rattle.serializability.specs.Rules.{Shape, plain, begin, inner, Shaped}
 
-abbrev pub makes : Atom → Bool
+abbrev makes : Atom → Bool
 makes a = not (hasRole 0 a)
 
 -- without emits, the first atom that makes something is the begin, and the others come after it
-pub begin-first : (m : ℕ) (l : List Atom) → risesFrom m (λ a. a .role) l ≡ true → any (hasRole 2) l ≡ true → any (hasRole 1) l ≡ false → count (hasRole 2) l ≤ 1
+begin-first : (m : ℕ) (l : List Atom) → risesFrom m (λ a. a .role) l ≡ true → any (hasRole 2) l ≡ true → any (hasRole 1) l ≡ false → count (hasRole 2) l ≤ 1
     → (a : Atom) × (rest : List Atom) × (keep makes l ≡ a ∷ rest) × (a .role ≡ 2) × (all (λ b. leb 3 (b .role)) rest ≡ true)
 begin-first m [] h b e c = absurd (false≢true b)
 begin-first m (a ∷ l) h b e c = go (λ b′. begin-first (a .role) l up b′ (or-right-false (hasRole 1 a) (any (hasRole 1) l) e) (omega arith)) (hasRole 0 a) refl
@@ -63,7 +63,7 @@ begin-first m (a ∷ l) h b e c = go (λ b′. begin-first (a .role) l up b′ (
         let y = eqb-true (x .0 .role) 2 (x .1) in let z = x .2 in absurd (omega arith)
 
 module _ {z : Sizes} {R : Rule} (right : RuleRight z R) where
-  pub consumed-some : isEmpty (consumed R) ≡ false
+  consumed-some : isEmpty (consumed R) ≡ false
   consumed-some = go (consumed R) (right .consumes-some)
     where
       go : (l : List ℕ) → 1 ≤ length l → isEmpty l ≡ false
@@ -71,7 +71,7 @@ module _ {z : Sizes} {R : Rule} (right : RuleRight z R) where
       go (x ∷ l) h = refl
 
   -- an atom that makes something in a global rule without begin
-  pub plain-atom : R .class ≡ 0 → begins R ≡ false → (a : Atom) → Among a (productAtoms R) → hasRole 1 a ≡ true
+  plain-atom : R .class ≡ 0 → begins R ≡ false → (a : Atom) → Among a (productAtoms R) → hasRole 1 a ≡ true
   plain-atom c n a m =
       let (r, one) = product-atom right a m in
       let three : 3 ≤ a .role → ⊥ = (λ l. clash (r .begun c l) n) in
@@ -79,7 +79,7 @@ module _ {z : Sizes} {R : Rule} (right : RuleRight z R) where
       eq-eqb (a .role) 1 (omega arith)
 
   -- and in a local or merge rule
-  pub inner-atom : (R .class ≡ 0 → ⊥) → (a : Atom) → Among a (productAtoms R) → (hasRole 1 a || hasRole 5 a) ≡ true
+  inner-atom : (R .class ≡ 0 → ⊥) → (a : Atom) → Among a (productAtoms R) → (hasRole 1 a || hasRole 5 a) ≡ true
   inner-atom c a m = let (r, one) = product-atom right a m in go one (r .inner c)
     where
       go : 1 ≤ a .role → (a .role ≡ 0) ⊎ (a .role ≡ 1) ⊎ (a .role ≡ 5) → (hasRole 1 a || hasRole 5 a) ≡ true
@@ -87,7 +87,7 @@ module _ {z : Sizes} {R : Rule} (right : RuleRight z R) where
       go l (inr (inl q)) = rw (eq-eqb (a .role) 1 q)
       go l (inr (inr q)) = or-right-true (hasRole 1 a) (eq-eqb (a .role) 5 q)
 
-  pub rule-shape : (begins R && emits R) ≡ false → Shape R
+  rule-shape : (begins R && emits R) ≡ false → Shape R
   rule-shape ne = by-bool (begins R) with-begin (λ n. by-bool (eqb (R .class) 0)
       (λ c. let k = eqb-true (R .class) 0 c in plain k n (all-intro (hasRole 1) (productAtoms R) (plain-atom k n)))
       (λ c. inner c n consumed-some (all-intro (λ a. hasRole 1 a || hasRole 5 a) (productAtoms R) (inner-atom (eqb-false (R .class) 0 c)))))
@@ -98,7 +98,7 @@ module _ {z : Sizes} {R : Rule} (right : RuleRight z R) where
           let q = begin-first 0 (R .atoms) (right .rises) b e (right .begins-le) in
           begin (begins-global right b) b (count-none (hasRole 1) (R .atoms) (any-none (hasRole 1) (R .atoms) e)) (q .0) (q .1) (q .2) (q .3) (q .4)
 
-pub any-at : {A : Type 0} (p : A → Bool) (d : A) (l : List A) (r : ℕ) → any p l ≡ false → r < length l → p (getD l r d) ≡ false
+any-at : {A : Type 0} (p : A → Bool) (d : A) (l : List A) (r : ℕ) → any p l ≡ false → r < length l → p (getD l r d) ≡ false
 any-at p d [] r h k = absurd (omega arith)
 any-at p d (x ∷ l) zero h k = or-left-false (p x) (any p l) h
 any-at p d (x ∷ l) (suc r) h k = any-at p d l r (or-right-false (p x) (any p l) h) (omega arith)

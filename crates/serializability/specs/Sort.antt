@@ -19,7 +19,7 @@ abbrev pub Runs : Table → Seen → List Deed → Seen → Type 0
 Runs t F [] G = F ≡ G
 Runs t F (a ∷ xs) G = Ok t F a × Runs t (astep t F a) xs G
 
-abbrev pub ins : Deed → List Deed → List Deed
+abbrev ins : Deed → List Deed → List Deed
 ins m [] = m ∷ []
 ins m (x ∷ xs) = cond (leb (m .key) (x .key)) (m ∷ x ∷ xs) (x ∷ ins m xs)
 
@@ -35,7 +35,7 @@ abbrev pub Pairs : Table → List Deed → Type 0
 Pairs t [] = Unit
 Pairs t (m ∷ xs) = Swaps t m xs × Pairs t xs
 
-pub All-ins : (P : Deed → Type 0) (m : Deed) (xs : List Deed) → P m → All P xs → All P (ins m xs)
+All-ins : (P : Deed → Type 0) (m : Deed) (xs : List Deed) → P m → All P xs → All P (ins m xs)
 All-ins P m [] p h = (p, tt)
 All-ins P m (x ∷ xs) p h = go (leb (m .key) (x .key)) (All-ins P m xs p (h .1))
   where
@@ -48,7 +48,7 @@ All-isort P [] h = tt
 All-isort P (x ∷ xs) h = All-ins P x (isort xs) (h .0) (All-isort P xs (h .1))
 
 module _ (t : Table) (G : Seen) where
-  pub ins-runs : (m : Deed) (xs : List Deed) (F : Seen) → Swaps t m xs → Runs t F (m ∷ xs) G → Runs t F (ins m xs) G
+  ins-runs : (m : Deed) (xs : List Deed) (F : Seen) → Swaps t m xs → Runs t F (m ∷ xs) G → Runs t F (ins m xs) G
   ins-runs m [] F sw r = r
   ins-runs m (x ∷ xs) F sw r = go (λ F′. ins-runs m xs F′ (sw .1)) (leb (m .key) (x .key)) refl
     where
@@ -76,31 +76,31 @@ abbrev pub arrange : ℕ → ℕ → List Deed → List Deed
 arrange e zero xs = []
 arrange e (suc n) xs = keep (keyIs e) xs ++ arrange (suc e) n xs
 
-pub ins-first : (m : Deed) (xs : List Deed) → All (λ x. m .key ≤ x .key) xs → ins m xs ≡ m ∷ xs
+ins-first : (m : Deed) (xs : List Deed) → All (λ x. m .key ≤ x .key) xs → ins m xs ≡ m ∷ xs
 ins-first m [] h = refl
 ins-first m (x ∷ xs) h = rw (le-leb (m .key) (x .key) (h .0))
 
-pub ins-past : (m : Deed) (xs ys : List Deed) → All (λ x. x .key < m .key) xs → ins m (xs ++ ys) ≡ xs ++ ins m ys
+ins-past : (m : Deed) (xs ys : List Deed) → All (λ x. x .key < m .key) xs → ins m (xs ++ ys) ≡ xs ++ ins m ys
 ins-past m [] ys h = refl
 ins-past m (x ∷ xs) ys h = rw (lt-leb (m .key) (x .key) (h .0), ins-past m xs ys (h .1))
 
-pub keep-key : (e : ℕ) (xs : List Deed) → All (λ x. x .key ≡ e) (keep (keyIs e) xs)
+keep-key : (e : ℕ) (xs : List Deed) → All (λ x. x .key ≡ e) (keep (keyIs e) xs)
 keep-key e xs = All-keep (λ x. x .key ≡ e) (keyIs e) xs (each xs)
   where
     each : (xs : List Deed) → All (λ x. keyIs e x ≡ true → x .key ≡ e) xs
     each [] = tt
     each (x ∷ xs) = (eqb-true (x .key) e, each xs)
 
-pub arrange-ge : (n e f : ℕ) (xs : List Deed) → f ≤ e → All (λ x. f ≤ x .key) (arrange e n xs)
+arrange-ge : (n e f : ℕ) (xs : List Deed) → f ≤ e → All (λ x. f ≤ x .key) (arrange e n xs)
 arrange-ge zero e f xs h = tt
 arrange-ge (suc n) e f xs h = All-append (λ x. f ≤ x .key) (keep (keyIs e) xs) (arrange (suc e) n xs)
     (All-map {P = λ x. x .key ≡ e} {Q = λ x. f ≤ x .key} (λ x q. omega arith) (keep (keyIs e) xs) (keep-key e xs)) (arrange-ge n (suc e) f xs (omega arith))
 
-pub arrange-skip : (n e : ℕ) (m : Deed) (xs : List Deed) → m .key < e → arrange e n (m ∷ xs) ≡ arrange e n xs
+arrange-skip : (n e : ℕ) (m : Deed) (xs : List Deed) → m .key < e → arrange e n (m ∷ xs) ≡ arrange e n xs
 arrange-skip zero e m xs h = refl
 arrange-skip (suc n) e m xs h = rw (ne-eqb (m .key) e (λ q. omega arith), arrange-skip n (suc e) m xs (omega arith))
 
-pub arrange-ins : (n e : ℕ) (m : Deed) (xs : List Deed) → e ≤ m .key → m .key < e + n → arrange e n (m ∷ xs) ≡ ins m (arrange e n xs)
+arrange-ins : (n e : ℕ) (m : Deed) (xs : List Deed) → e ≤ m .key → m .key < e + n → arrange e n (m ∷ xs) ≡ ins m (arrange e n xs)
 arrange-ins zero e m xs h k = absurd (omega arith)
 arrange-ins (suc n) e m xs h k = by-bool (eqb (m .key) e)
     (λ q. let w = eqb-true (m .key) e q in
@@ -119,7 +119,7 @@ arrange-ins (suc n) e m xs h k = by-bool (eqb (m .key) e)
           (All-map {P = λ x. x .key ≡ e} {Q = λ x. x .key < m .key} (λ x p. omega arith) (keep (keyIs e) xs) (keep-key e xs)),
     ))
 
-pub arrange-nil : (n e : ℕ) → arrange e n [] ≡ []
+arrange-nil : (n e : ℕ) → arrange e n [] ≡ []
 arrange-nil zero e = refl
 arrange-nil (suc n) e = arrange-nil n (suc e)
 
@@ -129,7 +129,7 @@ arrange-isort n e (m ∷ xs) h = arrange-ins n e m xs (h .0 .0) (h .0 .1) ∙ ap
 
 -- ---- each move once
 
-pub count-ins : (p : Deed → Bool) (m : Deed) (xs : List Deed) → count p (ins m xs) ≡ count p (m ∷ xs)
+count-ins : (p : Deed → Bool) (m : Deed) (xs : List Deed) → count p (ins m xs) ≡ count p (m ∷ xs)
 count-ins p m [] = refl
 count-ins p m (x ∷ xs) = go (leb (m .key) (x .key)) (count-ins p m xs)
   where

@@ -27,7 +27,7 @@ use Rattle.wellformed.specs.Bare.{bareState, allowed-same, applied-same}
 
 -- ---- origins
 
-pub origin-none : (o : Origin) (l : List Entry) → look o l ≡ none → count (λ e. sameOrigin o (e .origin)) l ≡ 0
+origin-none : (o : Origin) (l : List Entry) → look o l ≡ none → count (λ e. sameOrigin o (e .origin)) l ≡ 0
 origin-none o [] h = refl
 origin-none o (e ∷ l) h = go (sameOrigin o (e .origin)) (origin-none o l) h
   where
@@ -60,7 +60,7 @@ log-uniq t sd i s (m ∷ ms) e u g h (suc j) =
 
 -- ---- the states along
 
-pub after-same : (t : Table) (i j : ℕ) (s c : State) (m : Move) → bareState s ≡ bareState c → bareState (after t i s m) ≡ bareState (after t j c m)
+after-same : (t : Table) (i j : ℕ) (s c : State) (m : Move) → bareState s ≡ bareState c → bareState (after t i s m) ≡ bareState (after t j c m)
 unfolding after step
 after-same t i j s c m h = go (allowed t s m) (allowed t c m) (allowed-same s c h t m)
   where

@@ -25,7 +25,7 @@ pub record Swap (t : Table) (m x : Deed) : Type 0 where
   pub earlier : m .place < x .place
   pub back : (o : Origin) → isInO o (m .picks) ≡ true → o .maker ≤ m .place
 
-pub picked-gone : (t : Table) (vs : List ℕ) (a : Deed) (o : Origin) → isEnd (a .move) ≡ false → isInO o (a .picks) ≡ true → actionOf t vs a .gone o ≡ true
+picked-gone : (t : Table) (vs : List ℕ) (a : Deed) (o : Origin) → isEnd (a .move) ≡ false → isInO o (a .picks) ≡ true → actionOf t vs a .gone o ≡ true
 unfolding actionBy
 picked-gone t vs a o = go (a .move)
   where
@@ -42,43 +42,43 @@ module _ (t : Table) (F : Seen) (m x : Deed) (S : Swap t m x) (km : Ok t F m) (k
   unfolding A
   LA = act-local t m (km .es) (received F m) (km .tests)
 
-  pub IA : Inner A (m .touched)
+  IA : Inner A (m .touched)
   unfolding A
   IA = act-inner t m (received F m) (S .reacts) (S .some-touched)
 
-  pub apart′ : (v : ℕ) → isIn v (x .touched) ≡ true → isIn v (m .touched) ≡ true → ⊥
+  apart′ : (v : ℕ) → isIn v (x .touched) ≡ true → isIn v (m .touched) ≡ true → ⊥
   apart′ v h k = S .apart v k h
 
-  pub f1 : Cells
+  f1 : Cells
   f1 = apply (F .cell) A
 
-  pub x-found1 : map f1 (x .picks) ≡ map some (kx .es)
+  x-found1 : map f1 (x .picks) ≡ map some (kx .es)
   unfolding astep f1 A
   x-found1 = kx .found
 
-  pub x-found : map (F .cell) (x .picks) ≡ map some (kx .es)
+  x-found : map (F .cell) (x .picks) ≡ map some (kx .es)
   unfolding f1
   x-found = map-frame f1 (F .cell) (mine (x .touched)) (x .picks) (kx .es)
       (λ o e i h k. frame-back (F .cell) A (m .touched) (m .place) LA IA o e h (not-in (x .touched) (m .touched) e (km .noZero) (S .apart) k))
       x-found1 (kx .own)
 
-  pub m-picked : (o : Origin) → A .gone o ≡ true → (e : Entry) × (F .cell o ≡ some e) × (mine (m .touched) e ≡ true)
+  m-picked : (o : Origin) → A .gone o ≡ true → (e : Entry) × (F .cell o ≡ some e) × (mine (m .touched) e ≡ true)
   unfolding A
   m-picked o h = found-at (F .cell) (mine (m .touched)) o (m .picks) (km .es) (km .found) (km .own) (gone-picked t (received F m) m o h)
 
-  pub keep-x : (o : Origin) (e : Entry) → F .cell o ≡ some e → isIn (e .owner) (x .touched) ≡ true → f1 o ≡ some e
+  keep-x : (o : Origin) (e : Entry) → F .cell o ≡ some e → isIn (e .owner) (x .touched) ≡ true → f1 o ≡ some e
   unfolding f1
   keep-x o e h l = frame-keep (F .cell) A (m .touched) (m .place) LA o e h (is-false (isIn (e .owner) (m .touched)) (λ k. S .apart (e .owner) k l))
       (is-false (A .gone o) (λ k. let q = m-picked o k in
       clash l (subst (λ (z : Entry). isIn (z .owner) (x .touched) ≡ false) (some-inj (sym (q .1) ∙ h))
       (not-in (m .touched) (x .touched) (q .0) (kx .noZero) apart′ (q .2)))))
 
-  pub fresh-x : (o : Origin) → o .maker ≡ suc (x .place) → F .cell o ≡ none
+  fresh-x : (o : Origin) → o .maker ≡ suc (x .place) → F .cell o ≡ none
   unfolding astep f1 A
   fresh-x o h = frame-lives (F .cell) A (m .touched) (m .place) LA IA o (kx .fresh o h)
       (is-false (A .gone o) (λ k. let q = S .back o (gone-picked t (received F m) m o k) in let r = S .earlier in omega arith))
 
-  pub whole-x : Whole t (F .cell) (least (x .touched)) (x .picks) (x .move)
+  whole-x : Whole t (F .cell) (least (x .touched)) (x .picks) (x .move)
   unfolding astep f1 A
   whole-x = go (x .move) (kx .tests) (kx .whole)
     where
@@ -115,7 +115,7 @@ module _ (t : Table) (F : Seen) (m x : Deed) (S : Swap t m x) (km : Ok t F m) (k
     whole = whole-x;
   }
 
-  pub both-apart : Apart m x
+  both-apart : Apart m x
   unfolding f1 A
   both-apart = record { touched = S .apart; picks = both-pick; places = λ q. (let r = S .earlier in omega arith) }
     where
