@@ -14,9 +14,10 @@ use Rattle.semantics.specs.Table.{Table, Rule, ruleAt, consumed, productAtoms}
 use Rattle.semantics.specs.State.{Origin, Entry, isMessage, isAbortMark, isMemberMark, owned}
 use Rattle.semantics.specs.Move.{Move, react, commit, abort, onPorts, ownersFit, merged, toGlobal}
 use Rattle.semantics.specs.Serial.{isEnd}
+use Rattle.serializability.specs.Statement.{isBegin}
 use Rattle.serializability.specs.Base.{isInO, distinctO, look, some-inj, none-some, look-origin, look-all}
 use Rattle.serializability.specs.Rules.{owners, touchedBy, merged-other, merged-in, make, make-all}
-use Rattle.serializability.specs.Key.{Deed, begun}
+use Rattle.serializability.specs.Key.{Deed}
 use Rattle.serializability.specs.Cells.{Cells, Action, apply, mine, Local, Inner}
 
 -- a member mark without its id
@@ -64,7 +65,7 @@ abbrev pub received : Seen → Deed → List ℕ
 received F a = map (λ o. cellValue (F .cell o)) (a .picks)
 
 unfoldable pub astep : Table → Seen → Deed → Seen
-astep t F a = record { next = later (begun t (a .move)) (F .next); cell = apply (F .cell) (actionOf t (received F a) a) }
+astep t F a = record { next = later (isBegin t (a .move)) (F .next); cell = apply (F .cell) (actionOf t (received F a) a) }
 
 -- ---- what allows a move
 
@@ -101,16 +102,16 @@ pub record Ok (t : Table) (F : Seen) (a : Deed) : Type 0 where
   pub tests : Tests t a es (a .move)
   pub own : all (mine (a .touched)) es ≡ true
   pub noZero : isIn 0 (a .touched) ≡ false
-  pub roomy : room (begun t (a .move)) (F .next) ≡ true
+  pub roomy : room (isBegin t (a .move)) (F .next) ≡ true
   pub fresh : (o : Origin) → o .maker ≡ suc (a .place) → F .cell o ≡ none
-  pub unused : begun t (a .move) ≡ true → (o : Origin) (e : Entry) → F .cell o ≡ some e → isIn (e .owner) (a .touched) ≡ false
+  pub unused : isBegin t (a .move) ≡ true → (o : Origin) (e : Entry) → F .cell o ≡ some e → isIn (e .owner) (a .touched) ≡ false
   pub whole : Whole t (F .cell) (least (a .touched)) (a .picks) (a .move)
 
 -- the move a of a log, at place i: a begin gets the next id
 pub record StepOk (t : Table) (i : ℕ) (F : Seen) (a : Deed) : Type 0 where
   pub ok : Ok t F a
   pub place : a .place ≡ i
-  pub tick : begun t (a .move) ≡ true → a .touched ≡ F .next ∷ []
+  pub tick : isBegin t (a .move) ≡ true → a .touched ≡ F .next ∷ []
 
 -- what Ok says of a commit or abort
 pub record EndOk (F : Seen) (a : Deed) : Type 0 where

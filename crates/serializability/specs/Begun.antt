@@ -1,4 +1,4 @@
--- Each member that a commit or abort ends was begun by a move before it: where a member mark comes from.
+-- Each member that a commit or abort ends was isBegin by a move before it: where a member mark comes from.
 use mathlib.Core.Path.{_≡_, refl, sym, ap, subst, _∙_}
 use mathlib.Core.Bool.{Bool, true, false, cond, _&&_}
 use mathlib.Core.Logic.{_⊎_, inl, inr}
@@ -16,10 +16,11 @@ use Rattle.semantics.specs.State.{Origin, Entry, owned}
 use Rattle.semantics.specs.Move.{Move, react, commit, abort, toGlobal}
 use Rattle.semantics.specs.Serial.{isEnd, sameOrigin}
 use Rattle.semantics.specs.declared.Atom.{Atom}
+use Rattle.serializability.specs.Statement.{isBegin}
 use Rattle.serializability.specs.Base.{isInO, isInO-head, look, some-inj, none-some, look-all, same-eq, omap-some}
 use Rattle.serializability.specs.View.{look-map}
 use Rattle.serializability.specs.Rules.{Shape, plain, begin, inner, Shaped, make, make-kinds, kinds-plain, kinds-inner, kinds-rest}
-use Rattle.serializability.specs.Key.{Deed, begun}
+use Rattle.serializability.specs.Key.{Deed}
 use Rattle.serializability.specs.Cells.{Cells, Source, apply-inv}
 use Rattle.serializability.specs.Actions.{Seen, strip, received, left, actionBy, actionOf, astep, end-ok}
 use Rattle.serializability.specs.Marks.{firstOf}
@@ -56,7 +57,7 @@ left-mark k b c d h z = go (owned b c) (eqb (c .kind) k) h
 -- a mark after a move was there before, or the move is its begin
 mark-from : (t : Table) → Shaped t → (f : Cells) (a : Deed) (vs : List ℕ) (mv : Move) (o : Origin) (d : Entry)
     → Source f (actionBy t (a .place) (a .picks) (a .touched) vs mv) o d → d .kind ≡ 3
-    → ((c : Entry) × (f o ≡ some c) × (c .kind ≡ 3)) ⊎ ((begun t mv ≡ true) × (o ≡ firstOf (a .place)))
+    → ((c : Entry) × (f o ≡ some c) × (c .kind ≡ 3)) ⊎ ((isBegin t mv ≡ true) × (o ≡ firstOf (a .place)))
 unfolding actionBy
 mark-from t sd f a vs (react r ps) o d (inl (c, p, g, q)) z = inl (c, p, ap (λ (x : Entry). x .kind) (some-inj q) ∙ z)
 mark-from t sd f a vs (react r ps) o d (inr q) z =
@@ -70,7 +71,7 @@ mark-from t sd f a vs (abort b) o d (inr q) z = absurd (none-some q)
 
 -- the begin among xs of the member o
 abbrev pub begunIn : Table → Origin → List Deed → Bool
-begunIn t o xs = any (λ x. begun t (x .move) && any (sameOrigin o) (x .members)) xs
+begunIn t o xs = any (λ x. isBegin t (x .move) && any (sameOrigin o) (x .members)) xs
 
 mark-source : (t : Table) → Shaped t → (xs : List Deed) (i : ℕ) (F G : Seen) (ys : List Deed) → LogRuns t i F (xs ++ ys) G → (o : Origin) (d : Entry)
     → seenAfter t F xs .cell o ≡ some d → d .kind ≡ 3
@@ -79,13 +80,13 @@ unfolding astep
 mark-source t sd [] i F G ys r o d h z = inl (d, h, z)
 mark-source t sd (x ∷ xs) i F G ys r o d h z = go (mark-source t sd xs (suc i) (astep t F x) G ys (r .1) o d h z)
   where
-    begun-here : (begun t (x .move) ≡ true) × (o ≡ firstOf (x .place)) → begunIn t o (x ∷ xs) ≡ true
+    begun-here : (isBegin t (x .move) ≡ true) × (o ≡ firstOf (x .place)) → begunIn t o (x ∷ xs) ≡ true
     begun-here (b, q) =
         let m : any (sameOrigin o) (x .members) ≡ true = subst (λ (l : List Origin). any (sameOrigin o) l ≡ true) (sym (r .0 .first b))
         (rw q (isInO-head (firstOf (x .place)) [])) in
         rw (b, m)
 
-    two : ((c : Entry) × (F .cell o ≡ some c) × (c .kind ≡ 3)) ⊎ ((begun t (x .move) ≡ true) × (o ≡ firstOf (x .place)))
+    two : ((c : Entry) × (F .cell o ≡ some c) × (c .kind ≡ 3)) ⊎ ((isBegin t (x .move) ≡ true) × (o ≡ firstOf (x .place)))
         → ((c : Entry) × (F .cell o ≡ some c) × (c .kind ≡ 3)) ⊎ (begunIn t o (x ∷ xs) ≡ true)
     two (inl q) = inl q
     two (inr q) = inr (begun-here q)
@@ -93,7 +94,7 @@ mark-source t sd (x ∷ xs) i F G ys r o d h z = go (mark-source t sd xs (suc i)
     go : ((c : Entry) × (astep t F x .cell o ≡ some c) × (c .kind ≡ 3)) ⊎ (begunIn t o xs ≡ true)
         → ((c : Entry) × (F .cell o ≡ some c) × (c .kind ≡ 3)) ⊎ (begunIn t o (x ∷ xs) ≡ true)
     go (inl (c, p, k)) = two (mark-from t sd (F .cell) x (received F x) (x .move) o c (apply-inv (F .cell) (actionOf t (received F x) x) o c p) k)
-    go (inr q) = inr (or-right-true (begun t (x .move) && any (sameOrigin o) (x .members)) q)
+    go (inr q) = inr (or-right-true (isBegin t (x .move) && any (sameOrigin o) (x .members)) q)
 
 -- from a start without marks
 pub begun-before-of : (t : Table) → Shaped t → (xs : List Deed) (F G : Seen) (a : Deed) (ys : List Deed) → Good 0 F

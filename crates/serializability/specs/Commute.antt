@@ -13,9 +13,10 @@ use Rattle.lists.specs.Each.{head-eq, tail-eq}
 use Rattle.semantics.specs.Table.{Table}
 use Rattle.semantics.specs.State.{Origin, Entry}
 use Rattle.semantics.specs.Move.{Move, react, commit, abort}
+use Rattle.serializability.specs.Statement.{isBegin}
 use Rattle.serializability.specs.Base.{orElse, bindO, isInO, look, some-inj, is-none, found-at, map-frame}
 use Rattle.serializability.specs.Rules.{values}
-use Rattle.serializability.specs.Key.{Deed, begun}
+use Rattle.serializability.specs.Key.{Deed}
 use Rattle.serializability.specs.Cells.{Cells, Action, apply, mine, Local, frame-keep, frame-from, not-in, swap-cells}
 use Rattle.serializability.specs.Actions.{Seen, cellValue, received, actionBy, actionOf, astep, later, room, Tests, AllMarks, Whole, Ok, mine-in, one-in, act-local}
 
@@ -104,7 +105,7 @@ module _ (t : Table) (F : Seen) (m x : Deed) (P : Apart m x) (km : Ok t F m) (kx
       clash k (subst (λ (z : Entry). isIn (z .owner) (m .touched) ≡ false) (some-inj (sym (q .1) ∙ h))
       (not-in (x .touched) (m .touched) (q .0) (km .noZero) (P .touched) (q .2)))))
 
-  pub unused-after : begun t (m .move) ≡ true → (o : Origin) (e : Entry) → f2 o ≡ some e → isIn (e .owner) (m .touched) ≡ false
+  pub unused-after : isBegin t (m .move) ≡ true → (o : Origin) (e : Entry) → f2 o ≡ some e → isIn (e .owner) (m .touched) ≡ false
   unused-after p o e h = is-false (isIn (e .owner) (m .touched)) (λ k. clash k (km .unused p o e (theirs-before o e h k)))
 
   pub whole-after : Whole t f2 (least (m .touched)) (m .picks) (m .move)
@@ -122,7 +123,7 @@ module _ (t : Table) (F : Seen) (m x : Deed) (P : Apart m x) (km : Ok t F m) (kx
             (w .1),
       )
 
-  pub ok-after : room (begun t (m .move)) (astep t F x .next) ≡ true → Ok t (astep t F x) m
+  pub ok-after : room (isBegin t (m .move)) (astep t F x .next) ≡ true → Ok t (astep t F x) m
   unfolding astep f2 B
   ok-after rm = record {
     es = km .es;
@@ -145,7 +146,7 @@ module _ (t : Table) (F : Seen) (m x : Deed) (P : Apart m x) (km : Ok t F m) (kx
 -- both orders come to the same
 pub same-either : (t : Table) (F : Seen) (m x : Deed) → Apart m x → Ok t F m → Ok t F x → astep t (astep t F m) x ≡ astep t (astep t F x) m
 unfolding astep
-same-either t F m x P km kx = λ i. record { next = later-comm (begun t (x .move)) (begun t (m .move)) (F .next) i; cell = cells i }
+same-either t F m x P km kx = λ i. record { next = later-comm (isBegin t (x .move)) (isBegin t (m .move)) (F .next) i; cell = cells i }
   where
     picked : (a : Deed) → Ok t F a → (o : Origin) → actionOf t (received F a) a .gone o ≡ true → (e : Entry) × (F .cell o ≡ some e)
     picked a k o h = let q = found-at (F .cell) (mine (a .touched)) o (a .picks) (k .es) (k .found) (k .own) (gone-picked t (received F a) a o h) in (q .0, q .1)

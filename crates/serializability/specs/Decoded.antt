@@ -11,13 +11,13 @@ use Rattle.lists.specs.Counting.{count-map}
 use Rattle.lists.specs.Each.{All, All-unmap, map-split}
 use Rattle.semantics.specs.Table.{Table}
 use Rattle.semantics.specs.State.{Origin, Entry, State, owned, stateWords}
-use Rattle.semantics.specs.Move.{Move, react, commit, abort, applied}
+use Rattle.semantics.specs.Move.{Move, applied}
 use Rattle.semantics.specs.Serial.{Act, beginsEmit, anyOpen, sameOrigin, after, acts, isEnd, isInner, belongsTo, ordered, again, replayed, serial, along}
 use Rattle.serializability.specs.Statement.{Accepted, orderOf, placesOf, stateBefore, SameMove, hasOrigin, noMove, isBegin, endsMemberOf, isGlobal, Serial}
 use Rattle.serializability.specs.View.{Uniq}
 use Rattle.serializability.specs.Rules.{Shaped}
 use Rattle.serializability.specs.Shapes.{table-shaped}
-use Rattle.serializability.specs.Key.{Deed, begun, actOf, deeds, acts-deeds, deeds-length, deeds-places}
+use Rattle.serializability.specs.Key.{Deed, actOf, deeds, acts-deeds, deeds-length, deeds-places}
 use Rattle.serializability.specs.Moves.{after-allowed}
 use Rattle.serializability.specs.Link.{view, Good}
 use Rattle.serializability.specs.Fate.{LogRuns, runs, NoneOpen, pairs}
@@ -74,11 +74,6 @@ replayed-known : (t : Table) (c : State) (xs : List Act) → All (λ a. RuleKnow
 unfolding replayed
 replayed-known t c [] h = tt
 replayed-known t c (a ∷ xs) h = (again-known t c a (a .move) (h .0), replayed-known t (after t (suc (a .place)) c (again c a (a .move))) xs (h .1))
-
-begin-same : (t : Table) (m : Move) → begun t m ≡ isBegin t m
-begin-same t (react r ps) = refl
-begin-same t (commit b) = refl
-begin-same t (abort b) = refl
 
 -- ---- the theorem
 
@@ -173,7 +168,7 @@ module _ (t : Table) (right : TableRight t) (ne : beginsEmit t ≡ false) (s : S
     where
       same : (us : List Deed) → any (λ x. isBegin t (x .move) && any (sameOrigin o) (x .members)) (map actOf us) ≡ begunIn t o us
       same [] = refl
-      same (u ∷ us) = rw (begin-same t (u .move), same us)
+      same (u ∷ us) = rw (same us)
 
       go : (us : List Deed) × (u : Deed) × (vs : List Deed) × (ds ≡ us ++ u ∷ vs) × (map actOf us ≡ xs) × (actOf u ≡ a) × (map actOf vs ≡ ys)
           → any (λ x. isBegin t (x .move) && any (sameOrigin o) (x .members)) xs ≡ true

@@ -16,9 +16,10 @@ use Rattle.lists.specs.Each.{All, All-map, All-two}
 use Rattle.semantics.specs.Table.{Table}
 use Rattle.semantics.specs.State.{Origin, Entry}
 use Rattle.semantics.specs.Serial.{isEnd}
+use Rattle.serializability.specs.Statement.{isBegin}
 use Rattle.serializability.specs.Base.{isInO, found-at}
 use Rattle.serializability.specs.Rules.{Shaped}
-use Rattle.serializability.specs.Key.{Deed, begun, ender, keyOf, ender-ge, key-in, KeyCases, key-cases}
+use Rattle.serializability.specs.Key.{Deed, ender, keyOf, ender-ge, key-in, KeyCases, key-cases}
 use Rattle.serializability.specs.Cells.{Source, apply-inv, mine, frame-from}
 use Rattle.serializability.specs.Actions.{StepOk, Seen, received, actionOf, astep, later, act-local}
 use Rattle.serializability.specs.Link.{Mark, Good}
@@ -35,7 +36,7 @@ pub record LogStep (t : Table) (i : ℕ) (F : Seen) (a : Deed) (xs : List Deed) 
   pub step : StepOk t i F a
   pub key : a .key ≡ keyOf (isEnd (a .move)) i (a .touched) xs
   pub marked : Marked t F a
-  pub first : begun t (a .move) ≡ true → a .members ≡ firstOf (a .place) ∷ []
+  pub first : isBegin t (a .move) ≡ true → a .members ≡ firstOf (a .place) ∷ []
 
 abbrev pub LogRuns : Table → ℕ → Seen → List Deed → Seen → Type 0
 LogRuns t i F [] G = F ≡ G
@@ -54,7 +55,7 @@ later-le false n = omega arith
 
 next-le : (t : Table) (F : Seen) (a : Deed) → F .next ≤ astep t F a .next
 unfolding astep
-next-le t F a = later-le (begun t (a .move)) (F .next)
+next-le t F a = later-le (isBegin t (a .move)) (F .next)
 
 -- ---- a step of a log
 
@@ -64,13 +65,13 @@ module _ (t : Table) (sd : Shaped t) (i : ℕ) (F : Seen) (a : Deed) (g : Good i
 
   touched-bound : (v : ℕ) → isIn v (a .touched) ≡ true → v < astep t F a .next
   unfolding astep
-  touched-bound v h = by-bool (begun t (a .move))
+  touched-bound v h = by-bool (isBegin t (a .move))
       (λ b. let w = isIn-one v (F .next) (subst (λ (l : List ℕ). isIn v l ≡ true) (st .tick b) h) in rw b (omega arith))
       (λ b. let l = touched-live t sd F a (st .ok) b v h in let w = g .below (l .0) (l .1) (l .2) in let x = l .3 in rw b (omega arith))
 
   -- a transaction of an earlier id that a move touches is there already
   old-mark : (v : ℕ) → v < F .next → isIn v (a .touched) ≡ true → Mark (F .cell) v
-  old-mark v lt h = by-bool (begun t (a .move))
+  old-mark v lt h = by-bool (isBegin t (a .move))
       (λ b. let w = isIn-one v (F .next) (subst (λ (l : List ℕ). isIn v l ≡ true) (st .tick b) h) in absurd (omega arith))
       (λ b. let l = touched-live t sd F a (st .ok) b v h in subst (λ (x : ℕ). Mark (F .cell) x) (l .3)
       (g .marks (l .0) (l .1) (l .2) (λ z. not-zero v h (sym (l .3) ∙ z))))
@@ -85,7 +86,7 @@ module _ (t : Table) (sd : Shaped t) (i : ℕ) (F : Seen) (a : Deed) (g : Good i
   -- after a move that is no end, its transaction has a mark
   new-mark : (v : ℕ) → isEnd (a .move) ≡ false → isIn v (a .touched) ≡ true → Mark (astep t F a .cell) (least (a .touched))
   unfolding astep
-  new-mark v e h = by-bool (begun t (a .move))
+  new-mark v e h = by-bool (isBegin t (a .move))
       (λ b. let q = mark-made t sd (F .cell) a (received F a) (a .move) b (st .ok .fresh (firstOf (a .place)) refl) in (firstOf (a .place), q .0, q .1, q .2, q .3))
       (λ b. let l = touched-live t sd F a (st .ok) b v h in
       let m = keeps-mark v (λ z. absurd (clash z e)) (subst (λ (x : ℕ). Mark (F .cell) x) (l .3) (g .marks (l .0) (l .1) (l .2) (λ z. not-zero v h (sym (l .3) ∙ z)))) in
@@ -108,7 +109,7 @@ module _ (t : Table) (sd : Shaped t) (i : ℕ) (F : Seen) (a : Deed) (g : Good i
   pub good-next : Good (suc i) (astep t F a)
   unfolding astep
   good-next = record {
-    pos = let w = later-le (begun t (a .move)) (F .next) in let p = g .pos in omega arith;
+    pos = let w = later-le (isBegin t (a .move)) (F .next) in let p = g .pos in omega arith;
     makers = λ o e h. maker-of o e (apply-inv (F .cell) (actionOf t (received F a) a) o e h);
     below = λ o e h. below-of o e (frame-from (F .cell) (actionOf t (received F a) a) (a .touched) (a .place)
         (act-local t a (st .ok .es) (received F a) (st .ok .tests)) o e h);
@@ -119,12 +120,12 @@ module _ (t : Table) (sd : Shaped t) (i : ℕ) (F : Seen) (a : Deed) (g : Good i
       maker-of o e (inl q) = let w = g .makers o (q .0) (q .1) in omega arith
       maker-of o e (inr q) = let w = act-local t a (st .ok .es) (received F a) (st .ok .tests) .made o e q .0 in omega arith
 
-      below-of : (o : Origin) (e : Entry) → (F .cell o ≡ some e) ⊎ (mine (a .touched) e ≡ true) → e .owner < later (begun t (a .move)) (F .next)
-      below-of o e (inl q) = let w = g .below o e q in let l = later-le (begun t (a .move)) (F .next) in omega arith
+      below-of : (o : Origin) (e : Entry) → (F .cell o ≡ some e) ⊎ (mine (a .touched) e ≡ true) → e .owner < later (isBegin t (a .move)) (F .next)
+      below-of o e (inl q) = let w = g .below o e q in let l = later-le (isBegin t (a .move)) (F .next) in omega arith
       below-of o e (inr q) = two (or-cases (eqb (e .owner) 0) (isIn (e .owner) (a .touched)) q)
         where
-          two : (eqb (e .owner) 0 ≡ true) ⊎ (isIn (e .owner) (a .touched) ≡ true) → e .owner < later (begun t (a .move)) (F .next)
-          two (inl z) = let w = eqb-true (e .owner) 0 z in let l = later-le (begun t (a .move)) (F .next) in let p = g .pos in omega arith
+          two : (eqb (e .owner) 0 ≡ true) ⊎ (isIn (e .owner) (a .touched) ≡ true) → e .owner < later (isBegin t (a .move)) (F .next)
+          two (inl z) = let w = eqb-true (e .owner) 0 z in let l = later-le (isBegin t (a .move)) (F .next) in let p = g .pos in omega arith
           two (inr z) = touched-bound (e .owner) z
 
   -- a transaction of an earlier id that is there after a move: the move left it alone, or it is the one that the others were merged into

@@ -16,11 +16,11 @@ use Rattle.semantics.specs.State.{Origin, Entry, State, isMemberMark}
 use Rattle.semantics.specs.Move.{Move, react, commit, abort, picked, onPorts, ownersAt, allowed, applied}
 use Rattle.semantics.specs.Serial.{originsOf, marksIn, membersOf, after, isEnd}
 use Rattle.semantics.specs.declared.Verdict.the-variants.{Allowed}
-use Rattle.serializability.specs.Statement.{Accepted}
+use Rattle.serializability.specs.Statement.{Accepted, isBegin}
 use Rattle.serializability.specs.Base.{isInO, look}
 use Rattle.serializability.specs.View.{Uniq, look-kept, look-isIn}
 use Rattle.serializability.specs.Rules.{Shape, plain, begin, inner, Shaped, owners, touched-plain, touched-begin, touched-inner}
-use Rattle.serializability.specs.Key.{Deed, begun, touched, deedAt, deeds, keyOf}
+use Rattle.serializability.specs.Key.{Deed, touched, deedAt, deeds, keyOf}
 use Rattle.serializability.specs.Actions.{Seen, strip, received, astep, Ok}
 use Rattle.serializability.specs.Moves.{react-passes, after-allowed}
 use Rattle.serializability.specs.Link.{view, view-look, view-some, Good, sim, all-found}
@@ -125,7 +125,7 @@ marked-of t sd i k s (react r ps) u g K h = marked-react t sd i k s r ps u g K
 marked-of t sd i k s (commit b) u g K h = λ z. absurd (true≢false z)
 marked-of t sd i k s (abort b) u g K h = λ z. absurd (true≢false z)
 
-first-of : (t : Table) → Shaped t → (i : ℕ) (s : State) (m : Move) → begun t m ≡ true → membersOf t i s m ≡ firstOf i ∷ []
+first-of : (t : Table) → Shaped t → (i : ℕ) (s : State) (m : Move) → isBegin t m ≡ true → membersOf t i s m ≡ firstOf i ∷ []
 first-of t sd i s (react r ps) h = go (sd r)
   where
     go : Shape (ruleAt t r) → membersOf t i s (react r ps) ≡ firstOf i ∷ []

@@ -8,7 +8,7 @@ use native.Mathlib.Omega.{arith}
 use lib.ListN.{length}
 use Rattle.lists.specs.Lists.{isEmpty, isIn, least, upFrom}
 use Rattle.lists.specs.Numbers.{least-in}
-use Rattle.semantics.specs.Table.{Table, ruleAt, begins}
+use Rattle.semantics.specs.Table.{Table, ruleAt}
 use Rattle.semantics.specs.State.{Origin, State}
 use Rattle.semantics.specs.Move.{Move, react, commit, abort, picked, ownersAt}
 use Rattle.semantics.specs.Serial.{Act, originsOf, marksIn, membersOf, picksOf, after, acts, isEnd}
@@ -25,11 +25,6 @@ pub record Deed : Type 0 where
 
 abbrev pub withMove : Deed → Move → Deed
 withMove a m = record { place = a .place; key = a .key; move = m; picks = a .picks; touched = a .touched; members = a .members }
-
-abbrev pub begun : Table → Move → Bool
-begun t (react r ps) = begins (ruleAt t r)
-begun t (commit b) = false
-begun t (abort b) = false
 
 -- the transactions that a move touches: the one that it begins, those of its picks, the one that it ends
 unfoldable pub touched : Table → State → Move → List ℕ

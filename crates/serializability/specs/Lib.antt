@@ -1,3 +1,4 @@
+pub mod Statement
 pub mod Base
 pub mod View
 pub mod Rules
@@ -12,7 +13,6 @@ pub mod Moves
 pub mod Link
 pub mod Marks
 pub mod Fate
-pub mod Statement
 pub mod First
 pub mod Ordered
 pub mod Follow

@@ -16,10 +16,11 @@ use Rattle.semantics.specs.State.{Origin, Entry, isMessage, isMemberMark, owned
 use Rattle.semantics.specs.Move.{Move, react, commit, abort, merged, kindMade}
 use Rattle.semantics.specs.Serial.{isEnd}
 use Rattle.semantics.specs.declared.Atom.{Atom}
+use Rattle.serializability.specs.Statement.{isBegin}
 use Rattle.serializability.specs.Base.{orElse, bindO, isInO, look, some-inj, none-some, found-at, same-refl}
 use Rattle.serializability.specs.View.{ports-messages}
 use Rattle.serializability.specs.Rules.{productOf, Shape, plain, begin, inner, Shaped, owners, touched-plain, touched-inner, make}
-use Rattle.serializability.specs.Key.{Deed, begun}
+use Rattle.serializability.specs.Key.{Deed}
 use Rattle.serializability.specs.Cells.{Cells, apply, Source}
 use Rattle.serializability.specs.Actions.{Seen, strip, left, endAction, actionBy, markOf, EndTests, Tests, Ok, product-of, left-result, in-one, end-local}
 use Rattle.serializability.specs.Link.{Mark}
@@ -76,7 +77,7 @@ touched-cases t sd a es r ps T n = go (sd r)
     go (begin c b h m rest q w k) = absurd (clash b n)
     go (inner c b h k) = inr (T .2 ∙ touched-inner (ruleAt t r) (least (a .touched)) (owners es) c b)
 
-pub touched-live : (t : Table) → Shaped t → (F : Seen) (a : Deed) → Ok t F a → begun t (a .move) ≡ false → (v : ℕ) → isIn v (a .touched) ≡ true
+pub touched-live : (t : Table) → Shaped t → (F : Seen) (a : Deed) → Ok t F a → isBegin t (a .move) ≡ false → (v : ℕ) → isIn v (a .touched) ≡ true
     → (o : Origin) × (e : Entry) × (F .cell o ≡ some e) × (e .owner ≡ v)
 touched-live t sd F a k n v h = go (a .move) (k .tests) n
   where
@@ -93,7 +94,7 @@ touched-live t sd F a k n v h = go (a .move) (k .tests) n
     by-react (inl q) = absurd (false≢true (rw q at h))
     by-react (inr q) = owner-live (F .cell) v (a .picks) (k .es) (k .found) (rw q at h)
 
-    go : (mv : Move) → Tests t a (k .es) mv → begun t mv ≡ false → (o : Origin) × (e : Entry) × (F .cell o ≡ some e) × (e .owner ≡ v)
+    go : (mv : Move) → Tests t a (k .es) mv → isBegin t mv ≡ false → (o : Origin) × (e : Entry) × (F .cell o ≡ some e) × (e .owner ≡ v)
     go (react r ps) T z = by-react (touched-cases t sd a (k .es) r ps T z)
     go (commit b) T z = by-end T
     go (abort b) T z = by-end T
@@ -146,7 +147,7 @@ begin-mark R (begin c b h m rest q z k) n i w vs = subst (λ (l : List Atom). (e
       refl,
     )
 
-pub mark-made : (t : Table) → Shaped t → (f : Cells) (a : Deed) (vs : List ℕ) (mv : Move) → begun t mv ≡ true → f (firstOf (a .place)) ≡ none
+pub mark-made : (t : Table) → Shaped t → (f : Cells) (a : Deed) (vs : List ℕ) (mv : Move) → isBegin t mv ≡ true → f (firstOf (a .place)) ≡ none
     → MarkAt (apply f (actionBy t (a .place) (a .picks) (a .touched) vs mv)) (firstOf (a .place)) (least (a .touched))
 unfolding actionBy
 mark-made t sd f a vs (commit b) n fr = absurd (false≢true n)

@@ -1,5 +1,5 @@
 -- Each begin and each reaction made in transactions shares a member with exactly one commit or abort of the log, which stands after it; and each member
--- that a commit or abort ends was begun by a move before it.
+-- that a commit or abort ends was isBegin by a move before it.
 use mathlib.Core.Path.{_≡_, refl, sym, ap, subst, _∙_}
 use mathlib.Core.Bool.{Bool, true, false, not, _&&_}
 use mathlib.Core.Option.{none}

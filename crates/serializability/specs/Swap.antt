@@ -11,8 +11,9 @@ use Rattle.semantics.specs.Table.{Table}
 use Rattle.semantics.specs.State.{Origin, Entry}
 use Rattle.semantics.specs.Move.{Move, react, commit, abort}
 use Rattle.semantics.specs.Serial.{isEnd}
+use Rattle.serializability.specs.Statement.{isBegin}
 use Rattle.serializability.specs.Base.{isInO, look, some-inj, found-at, map-frame}
-use Rattle.serializability.specs.Key.{Deed, begun}
+use Rattle.serializability.specs.Key.{Deed}
 use Rattle.serializability.specs.Cells.{Cells, Action, apply, mine, Local, Inner, frame-keep, frame-back, frame-lives, not-in}
 use Rattle.serializability.specs.Commute.{Apart, room-down, room-up, gone-picked, ok-after, same-either}
 use Rattle.serializability.specs.Actions.{Seen, received, actionBy, actionOf, astep, Tests, AllMarks, Whole, Ok, one-in, act-local, act-inner}
@@ -109,7 +110,7 @@ module _ (t : Table) (F : Seen) (m x : Deed) (S : Swap t m x) (km : Ok t F m) (k
     tests = kx .tests;
     own = kx .own;
     noZero = kx .noZero;
-    roomy = room-down (begun t (x .move)) (begun t (m .move)) (F .next) (kx .roomy);
+    roomy = room-down (isBegin t (x .move)) (isBegin t (m .move)) (F .next) (kx .roomy);
     fresh = fresh-x;
     unused = λ p o e h. is-false (isIn (e .owner) (x .touched)) (λ l. clash l (kx .unused p o e (keep-x o e h l)));
     whole = whole-x;
@@ -128,7 +129,7 @@ module _ (t : Table) (F : Seen) (m x : Deed) (S : Swap t m x) (km : Ok t F m) (k
   -- the first move is allowed after it
   pub ok-m : Ok t (astep t F x) m
   unfolding astep
-  ok-m = ok-after t F m x both-apart km ok-x (room-up (begun t (m .move)) (begun t (x .move)) (F .next) (km .roomy) (kx .roomy))
+  ok-m = ok-after t F m x both-apart km ok-x (room-up (isBegin t (m .move)) (isBegin t (x .move)) (F .next) (km .roomy) (kx .roomy))
 
   -- both orders come to the same
   pub same : astep t (astep t F m) x ≡ astep t (astep t F x) m
