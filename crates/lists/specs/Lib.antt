@@ -21,3 +21,7 @@ pub mod Sift
 pub mod Padded
 pub mod Found
 pub mod Beginning
+pub mod Neither
+pub mod Numbers
+pub mod Each
+pub mod UpFrom

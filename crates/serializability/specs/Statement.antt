@@ -1,0 +1,132 @@
+-- Demand 3: what is promised of every accepted log and its serial log. To believe it, only this file and the definitions of the crate `semantics`
+-- must be believed; all else in this crate is its proof (Demand3.antt has the theorem, Instances.antt applies it to 01's cases).
+use Prim.Native.Nat.{ℕ, zero, suc, _+_, _*_, _≤_, _<_}
+use mathlib.Core.Bool.{Bool, true, false, _&&_, not, cond}
+use mathlib.Core.List.{List, [], _∷_, _++_, map}
+use mathlib.Core.Path.{_≡_}
+use lib.Dec.{eqb}
+use lib.ListN.{length, getD}
+use Rattle.lists.specs.Lists.{all, any, keep, count, least, upFrom}
+use Rattle.semantics.specs.Table.{Table, ruleAt, begins, tableOf}
+use Rattle.semantics.specs.State.{Origin, Entry, State, owned, markValues, stateOf, stateWords}
+use Rattle.semantics.specs.Move.{Move, react, commit, abort, picked, entriesIn, allowed, applied, moveOf}
+use Rattle.semantics.specs.Log.{moveCount, movesOf, logSizesOk, logWords, ended}
+use Rattle.semantics.specs.Serial.{beginsEmit, anyOpen, Act, originsOf, marksIn, after, acts, isEnd, isInner, sameOrigin, belongsTo, ordered, serial, along, fits}
+use Rattle.semantics.specs.Answers.{stateVerdict, runOf, serialOf, write, refuse, runResult, serialResult}
+use Rattle.semantics.specs.declared.Refusal.the-variants.{SerialTooManyEntries}
+use Rattle.semantics.specs.declared.Verdict.the-variants.{Allowed}
+
+-- ---- the words of demand 3
+
+-- each of the moves, the first of place i, is accepted where it is made (refusal 12 left out), and the last one leaves e
+abbrev pub Accepted : Table → ℕ → State → List Move → State → Type 0
+Accepted t i s [] e = s ≡ e
+Accepted t i s (m ∷ ms) e = (allowed t s m ≡ Allowed) × Accepted t (suc i) (applied t (suc i) s m) ms e
+
+-- the log's moves in the serial order, and their places in the log
+abbrev pub orderOf : Table → State → List Move → List Act
+orderOf t s ms = ordered [] (acts t 0 s ms)
+
+abbrev pub placesOf : Table → State → List Move → List ℕ
+placesOf t s ms = map (λ a. a .place) (orderOf t s ms)
+
+-- The state before the j-th of these moves, from s. Each move has its place in the first log for the origins of its products, "wherever it now
+-- stands": places of the log itself are 0, 1, .. , those of the serial log are `placesOf`.
+unfoldable pub stateBefore : Table → List ℕ → State → List Move → ℕ → State
+stateBefore t ps s ms zero = s
+stateBefore t [] s ms (suc j) = s
+stateBefore t (p ∷ ps) s [] (suc j) = s
+stateBefore t (p ∷ ps) s (m ∷ ms) (suc j) = stateBefore t ps (after t (suc p) s m) ms j
+
+-- the members that b has in s are those that b′ has in s′, and b′ is the smallest of the ids that their begins got there
+pub record SameMembers (s s′ : State) (b b′ : ℕ) : Type 0 where
+  pub members : (o : Origin) → any (sameOrigin o) (marksIn (b′ ∷ []) s′) ≡ any (sameOrigin o) (marksIn (b ∷ []) s)
+  pub smallest : b′ ≡ least (markValues (entriesIn b′ s′))
+
+-- A move in the state s, and the same one again in s′: a reaction by the same rule, its picks, in order, on the entries of the same origin; a commit
+-- or abort of the same members.
+pub data SameMove (s s′ : State) : Move → Move → Type 0 where
+  reaction : (r : ℕ) (ps ps′ : List ℕ) → originsOf (picked s′ ps′) ≡ originsOf (picked s ps) → SameMove s s′ (react r ps) (react r ps′)
+  committed : (b b′ : ℕ) → SameMembers s s′ b b′ → SameMove s s′ (commit b) (commit b′)
+  aborted : (b b′ : ℕ) → SameMembers s s′ b b′ → SameMove s s′ (abort b) (abort b′)
+
+abbrev pub hasOrigin : Origin → Entry → Bool
+hasOrigin o e = sameOrigin o (e .origin)
+
+-- stands past the last move
+abbrev pub noMove : Move
+noMove = react 0 []
+
+abbrev pub isBegin : Table → Move → Bool
+isBegin t (react r ps) = begins (ruleAt t r)
+isBegin t (commit b) = false
+isBegin t (abort b) = false
+
+-- a ends a member that x begins, or in whose transaction x is made
+abbrev pub endsMemberOf : Act → Act → Bool
+endsMemberOf x a = isEnd (a .move) && belongsTo a x
+
+-- a global entry of this kind, port and value
+abbrev pub isGlobal : ℕ → ℕ → ℕ → Entry → Bool
+isGlobal kind port value e = owned 0 e && (eqb (e .kind) kind && eqb (e .port) port && eqb (e .value) value)
+
+-- ---- a log of decoded moves ms, accepted from s, and its end e
+
+pub record Serial (t : Table) (s : State) (ms : List Move) (e : State) : Type 0 where
+  -- 1. Each move once: the places of the serial order are 0 to k−1, each as often as there; ..
+  pub once : (p : ℕ → Bool) → count p (placesOf t s ms) ≡ count p (upFrom 0 (length ms))
+  pub size : length (serial t s ms) ≡ length ms
+  -- .. and the j-th move of the serial log is the log's move of the j-th of these places.
+  pub same : (j : ℕ) → j < length ms
+      → SameMove (stateBefore t (upFrom 0 (length ms)) s ms (getD (placesOf t s ms) j 0)) (stateBefore t (placesOf t s ms) s (serial t s ms) j)
+      (getD ms (getD (placesOf t s ms) j 0) noMove) (getD (serial t s ms) j noMove)
+  -- (Origins tell entries apart: in none of these states have two entries the same one. And they change nothing: the second states are those along the
+  -- serial log.)
+  pub origins : (j : ℕ) → j < length ms → (o : Origin)
+      → (count (hasOrigin o) (stateBefore t (upFrom 0 (length ms)) s ms j .entries) ≤ 1) ×
+      (count (hasOrigin o) (stateBefore t (placesOf t s ms) s (serial t s ms) j .entries) ≤ 1)
+  pub states : (j : ℕ) → j ≤ length ms → stateWords (stateBefore t (placesOf t s ms) s (serial t s ms) j) ≡ stateWords (getD (along t 0 s (serial t s ms)) j s)
+  -- 2. Blocks: directly before a commit or abort a stand the begins of the members that it ends and the reactions made in their transactions, in
+  -- log order, with no other move between;
+  pub blocks : (xs ys : List Act) (a : Act) → acts t 0 s ms ≡ xs ++ a ∷ ys → isEnd (a .move) ≡ true
+      → (before : List Act) × (behind : List Act) × (orderOf t s ms ≡ before ++ (keep (belongsTo a) xs ++ a ∷ behind))
+  -- each begin and each reaction made in transactions belongs to one commit or abort of the log, which stands after it;
+  pub one-block : (xs ys : List Act) (x : Act) → acts t 0 s ms ≡ xs ++ x ∷ ys → isInner x ≡ true
+      → (count (endsMemberOf x) (acts t 0 s ms) ≡ 1) × (count (endsMemberOf x) ys ≡ 1)
+  -- each member that a commit or abort ends was begun by a move before it;
+  pub begun-before : (xs ys : List Act) (a : Act) → acts t 0 s ms ≡ xs ++ a ∷ ys → isEnd (a .move) ≡ true
+      → (o : Origin) → any (sameOrigin o) (a .members) ≡ true → any (λ x. isBegin t (x .move) && any (sameOrigin o) (x .members)) xs ≡ true
+  -- and commits, aborts and global reactions without begin keep their order among themselves.
+  pub others : keep (λ a. not (isInner a)) (orderOf t s ms) ≡ keep (λ a. not (isInner a)) (acts t 0 s ms)
+  -- 3. Accepted: every move of the serial log is, and its end has no open transaction and the same global messages, each as often.
+  pub end : State
+  pub accepted : Accepted t 0 s (serial t s ms) end
+  pub closed : anyOpen end ≡ false
+  pub same-messages : (kind port value : ℕ) → count (isGlobal kind port value) (end .entries) ≡ count (isGlobal kind port value) (e .entries)
+
+-- ---- the words
+
+abbrev pub movesIn : List ℕ → List ℕ → List Move
+movesIn T L = map (moveOf (tableOf T)) (movesOf L)
+
+-- every state along the serial log, the start included, has at most so many entries
+abbrev pub roomAlong : ℕ → List ℕ → List ℕ → List ℕ → Bool
+roomAlong ceiling T S L = all (fits ceiling) (along (tableOf T) 0 (stateOf S) (serialOf T S L))
+
+pub record Serializable (ceiling : ℕ) (T S L : List ℕ) (e : State) : Type 0 where
+  -- 1 to 3, of the moves that the words hold
+  pub serial : Serial (tableOf T) (stateOf S) (movesIn T L) e
+  -- 4. Refused exactly when outgrown: with a target of at least 1+5k words the answer is 17 if some state along the serial log has too many entries,
+  -- and the serial log's words otherwise, 1+5k of them; ..
+  pub words : length (logWords (serialOf T S L)) ≡ 1 + 5 * moveCount L
+  pub answer : (target : List ℕ) → 1 + 5 * moveCount L ≤ length target
+      → serialResult ceiling T S L target ≡ cond (roomAlong ceiling T S L) (write (logWords (serialOf T S L))) (refuse SerialTooManyEntries)
+  -- .. in which case their run is accepted, with a target long enough for a state.
+  pub rerun : roomAlong ceiling T S L ≡ true → (target : List ℕ) → 2050 ≤ length target
+      → runResult ceiling T S (logWords (serialOf T S L)) target ≡ write (stateWords (serial .end))
+
+-- For all table, state and log words and every ceiling: given a well-formed state under a well-formed table (1 to 4), no begin that emits (14), no open
+-- transaction at the start (15), a well-formed log (13) whose run is accepted (16), and no open transaction at its end (15).
+abbrev pub Demand3 : Type 0
+Demand3 = (ceiling : ℕ) (T S L : List ℕ) (e : State) → stateVerdict T S ≡ Allowed → beginsEmit (tableOf T) ≡ false → anyOpen (stateOf S) ≡ false
+    → logSizesOk L ≡ true → runOf ceiling T S L ≡ ended e → anyOpen e ≡ false → Serializable ceiling T S L e
