@@ -3,3 +3,4 @@ pub mod End
 pub mod Products
 pub mod React
 pub mod Narrow
+pub mod Moves

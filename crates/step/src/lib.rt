@@ -1,5 +1,6 @@
 // A single move on a working state.
 mod end;
 mod few;
+pub mod moves;
 mod products;
 mod react;

@@ -4,7 +4,8 @@ use mathlib.Core.List.{List, map}
 use mathlib.Core.Path.{_≡_, refl, sym, ap, _∙_}
 use lib.Dec.{leb}
 use lib.ListN.{length, take}
-use Rattle.semantics.specs.Table.{sizesOf, numbersOf, atomWordsOf, ruleWords, shapeOf, atomOf, ruleOf, tableOf, ruleAt}
+use Rattle.lists.specs.Lists.{count}
+use Rattle.semantics.specs.Table.{sizesOf, numbersOf, atomWordsOf, ruleWords, shapeOf, atomOf, ruleOf, tableOf, ruleAt, isRole, consumed}
 use Rattle.semantics.specs.TableLaws.{WellFormed, well-formed, numbers-length, words-length, numbers-rise, RuleFits, rule-fits, rule-at, rule-begins, consumed-length, rule-leads}
 use Rattle.semantics.specs.Answers.{tableVerdict}
 use Rattle.semantics.specs.declared.Atom.{Atom}
@@ -56,3 +57,6 @@ module _ (t starts : List ℕ) (r : ℕ) (v : tableVerdict t ≡ Allowed) (l : r
 
       pub cut-rule : ruleOf z xs ≡ ruleAt (tableOf t) r
       cut-rule = rw (ez, rule-cut ex) (sym (rule-at t r l))
+
+    pub cut-consumes : {xs : List ℕ} → xs ≡ cut starts r ws → (count (isRole 0) xs ≡ length (consumed (ruleAt (tableOf t) r))) × (count (isRole 0) xs ≤ 4)
+    cut-consumes {xs} e = (sym (consumed-length (sizesOf t) xs) ∙ ap (λ x. length (consumed x)) (cut-rule refl e), cut-fits refl e .most)

@@ -5,7 +5,7 @@ ghost use Prim.Native.Nat.{_≤_, _<_};
 ghost use lib.Dec.{eqb};
 ghost use lib.ListN.{length, take};
 ghost use Rattle.semantics.specs.Words.{atomMode, valueOf};
-ghost use Rattle.semantics.specs.Table.{sizesOf, numbersOf, atomValue, atomOf, ruleOf, tableOf, ruleAt};
+ghost use Rattle.semantics.specs.Table.{sizesOf, numbersOf, atomValue, atomOf, ruleOf, tableOf, ruleAt, consumed};
 ghost use Rattle.semantics.specs.TableLaws.{RuleFits};
 ghost use Rattle.semantics.specs.Answers.{tableVerdict};
 ghost use Rattle.semantics.specs.declared.Verdict.the-variants.{Allowed};
@@ -14,6 +14,7 @@ ghost use Rattle.table.specs.Decode.{Decodes};
 use crate::parts::atom_words_of;
 use crate::parts::rule_words;
 use crate::parts::sizes_of;
+use crate::rule::count_role;
 use crate::rule::shape_of;
 use semantics::Atom;
 use semantics::AtomValue;
@@ -88,4 +89,12 @@ pub fn rule_at<'a>(table: &'a [u32], starts: &'a [u32; 65], r: u32) -> Rule
 {
     let z = sizes_of(table);
     rule_of(rule_words(atom_words_of(table), starts, r as usize), z)
+}
+
+// How many consumes (takes) rule r has, without decoding it.
+pub fn consumes_at<'a>(table: &'a [u32], starts: &'a [u32; 65], r: u32) -> usize
+    requires { ⌜ (tableVerdict (now table) ≡ Allowed) × (r < sizesOf (now table) .rules) × Starts (numbersOf (now table)) (sizesOf (now table) .rules) (now starts) ⌝ }
+    ensures { λ n. ⌜ (n ≡ length (consumed (ruleAt (tableOf (now (table .entry))) r))) × (n ≤ 4) ⌝ }
+{
+    count_role(rule_words(atom_words_of(table), starts, r as usize), 0)
 }

@@ -7,6 +7,8 @@ mod rule;
 pub mod verdict;
 
 pub use decode::Rule;
+pub use decode::atom_of;
+pub use decode::consumes_at;
 pub use decode::rule_at;
 pub use parts::sizes_of;
 pub use verdict::Checked;
