@@ -1,6 +1,6 @@
 -- A loop that notes whether a test held somewhere, and what such notes say of the elements that another test keeps.
 use Prim.Native.Nat.{ℕ, _+_, _≤_, _<_}
-use mathlib.Core.Path.{_≡_, refl, sym, ap, _∙_}
+use mathlib.Core.Path.{_≡_, refl, sym, _∙_}
 use mathlib.Core.Bool.{Bool, true, false, _&&_, _||_, not}
 use mathlib.Core.List.{List, [], _∷_}
 use Rattle.lists.specs.Lists.{all, any, keepIf, keep}

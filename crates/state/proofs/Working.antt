@@ -9,7 +9,6 @@ use Rattle.lists.specs.Lists.{over}
 use Rattle.lists.specs.Over.{Pasted, over-two, over-column}
 use Rattle.lists.specs.Rows.{rows, length-rows, rows-ext, rows-take, map-rows}
 use Rattle.semantics.specs.Words.{itemKind, itemWord, portOf, valueOf}
-use Rattle.semantics.specs.State as semantics
 use Rattle.semantics.specs.State.{entryOf, stateWords}
 use Rattle.state.specs.Working.{entryFrom, entryIn, stateIn, Stored}
 use Rattle.state.specs.Arrays.{Arrays}

@@ -1,12 +1,11 @@
 -- The end of a transaction: an entry that stays, and the tests of what the transaction owns.
-use Prim.Native.Nat.{ℕ, _+_, _/_, _%_, _^_, _≤_, _<_}
-use mathlib.Core.Path.{_≡_, refl, sym, ap, _∙_}
+use Prim.Native.Nat.{ℕ, _+_, _%_, _^_, _≤_, _<_}
+use mathlib.Core.Path.{_≡_, refl, ap, _∙_}
 use mathlib.Core.Bool.{Bool, true, false, _&&_, _||_, not, cond, false≢true}
-use mathlib.Core.List.{List}
 use native.Mathlib.Omega.{arith}
 use lib.Dec.{eqb, ltb, leb}
 use borrow.Author.Tests.{ltb-true, ltb-false, lt-leb, le-leb}
-use Rattle.lists.specs.Lists.{all, any}
+use Rattle.lists.specs.Lists.{any}
 use Rattle.lists.specs.Found.{Finding, finding-start, finding-next, finding-done, any-keep, all-neither}
 use Rattle.lists.specs.Rows.{rows, rowsFrom, rows-tails}
 use Rattle.semantics.specs.Words.{itemKind, portOf, valueOf}

@@ -1,8 +1,7 @@
 -- What the functions of a transaction's end say.
 use Prim.Native.Nat.{ℕ}
 use mathlib.Core.Path.{_≡_}
-use mathlib.Core.Bool.{Bool, _&&_, _||_, not}
-use mathlib.Core.List.{List}
+use mathlib.Core.Bool.{_&&_, _||_, not}
 use lib.Dec.{ltb, leb}
 use Rattle.lists.specs.Lists.{all, any}
 use Rattle.semantics.specs.State.{State, isMessage, isAbortMark, owned}

@@ -1,7 +1,7 @@
 -- What the functions of a whole move ask and say, and laws for their callers.
 use Prim.Native.Nat.{ℕ, _≤_, _<_}
 use mathlib.Core.Path.{_≡_, refl, sym, ap, _∙_}
-use mathlib.Core.Bool.{Bool, true, false, _&&_}
+use mathlib.Core.Bool.{true, false, _&&_}
 use mathlib.Core.List.{List, _∷_}
 use native.Mathlib.Omega.{arith}
 use lib.Dec.{ltb, leb, eqb}
@@ -13,7 +13,7 @@ use Rattle.lists.specs.Tests.{and-false, and-true}
 use Rattle.semantics.specs.Words.{headKind, headNumber}
 use Rattle.semantics.specs.Table.{Table, sizesOf, tableOf, ruleAt, consumed}
 use Rattle.semantics.specs.State as semantics
-use Rattle.semantics.specs.Move.{Move, react, commit, abort, unless, both, isZero, picksUsed, headOk, moveOk, moveOf, reacted, allowed, applied, moveVerdict}
+use Rattle.semantics.specs.Move.{react, commit, abort, both, isZero, picksUsed, headOk, moveOk, moveOf, reacted, allowed, applied, moveVerdict}
 use Rattle.semantics.specs.Answers.{tableVerdict}
 use Rattle.semantics.specs.declared.Sizes.{Sizes}
 use Rattle.semantics.specs.declared.Verdict.{Verdict}

@@ -1,4 +1,3 @@
-use borrow.Author.Needs.{needs}
 use Rattle.semantics.specs.Move as move
 use Rattle.step.specs.Moves.{move-commit, move-abort, applied-react}
 use Rattle.step.proofs.moves.applied.Statement.{statement}

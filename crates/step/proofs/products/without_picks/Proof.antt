@@ -15,7 +15,8 @@ use Rattle.step.proofs.products.without_picks.Tie as tie
 
 abbrev Inv : tie.InvT-loop
 Inv picks owners k home s₀ n i₀ w₀ s i w =
-    Compacting (λ p e. not (isIn p (take k picks))) (merged (take k owners)) s n i w (record { next = s₀ .next; entries = map (merged (take k owners)) (without (take k picks) 0 (stateIn s₀ .entries)) })
+    Compacting (λ p e. not (isIn p (take k picks))) (merged (take k owners)) s n i w
+    (record { next = s₀ .next; entries = map (merged (take k owners)) (without (take k picks) 0 (stateIn s₀ .entries)) })
     × (k ≤ 4)
     × (home ≡ least (take k owners))
 

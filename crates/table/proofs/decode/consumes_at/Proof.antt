@@ -1,5 +1,4 @@
 -- `decode::consumes_at` meets its contract: the words cut out are the rule's (`Decoding`).
-use mathlib.Core.Path.{sym}
 use borrow.Author.Needs.{needs}
 use Rattle.semantics.specs.TableLaws.{well-formed}
 use Rattle.table.proofs.Decoding.{rule-within, cut-consumes}
