@@ -11,6 +11,7 @@ pub mod Tabled
 pub mod Parts
 pub mod Counting
 pub mod Rising
+pub mod Keys
 pub mod Ahead
 pub mod Seen
 pub mod Rows
