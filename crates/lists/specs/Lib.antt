@@ -12,6 +12,7 @@ pub mod Parts
 pub mod Prefix
 pub mod Counting
 pub mod Rising
+pub mod Keys
 pub mod Ahead
 pub mod Seen
 pub mod Least

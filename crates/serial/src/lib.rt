@@ -1,0 +1,2 @@
+// The serial log.
+mod order;
