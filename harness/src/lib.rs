@@ -6,5 +6,7 @@ pub mod generate;
 pub mod library;
 pub mod model;
 pub mod plain;
+pub mod program;
 pub mod random;
+pub mod two_lot;
 pub mod words;
