@@ -8,5 +8,7 @@ pub mod model;
 pub mod plain;
 pub mod program;
 pub mod random;
+#[cfg(target_os = "linux")]
+pub mod stack;
 pub mod two_lot;
 pub mod words;

@@ -47,7 +47,8 @@ enum Pipe {
 
 /// What a command prints when it is fed this input. It may end before it has read all of it.
 fn fed(mut command: Command, bytes: &[u8], pipe: Pipe) -> String {
-    let mut child = command.stdin(Stdio::piped()).stdout(Stdio::piped()).stderr(Stdio::piped()).spawn().unwrap();
+    command.stdin(Stdio::piped()).stdout(Stdio::piped()).stderr(Stdio::piped());
+    let mut child = command.spawn().unwrap_or_else(|error| panic!("{command:?}: {error}"));
     let mut stdin = child.stdin.take().unwrap();
     let mut printed = child.stdout.take().unwrap();
     thread::scope(|scope| {
