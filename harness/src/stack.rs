@@ -21,16 +21,31 @@ extern "C" {
     fn pthread_join(thread: usize, result: *mut *mut c_void) -> c_int;
 }
 
+struct Given<F> {
+    call: Option<F>,
+    /// An address in the frame that makes the call.
+    top: usize,
+}
+
+/// In a frame of its own, below its caller's.
+#[inline(never)]
+fn apart<F: FnOnce()>(call: F) {
+    call();
+}
+
 extern "C" fn start<F: FnOnce()>(given: *mut c_void) -> *mut c_void {
-    let call = unsafe { &mut *given.cast::<Option<F>>() };
-    call.take().expect("the thread starts once")();
+    let given = unsafe { &mut *given.cast::<Given<F>>() };
+    let here = 0u8;
+    given.top = &raw const here as usize;
+    apart(given.call.take().expect("the thread starts once"));
     ptr::null_mut()
 }
 
-/// The bytes of a fresh thread's stack that are no longer as they were after the call.
-fn touched<F: FnOnce() + Send>(call: F) -> usize {
+/// The bytes of stack that a call uses, measured from its caller's frame. The end of the thread
+/// uses some too, so that less than about a kilobyte is not told apart.
+pub fn used<F: FnOnce() + Send>(call: F) -> usize {
     let layout = Layout::from_size_align(SIZE, 1 << 12).unwrap();
-    let mut given = Some(call);
+    let mut given = Given { call: Some(call), top: 0 };
     unsafe {
         let stack = alloc(layout);
         assert!(!stack.is_null());
@@ -44,15 +59,11 @@ fn touched<F: FnOnce() + Send>(call: F) -> usize {
         pthread_attr_destroy(&mut attributes);
         // The stack grows down: the pattern is left at its low end.
         let left = std::slice::from_raw_parts(stack, SIZE).iter().take_while(|&&byte| byte == PATTERN).count();
+        let lowest = stack as usize + left;
         dealloc(stack, layout);
         assert!(left > 0, "more than {SIZE} bytes of stack");
-        SIZE - left
+        given.top - lowest
     }
-}
-
-/// The bytes of stack that a call uses beyond those of an empty one.
-pub fn used(call: impl FnOnce() + Send) -> usize {
-    touched(call).saturating_sub(touched(|| ()))
 }
 
 #[cfg(test)]
@@ -69,7 +80,7 @@ mod tests {
         for (used, bytes) in
             [(used(fill::<1_000>), 1_000), (used(fill::<50_000>), 50_000), (used(fill::<500_000>), 500_000)]
         {
-            assert!((bytes..bytes + 600).contains(&used), "{used} for {bytes}");
+            assert!((bytes..bytes + 1_000).contains(&used), "{used} for {bytes}");
         }
     }
 }

@@ -3,6 +3,7 @@
 pub mod demand3;
 
 use harness::answer::Answer;
+#[allow(unused_imports)]
 pub use harness::two_lot::{start as two_lot_start, table as two_lot_table};
 use harness::{model, plain};
 
