@@ -1,6 +1,7 @@
 //! Tests of the proved coordinator against two independent opinions: `model`, written from the
 //! calculus of the source paper, and `plain`, written from document 01 as ordinary fast Rust.
 pub mod answer;
+pub mod examples;
 pub mod generate;
 #[cfg(feature = "library")]
 pub mod library;

@@ -3,6 +3,7 @@
 //! the plain code, always takes part; the proved one does with the feature `program`.
 mod common;
 
+use std::fs;
 use std::io::{ErrorKind, Read, Write};
 use std::path::PathBuf;
 use std::process::{Command, Stdio};
@@ -113,6 +114,20 @@ fn two_lot(log: &[Move]) -> Vec<u8> {
 fn case_a_prints_the_seven_lines() {
     prints(&two_lot(&case_a()), CASE_A);
     assert_eq!(output(MODEL, &two_lot(&case_a())), CASE_A, "the model");
+}
+
+// Catches example files that the program does not take, by the shell command of `examples/README.md`.
+#[test]
+fn the_example_files() {
+    let lines = fs::read_to_string(concat!(env!("CARGO_MANIFEST_DIR"), "/../examples/README.md")).unwrap();
+    let cat = lines.lines().find(|line| line.starts_with("cat ")).unwrap();
+    let (cat, _) = cat.split_once('|').unwrap();
+    for program in programs() {
+        let mut shell = Command::new("bash");
+        shell.args(["-c", &format!(r#"{cat} | "$0""#)]).arg(&program);
+        let run = shell.current_dir(concat!(env!("CARGO_MANIFEST_DIR"), "/..")).output().unwrap();
+        assert_eq!(String::from_utf8_lossy(&run.stdout), CASE_A, "{}", program.display());
+    }
 }
 
 // Catches a cut part that is read as whole, or has another part's number: 29 words are the table,
