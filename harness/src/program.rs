@@ -2,7 +2,7 @@
 //! to back, each part as long as its sizes say, and the moves are made one by one on words.
 use std::fmt::Write;
 
-use crate::answer::Answer;
+use crate::answer::{Answer, OnTarget};
 use crate::words::{MAX_MOVES, STATE_TARGET};
 
 /// The calls that an opinion on the program's output is made from.
@@ -10,7 +10,7 @@ use crate::words::{MAX_MOVES, STATE_TARGET};
 pub struct Calls {
     pub check_table: fn(&[u32]) -> Answer,
     pub check_state: fn(&[u32], &[u32]) -> Answer,
-    pub make_move: fn(&[u32], &[u32], &[u32], &mut [u32]) -> Answer,
+    pub make_move: OnTarget,
 }
 
 pub const MODEL: Calls = Calls {

@@ -2,48 +2,48 @@
 use std::error::Error;
 use std::fmt;
 
-/// Why a call is refused; [`number`](Refusal::number) is document 01's. More may come.
+/// Why a call is refused, with document 01's number and words. More may come.
 #[derive(Clone, Copy, Debug, PartialEq, Eq, Hash)]
 #[non_exhaustive]
 pub enum Refusal {
-    /// 1
+    /// 1: table sizes or length.
     TableSizes,
-    /// 2
+    /// 2: any other fault in a table.
     TableContents,
-    /// 3
+    /// 3: state: n or N out of range, or length.
     StateSizes,
-    /// 4
+    /// 4: any other fault in a state.
     StateContents,
-    /// 5
+    /// 5: move: not five words, kind, rule or ticket out of range, unused pick not 0.
     MoveForm,
-    /// 6
+    /// 6: target too short.
     TargetTooShort,
-    /// 7
+    /// 7: a pick past the last entry, repeated, not a note, or on another port.
     WrongPick,
-    /// 8
+    /// 8: owner not as the rule wants.
     WrongOwner,
-    /// 9
+    /// 9: ticket names no open batch.
     NoTransaction,
-    /// 10
+    /// 10: release or call-off not allowed.
     EndNotAllowed,
-    /// 11
+    /// 11: opening with N = 65,536.
     NoMoreIds,
-    /// 12
+    /// 12: more than 1,024 entries afterwards.
     TooManyEntries,
-    /// 13
+    /// 13: log count or length.
     LogSizes,
-    /// 14
+    /// 14: an opening rule has a give (serial log only).
     BeginEmits,
-    /// 15
+    /// 15: an open batch at the log's start or end (serial log only).
     TransactionOpen,
-    /// 16
+    /// 16: a move in the log is refused.
     MoveRefused {
         /// The move's place in the log, from 0.
         place: u32,
         /// The number with which the move itself is refused: 5, or 7 to 12.
         own: u32,
     },
-    /// 17
+    /// 17: the serial order would exceed 1,024 entries.
     SerialTooManyEntries,
     /// A number that this crate does not know: the archive is newer.
     Unknown(u32),

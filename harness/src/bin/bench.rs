@@ -4,7 +4,7 @@
 use std::hint::black_box;
 use std::time::Instant;
 
-use harness::answer::Answer;
+use harness::answer::OnTarget;
 #[cfg(feature = "move")]
 use harness::generate::workloads::single_moves;
 use harness::generate::workloads::{global_log, members, merge_log, messages, mixed, table};
@@ -13,13 +13,11 @@ use harness::stack;
 use harness::words::{log_words, Move, State, Table, STATE_TARGET};
 use harness::{library, plain};
 
-/// One shape for the five calls: the checks ignore what they do not take.
-type Call = fn(&[u32], &[u32], &[u32], &mut [u32]) -> Answer;
-
+/// A call and its plain counterpart, in one shape: the checks ignore what they do not take.
 struct Pair {
     name: &'static str,
-    ours: Call,
-    rust: Call,
+    ours: OnTarget,
+    rust: OnTarget,
 }
 
 const CHECK_TABLE: Pair = Pair {

@@ -3,6 +3,7 @@
 pub mod demand3;
 
 use harness::answer::Answer;
+pub use harness::answer::OnTarget;
 #[allow(unused_imports)]
 pub use harness::two_lot::{start as two_lot_start, table as two_lot_table};
 use harness::{model, plain};
@@ -49,8 +50,6 @@ pub fn shown(input: &[(&str, &[u32])]) -> String {
     };
     input.iter().map(part).collect::<Vec<_>>().join("; ")
 }
-
-pub type OnTarget = fn(&[u32], &[u32], &[u32], &mut [u32]) -> Answer;
 
 pub const MAKE_MOVE: &[(&str, OnTarget)] = &[
     ("model", model::make_move),
