@@ -1,13 +1,15 @@
 //! The public calls beside the plain Rust code: ratios, growth from size to size, and stack.
 //!
-//! `--smoke` makes one round on small sizes, so that the benchmark cannot rot.
+//! `--smoke` makes one round on small sizes, so that the benchmark cannot rot. Names of calls, if
+//! any are given, choose those to measure.
+// Until the archive has all calls some parts are not used.
+#![cfg_attr(not(all(feature = "move", feature = "run", feature = "serialize")), allow(dead_code, unused_imports))]
+use std::env::args;
 use std::hint::black_box;
 use std::time::Instant;
 
 use harness::answer::OnTarget;
-#[cfg(feature = "move")]
-use harness::generate::workloads::single_moves;
-use harness::generate::workloads::{global_log, members, merge_log, messages, mixed, table};
+use harness::generate::workloads::{global_log, members, merge_log, messages, mixed, single_moves, table};
 use harness::random::Random;
 use harness::stack;
 use harness::words::{log_words, Move, State, Table, STATE_TARGET};
@@ -37,16 +39,6 @@ const RUN: Pair = Pair { name: "run", ours: library::run, rust: plain::run };
 #[cfg(feature = "serialize")]
 const SERIALIZE: Pair = Pair { name: "serialize", ours: library::serialize, rust: plain::serialize };
 
-/// The calls on logs that the archive has.
-fn log_calls() -> Vec<Pair> {
-    vec![
-        #[cfg(feature = "run")]
-        RUN,
-        #[cfg(feature = "serialize")]
-        SERIALIZE,
-    ]
-}
-
 /// How long to measure.
 #[derive(Clone, Copy)]
 struct Effort {
@@ -68,8 +60,20 @@ impl Times {
     }
 }
 
+/// A table and its name.
+#[derive(Clone)]
+struct Named(&'static str, Table);
+
 struct Bench {
     effort: Effort,
+    small: Named,
+    middle: Named,
+    full: Named,
+    entries: &'static [usize],
+    moves: &'static [usize],
+    /// The time of a copy by its words, each measured once.
+    copies: Vec<(usize, f64)>,
+    growth: Vec<Growth>,
     /// The worst ratio of each call.
     worst: Vec<(&'static str, f64)>,
     /// The deepest stack of each call.
@@ -90,10 +94,10 @@ fn repeats(effort: Effort, mut call: impl FnMut()) -> u64 {
     (effort.round as f64 / once).clamp(1.0, 1e6) as u64
 }
 
-/// The best time of one copy of the state's words.
-fn copy_time(effort: Effort, state: &[u32]) -> f64 {
-    let mut target = vec![0; state.len()];
-    let mut copy = || black_box(&mut target[..]).copy_from_slice(black_box(state));
+/// The best time of one copy of so many words.
+fn copy_time(effort: Effort, words: usize) -> f64 {
+    let (from, mut target) = (vec![1u32; words], vec![0; words]);
+    let mut copy = || black_box(&mut target[..]).copy_from_slice(black_box(&from));
     let repeats = repeats(effort, &mut copy);
     (0..effort.rounds).map(|_| nanoseconds(repeats, &mut copy)).fold(f64::MAX, f64::min)
 }
@@ -107,6 +111,30 @@ fn note<T: PartialOrd>(list: &mut Vec<(&'static str, T)>, name: &'static str, va
 }
 
 impl Bench {
+    fn new(smoke: bool) -> Bench {
+        Bench {
+            effort: if smoke { Effort { rounds: 1, round: 0 } } else { Effort { rounds: 15, round: 1_500_000 } },
+            small: Named("7 rules", table(7, 24)),
+            middle: Named("16 rules", table(16, 128)),
+            full: Named("64 rules", table(64, 512)),
+            entries: if smoke { &[16, 128] } else { &[16, 128, 1_024] },
+            moves: if smoke { &[16] } else { &[16, 128, 512, 1_024] },
+            copies: Vec::new(),
+            growth: Vec::new(),
+            worst: Vec::new(),
+            stack: Vec::new(),
+        }
+    }
+
+    fn copy_time(&mut self, words: usize) -> f64 {
+        if let Some((_, time)) = self.copies.iter().find(|(other, _)| *other == words) {
+            return *time;
+        }
+        let time = copy_time(self.effort, words);
+        self.copies.push((words, time));
+        time
+    }
+
     /// Measures both on the same input and prints a row.
     fn row(&mut self, pair: &Pair, what: &str, table: &Table, state: &State, third: &[u32]) -> Times {
         let (table, state) = (table.words(), state.words());
@@ -128,9 +156,13 @@ impl Bench {
             times.ours = times.ours.min(nanoseconds(of_ours, &mut call_ours));
             times.rust = times.rust.min(nanoseconds(of_rust, &mut call_rust));
         }
-        let copies = times.ours / copy_time(self.effort, &state);
+        // A table's check has no state.
+        let copies = match state.len() {
+            2 => "-".into(),
+            words => format!("{:.0}", times.ours / self.copy_time(words)),
+        };
         println!(
-            "| {:<11} | {what:<46} | {:>5.2} | {:>10.2} | {:>10.2} | {copies:>7.0} |",
+            "| {:<11} | {what:<46} | {:>5.2} | {:>10.2} | {:>10.2} | {copies:>7} |",
             pair.name,
             times.ratio(),
             times.ours / 1e3,
@@ -153,6 +185,15 @@ struct Growth {
 }
 
 impl Growth {
+    fn new(what: String) -> Growth {
+        Growth { what, sizes: Vec::new(), times: Vec::new() }
+    }
+
+    fn push(&mut self, size: usize, times: Times) {
+        self.sizes.push(size);
+        self.times.push(times);
+    }
+
     fn print(&self) {
         for step in 1..self.sizes.len() {
             let (before, after) = (self.times[step - 1], self.times[step]);
@@ -169,98 +210,111 @@ impl Growth {
     }
 }
 
-fn main() {
-    let smoke = std::env::args().any(|argument| argument == "--smoke");
-    let effort = if smoke { Effort { rounds: 1, round: 0 } } else { Effort { rounds: 15, round: 1_500_000 } };
-    let mut bench = Bench { effort, worst: Vec::new(), stack: Vec::new() };
-    let mut growth: Vec<Growth> = Vec::new();
-    let mut random = Random::new(801);
-    let entries: &[usize] = if smoke { &[16, 128] } else { &[16, 128, 1_024] };
-    let moves: &[usize] = if smoke { &[16] } else { &[16, 128, 512, 1_024] };
-    let small = ("7 rules", table(7, 24));
-    let middle = ("16 rules", table(16, 128));
-    let full = ("64 rules", table(64, 512));
-
-    println!("Ratio: ours / plain Rust, best of {} interleaved rounds, same input, same answers.", effort.rounds);
-    println!("Copies: ours / one memcpy of the state's words.\n");
-    println!(
-        "| call        | input                                          | ratio | ours in µs | Rust in µs |  copies |"
-    );
-    println!(
-        "|-------------|------------------------------------------------|-------|------------|------------|---------|"
-    );
-
-    let none = messages(0);
-    let mut row = |(name, table): &(&str, Table)| {
-        bench.row(&CHECK_TABLE, &format!("{name}, {} atoms", table.atoms()), table, &none, &[])
-    };
-    growth.push(Growth {
-        what: "check_table".into(),
-        sizes: vec![24, 128, 512],
-        times: [&small, &middle, &full].into_iter().map(&mut row).collect(),
-    });
-
-    type MakeState = fn(usize) -> State;
-    for (name, table) in [&small, &full] {
-        for (kind, state) in [("mixed", (|n| mixed(&[], n)) as MakeState), ("members", members)] {
-            let mut row =
-                |&n: &usize| bench.row(&CHECK_STATE, &format!("{name}, {n} entries, {kind}"), table, &state(n), &[]);
-            growth.push(Growth {
-                what: format!("check_state, {kind}, {name}"),
-                sizes: entries.to_vec(),
-                times: entries.iter().map(&mut row).collect(),
-            });
+/// What is measured of each call.
+impl Bench {
+    fn check_table(&mut self) {
+        let none = messages(0);
+        let mut line = Growth::new("check_table".into());
+        for Named(name, table) in [self.small.clone(), self.middle.clone(), self.full.clone()] {
+            let times = self.row(&CHECK_TABLE, &format!("{name}, {} atoms", table.atoms()), &table, &none, &[]);
+            line.push(table.atoms(), times);
         }
+        self.growth.push(line);
     }
 
-    #[cfg(feature = "move")]
-    for (name, table) in [&small, &full] {
-        for (kind, &(act, ..)) in single_moves(table, 16).iter().enumerate() {
-            let mut row = |&n: &usize| {
-                let (_, state, mv) = &single_moves(table, n.min(1_022))[kind];
-                bench.row(&MAKE_MOVE, &format!("{name}, {n} entries, {act}"), table, state, &mv.words())
-            };
-            growth.push(Growth {
-                what: format!("move, {act}, {name}"),
-                sizes: entries.to_vec(),
-                times: entries.iter().map(&mut row).collect(),
-            });
-        }
-    }
-
-    type MakeLog = fn(&mut Random, &Table, usize, usize) -> (State, Vec<Move>);
-    let logs = [("merges", merge_log as MakeLog), ("all global", global_log)];
-    for pair in log_calls() {
-        for (kind, make) in logs {
-            let mut row = |table: &(&str, Table), n: usize, k: usize| {
-                let (start, log) = make(&mut random, &table.1, n, k);
-                let what = format!("{}, {n} entries, {k} moves, {kind}", table.0);
-                bench.row(&pair, &what, &table.1, &start, &log_words(&log))
-            };
-            row(&small, 16, 16);
-            for &n in entries {
-                growth.push(Growth {
-                    what: format!("{}, {kind}, {n} entries", pair.name),
-                    sizes: moves.to_vec(),
-                    times: moves.iter().map(|&k| row(&full, n, k)).collect(),
-                });
+    fn check_state(&mut self) {
+        type Make = fn(usize) -> State;
+        for Named(name, table) in [self.small.clone(), self.full.clone()] {
+            for (kind, state) in [("mixed", (|n| mixed(&[], n)) as Make), ("members", members)] {
+                let mut line = Growth::new(format!("check_state, {kind}, {name}"));
+                for &n in self.entries {
+                    let what = format!("{name}, {n} entries, {kind}");
+                    line.push(n, self.row(&CHECK_STATE, &what, &table, &state(n), &[]));
+                }
+                self.growth.push(line);
             }
         }
     }
 
+    #[cfg(feature = "move")]
+    fn make_move(&mut self) {
+        for Named(name, table) in [self.small.clone(), self.full.clone()] {
+            for (kind, &(act, ..)) in single_moves(&table, 16).iter().enumerate() {
+                let mut line = Growth::new(format!("move, {act}, {name}"));
+                for &n in self.entries {
+                    // A begin adds two entries.
+                    let (_, state, mv) = &single_moves(&table, n.min(1_022))[kind];
+                    let what = format!("{name}, {n} entries, {act}");
+                    line.push(n, self.row(&MAKE_MOVE, &what, &table, state, &mv.words()));
+                }
+                self.growth.push(line);
+            }
+        }
+    }
+
+    fn logs(&mut self, pair: &Pair) {
+        type Make = fn(&mut Random, &Table, usize, usize) -> (State, Vec<Move>);
+        let mut random = Random::new(801);
+        for (kind, make) in [("merges", merge_log as Make), ("all global", global_log)] {
+            let mut row = |bench: &mut Bench, Named(name, table): &Named, n: usize, k: usize| {
+                let (start, log) = make(&mut random, table, n, k);
+                let what = format!("{name}, {n} entries, {k} moves, {kind}");
+                bench.row(pair, &what, table, &start, &log_words(&log))
+            };
+            let (small, full) = (self.small.clone(), self.full.clone());
+            row(self, &small, 16, 16);
+            for &n in self.entries {
+                let mut line = Growth::new(format!("{}, {kind}, {n} entries", pair.name));
+                for &k in self.moves {
+                    line.push(k, row(self, &full, n, k));
+                }
+                self.growth.push(line);
+            }
+        }
+    }
+}
+
+type Measure = fn(&mut Bench);
+
+/// The calls that the archive has.
+const CALLS: &[(&str, Measure)] = &[
+    (CHECK_TABLE.name, Bench::check_table),
+    (CHECK_STATE.name, Bench::check_state),
+    #[cfg(feature = "move")]
+    (MAKE_MOVE.name, Bench::make_move),
+    #[cfg(feature = "run")]
+    (RUN.name, |bench| bench.logs(&RUN)),
+    #[cfg(feature = "serialize")]
+    (SERIALIZE.name, |bench| bench.logs(&SERIALIZE)),
+];
+
+fn main() {
+    let (flags, chosen): (Vec<String>, Vec<String>) = args().skip(1).partition(|argument| argument == "--smoke");
+    let mut bench = Bench::new(!flags.is_empty());
+
+    println!("Ratio: ours / plain Rust, best of {} interleaved rounds, same input, same answers.", bench.effort.rounds);
+    println!("Copies: ours / one memcpy of the state's words.\n");
+    println!("| {:<11} | {:<46} | ratio | ours in µs | Rust in µs |  copies |", "call", "input");
+    println!("|{:-<13}|{:-<48}|-------|------------|------------|---------|", "", "");
+    for (name, measure) in CALLS {
+        if chosen.is_empty() || chosen.iter().any(|chosen| chosen == name) {
+            measure(&mut bench);
+        }
+    }
+
     println!("\nHow the cost grows with the size (atoms, entries or moves):\n");
-    println!("| call                                | size          |  size |  ours |  Rust |");
-    println!("|-------------------------------------|---------------|-------|-------|-------|");
-    growth.iter().for_each(Growth::print);
+    println!("| {:<35} | size          |  size |  ours |  Rust |", "call");
+    println!("|{:-<37}|---------------|-------|-------|-------|", "");
+    bench.growth.iter().for_each(Growth::print);
 
     println!("\nOne memcpy of the state's words:\n");
-    for &n in entries {
-        println!("- {n} entries: {:.3} µs", copy_time(effort, &messages(n).words()) / 1e3);
+    for &n in bench.entries {
+        println!("- {n} entries: {:.3} µs", bench.copy_time(2 + 2 * n) / 1e3);
     }
 
     println!("\nThe worst ratio and the deepest stack of each call:\n");
-    println!("| call        | ratio | stack in bytes |");
-    println!("|-------------|-------|----------------|");
+    println!("| {:<11} | ratio | stack in bytes |", "call");
+    println!("|{:-<13}|-------|----------------|", "");
     for ((name, ratio), (_, stack)) in bench.worst.iter().zip(&bench.stack) {
         println!("| {name:<11} | {ratio:>5.2} | {stack:>14} |");
     }
