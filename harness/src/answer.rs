@@ -34,3 +34,6 @@ impl Answer {
         Answer::Accepted(words.len() as u32)
     }
 }
+
+/// A call on a table, a state, a move or log, and a target.
+pub type OnTarget = fn(&[u32], &[u32], &[u32], &mut [u32]) -> Answer;

@@ -26,3 +26,4 @@ pub mod state_faults;
 pub mod states;
 pub mod table_faults;
 pub mod tables;
+pub mod workloads;

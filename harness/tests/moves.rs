@@ -8,6 +8,7 @@ use harness::generate::moves::{allowed, changed, consumes};
 use harness::generate::states::state;
 use harness::generate::tables::{table, Shape};
 use harness::random::Random;
+use harness::two_lot;
 use harness::words::{act, kind, mode, role, Atom, Entry, Move, State, Table};
 
 fn react(rule: u32, picks: &[u32]) -> Vec<u32> {
@@ -23,9 +24,13 @@ fn after(moves: &[Vec<u32>]) -> Vec<u32> {
     })
 }
 
-/// 01's case (a), move by move.
+/// The moves' words.
+fn words(log: &[Move]) -> Vec<Vec<u32>> {
+    log.iter().map(|mv| mv.words()).collect()
+}
+
 fn case_a() -> Vec<Vec<u32>> {
-    vec![react(0, &[0]), react(0, &[0]), react(1, &[1]), react(1, &[3]), react(2, &[4, 5]), Move::commit(1).words()]
+    words(&two_lot::case_a())
 }
 
 // Catches a coordinator that refuses all, gives the start back or has one fixed end state.
@@ -34,10 +39,10 @@ fn case_a_and_c_by_single_moves() {
     assert_eq!(after(&case_a()), [2, 3, 0, 0, 0x0001_0007, 0x0001_0009]);
     // After the first move: n = 4, N = 2, as the program's second line shows.
     assert_eq!(after(&case_a()[..1])[..2], [4, 2]);
-    let mut c = case_a()[..3].to_vec();
-    c.push(react(3, &[3]));
-    c.push(Move::abort(2).words());
-    assert_eq!(after(&c), [4, 3, 1, 1, 0, 1, 0x0300_0001, 0x0100_0007, 0x0000_0009, 0x0003_0007]);
+    assert_eq!(
+        after(&words(&two_lot::case_c())),
+        [4, 3, 1, 1, 0, 1, 0x0300_0001, 0x0100_0007, 0x0000_0009, 0x0003_0007]
+    );
 }
 
 // Catches a commit with a merge message inside (b), a pick used twice (e), an abort without an

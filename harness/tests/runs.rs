@@ -8,18 +8,8 @@ use harness::generate::moves::changed;
 use harness::generate::states::{messages, state};
 use harness::generate::tables::{table, Shape};
 use harness::random::Random;
+use harness::two_lot::{case_a, case_c};
 use harness::words::{log_words, Atom, Entry, Move, State, Table};
-
-fn case_a() -> Vec<Move> {
-    vec![
-        Move::react(0, &[0]),
-        Move::react(0, &[0]),
-        Move::react(1, &[1]),
-        Move::react(1, &[3]),
-        Move::react(2, &[4, 5]),
-        Move::commit(1),
-    ]
-}
 
 // Catches a run that makes only its first move, gives the start back, or has one fixed end.
 #[test]
@@ -30,10 +20,8 @@ fn cases_a_b_c() {
     b.push(Move::commit(1));
     b.push(Move::commit(9));
     assert_eq!(run(&table, &start, &log_words(&b)).0, Answer::MoveRefused { place: 4, own: 10 });
-    let mut c = case_a()[..3].to_vec();
-    c.extend([Move::react(3, &[3]), Move::abort(2)]);
     let end = [4, 3, 1, 1, 0, 1, 0x0300_0001, 0x0100_0007, 0x0000_0009, 0x0003_0007];
-    gives(run(&table, &start, &log_words(&c)), &end);
+    gives(run(&table, &start, &log_words(&case_c())), &end);
     // The empty log gives the start.
     gives(run(&table, &start, &[0]), &start);
     gives(run(&table, &[0, 65_536], &[0]), &[0, 65_536]);

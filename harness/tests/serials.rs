@@ -8,18 +8,8 @@ use harness::generate::logs::{accepted, closed, Walk};
 use harness::generate::states::{messages, state};
 use harness::generate::tables::{table, Shape};
 use harness::random::Random;
+use harness::two_lot::case_d;
 use harness::words::{act, kind, log_from_words, log_words, role, Atom, Entry, Move, State, Table};
-
-fn case_d() -> Vec<Move> {
-    vec![
-        Move::react(0, &[0]),
-        Move::react(0, &[0]),
-        Move::react(3, &[1]),
-        Move::react(3, &[3]),
-        Move::abort(2),
-        Move::abort(1),
-    ]
-}
 
 // Catches a copied log called serial, and blocks in the order of begins instead of ends.
 #[test]

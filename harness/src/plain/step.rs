@@ -91,7 +91,9 @@ impl State {
             received[k] = self.items[at] & 0xFFFF;
             owners[k] = self.owners[at];
         }
-        let owners = &owners[..picks.len()];
+        // Four owners always, so that a merge compares with all at once.
+        let first = owners[0];
+        owners[picks.len()..].fill(first);
         let owner = *owners.iter().min().unwrap();
         let one = owners.iter().all(|&other| other == owner);
         let fits = match rule.class {
@@ -111,8 +113,9 @@ impl State {
         }
         self.remove(picks, beside);
         if !one {
-            for other in self.owners.iter_mut().filter(|other| owners.contains(other)) {
-                *other = owner;
+            for other in &mut self.owners {
+                let merges = owners.iter().fold(false, |found, picked| found | (picked == other));
+                *other = if merges { owner } else { *other };
             }
         }
         let mut inside = owner;

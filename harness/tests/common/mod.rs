@@ -3,6 +3,9 @@
 pub mod demand3;
 
 use harness::answer::Answer;
+pub use harness::answer::OnTarget;
+#[allow(unused_imports)]
+pub use harness::two_lot::{start as two_lot_start, table as two_lot_table};
 use harness::{model, plain};
 
 pub type CheckTable = fn(&[u32]) -> Answer;
@@ -47,24 +50,6 @@ pub fn shown(input: &[(&str, &[u32])]) -> String {
     };
     input.iter().map(part).collect::<Vec<_>>().join("; ")
 }
-
-/// 01's two-lot plant.
-pub fn two_lot_table() -> Vec<u32> {
-    let mut words = vec![2, 1, 1, 4, 12];
-    words.extend([0, 0, 0, 0, 1, 1, 2, 2, 2, 2, 3, 3]);
-    words.extend([0x0000_0000, 0x2000_0000, 0x3102_0000, 0x4100_0000]);
-    words.extend([0x0002_0000, 0x1103_0000]);
-    words.extend([0x0003_0000, 0x0003_0000, 0x1101_0000, 0x1101_0001]);
-    words.extend([0x0002_0000, 0x5000_0000]);
-    words
-}
-
-/// Its start.
-pub fn two_lot_start() -> Vec<u32> {
-    vec![2, 1, 0, 0, 7, 9]
-}
-
-pub type OnTarget = fn(&[u32], &[u32], &[u32], &mut [u32]) -> Answer;
 
 pub const MAKE_MOVE: &[(&str, OnTarget)] = &[
     ("model", model::make_move),

@@ -1,0 +1,321 @@
+//! The public calls beside the plain Rust code: ratios, growth from size to size, and stack.
+//!
+//! `--smoke` makes one round on small sizes, so that the benchmark cannot rot. Names of calls, if
+//! any are given, choose those to measure.
+// Until the archive has all calls some parts are not used.
+#![cfg_attr(not(all(feature = "move", feature = "run", feature = "serialize")), allow(dead_code, unused_imports))]
+use std::env::args;
+use std::hint::black_box;
+use std::time::Instant;
+
+use harness::answer::OnTarget;
+use harness::generate::workloads::{global_log, members, merge_log, messages, mixed, single_moves, table};
+use harness::random::Random;
+use harness::stack;
+use harness::words::{log_words, Move, State, Table, STATE_TARGET};
+use harness::{library, plain};
+
+/// A call and its plain counterpart, in one shape: the checks ignore what they do not take.
+struct Pair {
+    name: &'static str,
+    ours: OnTarget,
+    rust: OnTarget,
+}
+
+const CHECK_TABLE: Pair = Pair {
+    name: "check_table",
+    ours: |table, _, _, _| library::check_table(table),
+    rust: |table, _, _, _| plain::check_table(table),
+};
+const CHECK_STATE: Pair = Pair {
+    name: "check_state",
+    ours: |table, state, _, _| library::check_state(table, state),
+    rust: |table, state, _, _| plain::check_state(table, state),
+};
+#[cfg(feature = "move")]
+const MAKE_MOVE: Pair = Pair { name: "move", ours: library::make_move, rust: plain::make_move };
+#[cfg(feature = "run")]
+const RUN: Pair = Pair { name: "run", ours: library::run, rust: plain::run };
+#[cfg(feature = "serialize")]
+const SERIALIZE: Pair = Pair { name: "serialize", ours: library::serialize, rust: plain::serialize };
+
+/// How long to measure.
+#[derive(Clone, Copy)]
+struct Effort {
+    rounds: usize,
+    /// Nanoseconds of one round.
+    round: u64,
+}
+
+/// The best times of one call, in nanoseconds.
+#[derive(Clone, Copy)]
+struct Times {
+    ours: f64,
+    rust: f64,
+}
+
+impl Times {
+    fn ratio(self) -> f64 {
+        self.ours / self.rust
+    }
+}
+
+/// A table and its name.
+#[derive(Clone)]
+struct Named(&'static str, Table);
+
+struct Bench {
+    effort: Effort,
+    small: Named,
+    middle: Named,
+    full: Named,
+    entries: &'static [usize],
+    moves: &'static [usize],
+    /// The time of a copy by its words, each measured once.
+    copies: Vec<(usize, f64)>,
+    growth: Vec<Growth>,
+    /// The worst ratio of each call.
+    worst: Vec<(&'static str, f64)>,
+    /// The deepest stack of each call.
+    stack: Vec<(&'static str, usize)>,
+}
+
+fn nanoseconds(repeats: u64, mut call: impl FnMut()) -> f64 {
+    let start = Instant::now();
+    for _ in 0..repeats {
+        call();
+    }
+    start.elapsed().as_nanos() as f64 / repeats as f64
+}
+
+/// The repeats that fill one round.
+fn repeats(effort: Effort, mut call: impl FnMut()) -> u64 {
+    let once = nanoseconds(1, &mut call).max(1.0);
+    (effort.round as f64 / once).clamp(1.0, 1e6) as u64
+}
+
+/// The best time of one copy of so many words.
+fn copy_time(effort: Effort, words: usize) -> f64 {
+    let (from, mut target) = (vec![1u32; words], vec![0; words]);
+    let mut copy = || black_box(&mut target[..]).copy_from_slice(black_box(&from));
+    let repeats = repeats(effort, &mut copy);
+    (0..effort.rounds).map(|_| nanoseconds(repeats, &mut copy)).fold(f64::MAX, f64::min)
+}
+
+fn note<T: PartialOrd>(list: &mut Vec<(&'static str, T)>, name: &'static str, value: T) {
+    match list.iter_mut().find(|(other, _)| *other == name) {
+        Some((_, largest)) if value > *largest => *largest = value,
+        Some(_) => {}
+        None => list.push((name, value)),
+    }
+}
+
+impl Bench {
+    fn new(smoke: bool) -> Bench {
+        Bench {
+            effort: if smoke { Effort { rounds: 1, round: 0 } } else { Effort { rounds: 15, round: 1_500_000 } },
+            small: Named("7 rules", table(7, 24)),
+            middle: Named("16 rules", table(16, 128)),
+            full: Named("64 rules", table(64, 512)),
+            entries: if smoke { &[16, 128] } else { &[16, 128, 1_024] },
+            moves: if smoke { &[16] } else { &[16, 128, 512, 1_024] },
+            copies: Vec::new(),
+            growth: Vec::new(),
+            worst: Vec::new(),
+            stack: Vec::new(),
+        }
+    }
+
+    fn copy_time(&mut self, words: usize) -> f64 {
+        if let Some((_, time)) = self.copies.iter().find(|(other, _)| *other == words) {
+            return *time;
+        }
+        let time = copy_time(self.effort, words);
+        self.copies.push((words, time));
+        time
+    }
+
+    /// Measures both on the same input and prints a row.
+    fn row(&mut self, pair: &Pair, what: &str, table: &Table, state: &State, third: &[u32]) -> Times {
+        let (table, state) = (table.words(), state.words());
+        let room = STATE_TARGET.max(third.len());
+        let (mut ours, mut rust) = (vec![0; room], vec![0; room]);
+        let answer = (pair.ours)(&table, &state, third, &mut ours);
+        assert_eq!(answer, (pair.rust)(&table, &state, third, &mut rust), "{} {what}", pair.name);
+        assert!(ours == rust && answer.number() == 0, "{} {what}: {answer:?}", pair.name);
+
+        let mut call_ours = || {
+            black_box((pair.ours)(black_box(&table), black_box(&state), black_box(third), black_box(&mut ours)));
+        };
+        let mut call_rust = || {
+            black_box((pair.rust)(black_box(&table), black_box(&state), black_box(third), black_box(&mut rust)));
+        };
+        let (of_ours, of_rust) = (repeats(self.effort, &mut call_ours), repeats(self.effort, &mut call_rust));
+        let mut times = Times { ours: f64::MAX, rust: f64::MAX };
+        for _ in 0..self.effort.rounds {
+            times.ours = times.ours.min(nanoseconds(of_ours, &mut call_ours));
+            times.rust = times.rust.min(nanoseconds(of_rust, &mut call_rust));
+        }
+        // A table's check has no state.
+        let copies = match state.len() {
+            2 => "-".into(),
+            words => format!("{:.0}", times.ours / self.copy_time(words)),
+        };
+        println!(
+            "| {:<11} | {what:<46} | {:>5.2} | {:>10.2} | {:>10.2} | {copies:>7} |",
+            pair.name,
+            times.ratio(),
+            times.ours / 1e3,
+            times.rust / 1e3,
+        );
+        note(&mut self.worst, pair.name, times.ratio());
+        let used = stack::used(|| {
+            (pair.ours)(&table, &state, third, &mut ours);
+        });
+        note(&mut self.stack, pair.name, used);
+        times
+    }
+}
+
+/// Growth of a call along one line of sizes.
+struct Growth {
+    what: String,
+    sizes: Vec<usize>,
+    times: Vec<Times>,
+}
+
+impl Growth {
+    fn new(what: String) -> Growth {
+        Growth { what, sizes: Vec::new(), times: Vec::new() }
+    }
+
+    fn push(&mut self, size: usize, times: Times) {
+        self.sizes.push(size);
+        self.times.push(times);
+    }
+
+    fn print(&self) {
+        for step in 1..self.sizes.len() {
+            let (before, after) = (self.times[step - 1], self.times[step]);
+            println!(
+                "| {:<35} | {:>5} → {:>5} | {:>5.2} | {:>5.2} | {:>5.2} |",
+                self.what,
+                self.sizes[step - 1],
+                self.sizes[step],
+                self.sizes[step] as f64 / self.sizes[step - 1] as f64,
+                after.ours / before.ours,
+                after.rust / before.rust,
+            );
+        }
+    }
+}
+
+/// What is measured of each call.
+impl Bench {
+    fn check_table(&mut self) {
+        let none = messages(0);
+        let mut line = Growth::new("check_table".into());
+        for Named(name, table) in [self.small.clone(), self.middle.clone(), self.full.clone()] {
+            let times = self.row(&CHECK_TABLE, &format!("{name}, {} atoms", table.atoms()), &table, &none, &[]);
+            line.push(table.atoms(), times);
+        }
+        self.growth.push(line);
+    }
+
+    fn check_state(&mut self) {
+        type Make = fn(usize) -> State;
+        for Named(name, table) in [self.small.clone(), self.full.clone()] {
+            for (kind, state) in [("mixed", (|n| mixed(&[], n)) as Make), ("members", members)] {
+                let mut line = Growth::new(format!("check_state, {kind}, {name}"));
+                for &n in self.entries {
+                    let what = format!("{name}, {n} entries, {kind}");
+                    line.push(n, self.row(&CHECK_STATE, &what, &table, &state(n), &[]));
+                }
+                self.growth.push(line);
+            }
+        }
+    }
+
+    #[cfg(feature = "move")]
+    fn make_move(&mut self) {
+        for Named(name, table) in [self.small.clone(), self.full.clone()] {
+            for (kind, &(act, ..)) in single_moves(&table, 16).iter().enumerate() {
+                let mut line = Growth::new(format!("move, {act}, {name}"));
+                for &n in self.entries {
+                    // A begin adds two entries.
+                    let (_, state, mv) = &single_moves(&table, n.min(1_022))[kind];
+                    let what = format!("{name}, {n} entries, {act}");
+                    line.push(n, self.row(&MAKE_MOVE, &what, &table, state, &mv.words()));
+                }
+                self.growth.push(line);
+            }
+        }
+    }
+
+    fn logs(&mut self, pair: &Pair) {
+        type Make = fn(&mut Random, &Table, usize, usize) -> (State, Vec<Move>);
+        let mut random = Random::new(801);
+        for (kind, make) in [("merges", merge_log as Make), ("all global", global_log)] {
+            let mut row = |bench: &mut Bench, Named(name, table): &Named, n: usize, k: usize| {
+                let (start, log) = make(&mut random, table, n, k);
+                let what = format!("{name}, {n} entries, {k} moves, {kind}");
+                bench.row(pair, &what, table, &start, &log_words(&log))
+            };
+            let (small, full) = (self.small.clone(), self.full.clone());
+            row(self, &small, 16, 16);
+            for &n in self.entries {
+                let mut line = Growth::new(format!("{}, {kind}, {n} entries", pair.name));
+                for &k in self.moves {
+                    line.push(k, row(self, &full, n, k));
+                }
+                self.growth.push(line);
+            }
+        }
+    }
+}
+
+type Measure = fn(&mut Bench);
+
+/// The calls that the archive has.
+const CALLS: &[(&str, Measure)] = &[
+    (CHECK_TABLE.name, Bench::check_table),
+    (CHECK_STATE.name, Bench::check_state),
+    #[cfg(feature = "move")]
+    (MAKE_MOVE.name, Bench::make_move),
+    #[cfg(feature = "run")]
+    (RUN.name, |bench| bench.logs(&RUN)),
+    #[cfg(feature = "serialize")]
+    (SERIALIZE.name, |bench| bench.logs(&SERIALIZE)),
+];
+
+fn main() {
+    let (flags, chosen): (Vec<String>, Vec<String>) = args().skip(1).partition(|argument| argument == "--smoke");
+    let mut bench = Bench::new(!flags.is_empty());
+
+    println!("Ratio: ours / plain Rust, best of {} interleaved rounds, same input, same answers.", bench.effort.rounds);
+    println!("Copies: ours / one memcpy of the state's words.\n");
+    println!("| {:<11} | {:<46} | ratio | ours in µs | Rust in µs |  copies |", "call", "input");
+    println!("|{:-<13}|{:-<48}|-------|------------|------------|---------|", "", "");
+    for (name, measure) in CALLS {
+        if chosen.is_empty() || chosen.iter().any(|chosen| chosen == name) {
+            measure(&mut bench);
+        }
+    }
+
+    println!("\nHow the cost grows with the size (atoms, entries or moves):\n");
+    println!("| {:<35} | size          |  size |  ours |  Rust |", "call");
+    println!("|{:-<37}|---------------|-------|-------|-------|", "");
+    bench.growth.iter().for_each(Growth::print);
+
+    println!("\nOne memcpy of the state's words:\n");
+    for &n in bench.entries {
+        println!("- {n} entries: {:.3} µs", bench.copy_time(2 + 2 * n) / 1e3);
+    }
+
+    println!("\nThe worst ratio and the deepest stack of each call:\n");
+    println!("| {:<11} | ratio | stack in bytes |", "call");
+    println!("|{:-<13}|-------|----------------|", "");
+    for ((name, ratio), (_, stack)) in bench.worst.iter().zip(&bench.stack) {
+        println!("| {name:<11} | {ratio:>5.2} | {stack:>14} |");
+    }
+}

@@ -1,0 +1,451 @@
+//! The program of 01: standard input to standard output. What it has to print comes from 01's text
+//! or from the model (`harness::program`), never from a program. The reference program, made of
+//! the plain code, always takes part; the proved one does with the feature `program`.
+mod common;
+
+use std::fs;
+use std::io::{ErrorKind, Read, Write};
+use std::path::PathBuf;
+use std::process::{Command, Stdio};
+use std::thread;
+use std::time::Duration;
+
+use common::{two_lot_start, two_lot_table};
+use harness::generate::logs::{accepted, closed};
+use harness::generate::moves::changed;
+use harness::generate::state_faults::StateFault;
+use harness::generate::states::{messages, state};
+use harness::generate::table_faults::TableFault;
+use harness::generate::tables::{table, Shape};
+use harness::program::{input, output, MODEL};
+use harness::random::Random;
+use harness::two_lot::{case_a, case_c};
+use harness::words::{log_words, Entry, Move, State};
+
+/// 01's seven lines for case (a).
+const CASE_A: &str = "moves 6 entries 2 next 1\n0 0 4 2\n1 0 6 3\n2 0 6 3\n3 0 6 3\n4 0 6 3\n5 0 2 3\n";
+
+fn programs() -> Vec<PathBuf> {
+    #[allow(unused_mut)]
+    let mut programs = vec![PathBuf::from(env!("CARGO_BIN_EXE_reference"))];
+    #[cfg(feature = "program")]
+    programs.push(std::env::var_os("COORDINATE_BIN").map_or_else(
+        || PathBuf::from(concat!(env!("CARGO_MANIFEST_DIR"), "/../target/bin/coordinate")),
+        PathBuf::from,
+    ));
+    programs
+}
+
+/// How the input arrives.
+#[derive(Clone, Copy)]
+enum Pipe {
+    Whole,
+    /// One byte at a time.
+    Slow,
+    /// In pieces of up to this many bytes.
+    Pieces(usize),
+}
+
+/// What a command prints when it is fed this input. It may end before it has read all of it.
+fn fed(mut command: Command, bytes: &[u8], pipe: Pipe) -> String {
+    command.stdin(Stdio::piped()).stdout(Stdio::piped()).stderr(Stdio::piped());
+    let mut child = command.spawn().unwrap_or_else(|error| panic!("{command:?}: {error}"));
+    let mut stdin = child.stdin.take().unwrap();
+    let mut printed = child.stdout.take().unwrap();
+    thread::scope(|scope| {
+        scope.spawn(move || {
+            let pieces = match pipe {
+                Pipe::Whole => bytes.len().max(1),
+                Pipe::Slow => 1,
+                Pipe::Pieces(bytes) => bytes,
+            };
+            for piece in bytes.chunks(pieces) {
+                match stdin.write_all(piece) {
+                    Err(error) if error.kind() == ErrorKind::BrokenPipe => return,
+                    written => written.unwrap(),
+                }
+                if matches!(pipe, Pipe::Slow) {
+                    thread::sleep(Duration::from_micros(100));
+                }
+            }
+        });
+        let mut text = Vec::new();
+        printed.read_to_end(&mut text).unwrap();
+        let end = child.wait_with_output().unwrap();
+        assert!(end.status.code().is_some(), "ended by a signal: {:?}", end.status);
+        assert!(end.stderr.is_empty(), "{}", String::from_utf8_lossy(&end.stderr));
+        String::from_utf8(text).unwrap()
+    })
+}
+
+#[track_caller]
+fn prints_through(bytes: &[u8], pipe: Pipe, expected: &str) {
+    for program in programs() {
+        let printed = fed(Command::new(&program), bytes, pipe);
+        assert_eq!(printed, expected, "{} on {} bytes", program.display(), bytes.len());
+    }
+}
+
+#[track_caller]
+fn prints(bytes: &[u8], expected: &str) {
+    prints_through(bytes, Pipe::Whole, expected);
+}
+
+#[track_caller]
+fn refuses(bytes: &[u8], number: u32) {
+    prints(bytes, &format!("refused {number}\n"));
+}
+
+/// Compares with the model; gives what was printed.
+#[track_caller]
+fn as_the_model(bytes: &[u8]) -> String {
+    let expected = output(MODEL, bytes);
+    prints(bytes, &expected);
+    expected
+}
+
+/// The input of the two-lot plant with this log.
+fn two_lot(log: &[Move]) -> Vec<u8> {
+    input(&two_lot_table(), &two_lot_start(), &log_words(log))
+}
+
+// Catches a wrong figure, a lost or added line or newline: 01 gives this output whole.
+#[test]
+fn case_a_prints_the_seven_lines() {
+    prints(&two_lot(&case_a()), CASE_A);
+    assert_eq!(output(MODEL, &two_lot(&case_a())), CASE_A, "the model");
+}
+
+// Catches example files that the program does not take, by the shell command of `examples/README.md`.
+#[test]
+fn the_example_files() {
+    let lines = fs::read_to_string(concat!(env!("CARGO_MANIFEST_DIR"), "/../examples/README.md")).unwrap();
+    let cat = lines.lines().find(|line| line.starts_with("cat ")).unwrap();
+    let (cat, _) = cat.split_once('|').unwrap();
+    for program in programs() {
+        let mut shell = Command::new("bash");
+        shell.args(["-c", &format!(r#"{cat} | "$0""#)]).arg(&program);
+        let run = shell.current_dir(concat!(env!("CARGO_MANIFEST_DIR"), "/..")).output().unwrap();
+        assert_eq!(String::from_utf8_lossy(&run.stdout), CASE_A, "{}", program.display());
+    }
+}
+
+// Catches a cut part that is read as whole, or has another part's number: 29 words are the table,
+// 6 the start, 31 the log.
+#[test]
+fn every_cut_of_case_a() {
+    let bytes = two_lot(&case_a());
+    assert_eq!(bytes.len(), 4 * (29 + 6 + 31));
+    for cut in 0..bytes.len() {
+        let number = match cut / 4 {
+            0..29 => 1,
+            29..35 => 3,
+            _ => 13,
+        };
+        refuses(&bytes[..cut], number);
+    }
+}
+
+// Catches bytes left over that are dropped, also those that make no word, and those that would
+// be a second input.
+#[test]
+fn bytes_left_over() {
+    for left in 1..=5 {
+        for byte in [0, 10, 255] {
+            for log in [case_a(), vec![]] {
+                let mut bytes = two_lot(&log);
+                bytes.extend(vec![byte; left]);
+                refuses(&bytes, 13);
+            }
+        }
+    }
+    let bytes = two_lot(&case_a());
+    refuses(&[&bytes[..], &bytes[..]].concat(), 13);
+}
+
+// Catches an empty or a closed input that is waited for, or is taken for a table.
+#[test]
+fn no_input() {
+    refuses(&[], 1);
+    for program in programs() {
+        let null = Command::new(&program).stdin(Stdio::null()).output().unwrap();
+        assert_eq!(null.stdout, b"refused 1\n", "{} on no input", program.display());
+        let mut closed = Command::new("sh");
+        closed.args(["-c", r#"exec "$0" <&-"#]).arg(&program);
+        let closed = closed.output().unwrap();
+        assert_eq!(closed.stdout, b"refused 1\n", "{} on a closed input", program.display());
+    }
+}
+
+// Catches a limit that is not tested before the part is measured by it: each size just over its
+// limit and as large as a word, with the rest there and not there.
+#[test]
+fn sizes_over_their_limits() {
+    let (table, start, log) = (two_lot_table(), two_lot_start(), log_words(&case_a()));
+    let with = |words: &[u32], at: usize, word: u32| {
+        let mut words = words.to_vec();
+        words[at] = word;
+        words
+    };
+    for huge in [0x8000_0000, 0x8000_000C, u32::MAX] {
+        for (at, over) in [(0, 255), (1, 254), (2, 254), (3, 65), (4, 513)] {
+            refuses(&input(&with(&table, at, over), &start, &log), 1);
+            refuses(&input(&with(&table, at, huge), &start, &log), 1);
+        }
+        for (at, over) in [(0, 1_025), (1, 65_537)] {
+            refuses(&input(&table, &with(&start, at, over), &log), 3);
+            refuses(&input(&table, &with(&start, at, huge), &log), 3);
+        }
+        refuses(&input(&table, &start, &with(&log, 0, 1_025)), 13);
+        refuses(&input(&table, &start, &with(&log, 0, huge)), 13);
+    }
+    // N = 0.
+    refuses(&input(&table, &with(&start, 1, 0), &log), 3);
+    // As long as the size over the limit says.
+    let mut atoms = with(&table, 4, 513);
+    atoms.resize(5 + 2 * 513, 0);
+    refuses(&input(&atoms, &start, &log), 1);
+    let mut entries = with(&start, 0, 1_025);
+    entries.resize(2 + 2 * 1_025, 0);
+    refuses(&input(&table, &entries, &log), 3);
+    let mut moves = vec![1_025];
+    moves.resize(1 + 5 * 1_025, 0);
+    refuses(&input(&table, &start, &moves), 13);
+}
+
+// Catches parts that are measured before the one in front is checked: every set of the faults
+// 1, 2, 3, 4, 13 and bytes left over, the first of which counts.
+#[test]
+fn the_first_fault_counts() {
+    for set in 0..1u32 << 6 {
+        let has = |bit: u32| set >> bit & 1 == 1;
+        let (mut table, mut start, mut log) = (two_lot_table(), two_lot_start(), log_words(&case_a()));
+        if has(1) {
+            table[28] ^= 0x0F00_0000;
+        }
+        if has(0) {
+            table[3] = 65;
+        }
+        if has(3) {
+            start[5] = 0x0400_0000;
+        }
+        if has(2) {
+            start[1] = 0;
+        }
+        if has(4) {
+            log[0] = 1_025;
+        }
+        let mut bytes = input(&table, &start, &log);
+        if has(5) {
+            bytes.push(0);
+        }
+        match [1, 2, 3, 4, 13, 13].into_iter().enumerate().find(|&(bit, _)| has(bit as u32)) {
+            Some((_, number)) => refuses(&bytes, number),
+            None => prints(&bytes, CASE_A),
+        }
+    }
+    let (table, start) = (two_lot_table(), two_lot_start());
+    let mut bad = table.clone();
+    bad[28] ^= 0x0F00_0000;
+    // A table cut short with a bad atom is 1; a bad table before a cut state is 2.
+    let bytes = input(&bad, &start, &[]);
+    refuses(&bytes[..4 * 29 - 1], 1);
+    refuses(&bytes[..4 * 29], 2);
+    refuses(&bytes[..4 * 30 + 2], 2);
+    // A bad state before a cut or absent log is 4.
+    let bytes = input(&table, &[2, 1, 0, 0, 7, 0x0400_0000], &log_words(&case_a()));
+    for cut in [35, 36, 65] {
+        refuses(&bytes[..4 * cut], 4);
+        refuses(&bytes[..4 * cut + 1], 4);
+    }
+}
+
+// Catches a program that overruns its buffer, reads without end or dies of a pipe: 5 MB of noise,
+// and 5 MB behind each part of a right input.
+#[test]
+fn five_megabytes() {
+    let mut random = Random::new(701);
+    let noise: Vec<u8> = (0..5_000_000 / 8).flat_map(|_| random.word64().to_le_bytes()).collect();
+    as_the_model(&noise);
+    let zeros = vec![0; 5_000_000];
+    // Five zero sizes are a table; n = 0, N = 0 is no state.
+    refuses(&zeros, 3);
+    let right = two_lot(&case_a());
+    for (front, number) in [(5 * 4, 1), (29 * 4, 3), (35 * 4, 13), (right.len(), 13)] {
+        let mut bytes = right[..front].to_vec();
+        if front == 5 * 4 {
+            bytes[16..].fill(255);
+        }
+        bytes.extend(&noise);
+        refuses(&bytes, number);
+        assert_eq!(output(MODEL, &bytes), format!("refused {number}\n"), "the model");
+    }
+}
+
+// Catches a read that takes a short one for the end of the input.
+#[test]
+fn a_slow_pipe() {
+    let bytes = two_lot(&case_a());
+    prints_through(&bytes, Pipe::Slow, CASE_A);
+    prints_through(&bytes[..bytes.len() - 1], Pipe::Slow, "refused 13\n");
+    for pieces in [3, 4, 5, 100] {
+        prints_through(&bytes, Pipe::Pieces(pieces), CASE_A);
+    }
+}
+
+// Catches lines for moves that are not there: k = 0 prints only the first line.
+#[test]
+fn an_empty_log() {
+    prints(&two_lot(&[]), "moves 0 entries 2 next 1\n");
+    prints(&input(&[0, 0, 0, 0, 0], &[0, 65_536], &[0]), "moves 0 entries 0 next 65536\n");
+}
+
+// Catches 16 in a line, a first line that is left out, a refused move that changes n or N, and a
+// program that goes on after it. The numbers are 01's, cases (b), (e), (f), (g) among them.
+#[test]
+fn a_refused_move_is_the_last_line() {
+    let first = "moves 2 entries 2 next 1\n";
+    for (mv, own) in [
+        (Move::react(4, &[0]), 5),
+        (Move { kind: 3, number: 1, picks: [0; 4] }, 5),
+        (Move::react(0, &[2]), 7),
+        (Move::react(1, &[0]), 7),
+        (Move::commit(1), 9),
+        (Move::abort(65_535), 9),
+        (Move::commit(65_536), 5),
+    ] {
+        prints(&two_lot(&[mv, Move::react(0, &[0])]), &format!("{first}0 {own} 2 1\n"));
+    }
+    let a = case_a();
+    for (accepted, mv, last) in [
+        (4, Move::commit(1), "4 10 6 3\n"),
+        (4, Move::react(2, &[4, 4]), "4 7 6 3\n"),
+        (1, Move::abort(1), "1 10 4 2\n"),
+        (2, Move::commit(3), "2 9 6 3\n"),
+    ] {
+        let mut log = a[..accepted].to_vec();
+        log.extend([mv, a[0]]);
+        let lines: Vec<&str> = CASE_A.split_inclusive('\n').collect();
+        let expected = format!("moves {} entries 2 next 1\n{}{last}", log.len(), lines[1..=accepted].concat());
+        prints(&two_lot(&log), &expected);
+    }
+    // A message still inside a transaction: 8. N = 65,536: 11. A full state: 12.
+    let table = two_lot_table();
+    let inside = [2, 2, 1, 1, 0x0300_0001, 7];
+    prints(&input(&table, &inside, &log_words(&[Move::react(0, &[1])])), "moves 1 entries 2 next 2\n0 8 2 2\n");
+    prints(&input(&table, &[1, 65_536, 0, 7], &log_words(&a[..1])), "moves 1 entries 1 next 65536\n0 11 1 65536\n");
+    let full = State { next: 1, entries: vec![Entry::new(0, 0, 0, 7); 1_024] };
+    prints(&input(&table, &full.words(), &log_words(&a[..1])), "moves 1 entries 1024 next 1\n0 12 1024 1\n");
+}
+
+// Catches n and N that are not those after the move: case (c) ends with a transaction open.
+#[test]
+fn case_c_line_by_line() {
+    prints(&two_lot(&case_c()), "moves 5 entries 2 next 1\n0 0 4 2\n1 0 6 3\n2 0 6 3\n3 0 6 3\n4 0 4 3\n");
+}
+
+// Catches figures that only the largest input shows: 512 atoms, 1,024 entries, 1,024 moves.
+#[test]
+fn the_largest_input() {
+    let mut table = vec![256, 0, 0, 64, 512];
+    table.extend((0..64).flat_map(|rule| [rule; 8]));
+    // Four consumes and four emits on port 0: a constant, and values received.
+    table.extend((0..64).flat_map(|rule| [0, 0, 0, 0, 0x1000_0000 | rule, 0x1100_0000, 0x1100_0002, 0x1100_0003]));
+    assert_eq!(table.len(), 5 + 1_024);
+    let mut start = vec![1_024, 65_536];
+    start.extend(vec![0; 2_048]);
+    let mut random = Random::new(702);
+    let log: Vec<Move> = (0..1_024)
+        .map(|_| {
+            let first = random.below(1_021);
+            Move::react(random.below(64), &[first, first + 3, first + 1, first + 2])
+        })
+        .collect();
+    let bytes = input(&table, &start, &log_words(&log));
+    assert_eq!(bytes.len(), 4 * (5 + 1_024 + 2 + 2_048 + 1 + 5_120));
+    let mut expected = "moves 1024 entries 1024 next 65536\n".to_string();
+    expected.extend((0..1_024).map(|place| format!("{place} 0 1024 65536\n")));
+    prints(&bytes, &expected);
+    refuses(&[&bytes[..], &[0]].concat(), 13);
+    refuses(&bytes[..bytes.len() - 1], 13);
+}
+
+// Catches any other difference: random tables, states and logs, right ones and ones with a move
+// changed, a planted fault, a changed or lost word, or bytes behind.
+#[test]
+fn random_inputs() {
+    let mut random = Random::new(703);
+    let mut seen = [0; 18];
+    let (mut whole, mut broken) = (0, 0);
+    for round in 0..900 {
+        let table = table(&mut random, [Shape::Small, Shape::Closable, Shape::Any][round % 3]);
+        let most = random.pick(&[3, 30, 200]);
+        let start = state(&mut random, &table, most, true);
+        let moves = random.pick(&[0, 3, 20]);
+        let mut log = accepted(&mut random, &table, &start, moves);
+        if round % 4 == 1 {
+            let other = Move::from_words(&changed(&mut random, &table, &start)).unwrap();
+            let at = random.index(log.len() + 1);
+            log.insert(at, other);
+        }
+        let mut parts = [table.words(), start.words(), log_words(&log)];
+        match round % 8 {
+            2 => {
+                let fault = random.pick(TableFault::ALL);
+                parts[0] = fault.plant(&mut random, &table).unwrap_or(table.words());
+            }
+            6 => {
+                let fault = random.pick(StateFault::ALL);
+                parts[1] = fault.plant(&mut random, &table, &start).unwrap_or(start.words());
+            }
+            3 => {
+                let part = random.index(3);
+                let at = random.index(parts[part].len());
+                parts[part][at] = random.edge_word();
+            }
+            _ => {}
+        }
+        let mut bytes = input(&parts[0], &parts[1], &parts[2]);
+        match round % 16 {
+            7 => bytes.truncate(random.index(bytes.len() + 1)),
+            15 => bytes.extend(vec![0; random.between(1, 9) as usize]),
+            _ => {}
+        }
+        let text = as_the_model(&bytes);
+        let last: Vec<&str> = text.lines().last().unwrap().split(' ').collect();
+        match (text.starts_with("refused"), last[0]) {
+            (true, _) => seen[last[1].parse::<usize>().unwrap()] += 1,
+            (false, "moves") => {}
+            (false, _) => {
+                let own: usize = last[1].parse().unwrap();
+                seen[own] += 1;
+                whole += usize::from(own == 0);
+                broken += usize::from(own != 0);
+            }
+        }
+    }
+    for number in [1, 2, 3, 4, 5, 7, 9, 10, 13] {
+        assert!(seen[number] > 0, "{number}: {seen:?}");
+    }
+    assert!(whole > 150 && broken > 60, "{whole} {broken}");
+}
+
+// Catches a fault of long logs: up to 1,024 moves on up to 1,024 entries.
+#[test]
+fn long_random_logs() {
+    let mut random = Random::new(704);
+    let mut longest = 0;
+    for round in 0..6 {
+        let table = table(&mut random, Shape::Closable);
+        let n = random.pick(&[50, 300, 1_000]);
+        let start = messages(&mut random, &table, n);
+        let log = if round % 2 == 0 {
+            accepted(&mut random, &table, &start, 1_024)
+        } else {
+            closed(&mut random, &table, &start, 1_024)
+        };
+        longest = longest.max(log.len());
+        as_the_model(&input(&table.words(), &start.words(), &log_words(&log)));
+    }
+    assert!(longest > 500, "{longest}");
+}

@@ -1,0 +1,106 @@
+/*
+ * The batch coordinator: link libcoordinator.a.
+ *
+ * Tables, states, moves and logs are lists of 32-bit words; document 01 gives their layout. Each
+ * call takes a list as a pointer and its length in words. It checks everything that it is handed,
+ * of any length and content, and answers in numbers: COORDINATOR_ACCEPTED, or why it is refused,
+ * the first fault of the order given with the call.
+ *
+ * What the caller owes: each pointer is valid for its length (any pointer will do for length 0),
+ * and the target overlaps none of the other lists. Nothing is kept between calls, nothing is
+ * allocated, and calls may be made from several threads at once.
+ *
+ * A refused call leaves the whole target as it was. An accepted one writes answer.words words to
+ * its front and leaves the rest as it was.
+ *
+ * Stack: every call runs in a thread of COORDINATOR_STACK_BYTES.
+ */
+#ifndef COORDINATOR_H
+#define COORDINATOR_H
+
+#include <stddef.h>
+#include <stdint.h>
+
+#ifdef __cplusplus
+extern "C" {
+#endif
+
+/* Limits and sizes. */
+#define COORDINATOR_MAX_PORTS 256u       /* of a table, all three classes together */
+#define COORDINATOR_MAX_RULES 64u        /* of a table */
+#define COORDINATOR_MAX_ATOMS 512u       /* of a table */
+#define COORDINATOR_MAX_RULE_ATOMS 16u   /* of a rule, its takes included */
+#define COORDINATOR_MAX_CONSUMES 4u      /* takes of a rule, picks of a move */
+#define COORDINATOR_MAX_ENTRIES 1024u    /* of a state */
+#define COORDINATOR_MAX_NEXT 65536u      /* next ticket of a state */
+#define COORDINATOR_MAX_MOVES 1024u      /* of a log */
+#define COORDINATOR_MOVE_WORDS 5u
+#define COORDINATOR_STATE_TARGET_WORDS 2050u /* of a target for a state, however small the state */
+#define COORDINATOR_STACK_BYTES 262144u
+
+/* Words of a list with these counts. A target for a serial log has those of its log. */
+#define COORDINATOR_TABLE_WORDS(atoms) (5u + 2u * (atoms))
+#define COORDINATOR_STATE_WORDS(entries) (2u + 2u * (entries))
+#define COORDINATOR_LOG_WORDS(moves) (1u + 5u * (moves))
+
+/* Numbers: accepted. */
+#define COORDINATOR_ACCEPTED 0u
+
+/* Numbers: refused because of what is handed in. */
+#define COORDINATOR_TABLE_SIZES 1u       /* table: sizes or length */
+#define COORDINATOR_TABLE_CONTENTS 2u    /* table: any other fault */
+#define COORDINATOR_STATE_SIZES 3u       /* state: number of entries, next ticket or length */
+#define COORDINATOR_STATE_CONTENTS 4u    /* state: any other fault */
+#define COORDINATOR_MOVE_FORM 5u         /* move: not five words; kind, rule or ticket out of range; unused pick not 0 */
+#define COORDINATOR_TARGET_TOO_SHORT 6u  /* target: below COORDINATOR_STATE_TARGET_WORDS or COORDINATOR_LOG_WORDS(k) */
+#define COORDINATOR_LOG_SIZES 13u        /* log: count or length */
+#define COORDINATOR_BEGIN_EMITS 14u      /* an opening rule has a give (serialize only) */
+
+/* Numbers: refused because of the plant's state. */
+#define COORDINATOR_WRONG_PICK 7u        /* a pick past the last entry, repeated, not a note, or on another port */
+#define COORDINATOR_WRONG_OWNER 8u       /* owner not as the rule wants */
+#define COORDINATOR_NO_TRANSACTION 9u    /* ticket names no open batch */
+#define COORDINATOR_END_NOT_ALLOWED 10u  /* release or call-off not allowed */
+#define COORDINATOR_NO_MORE_IDS 11u      /* opening with next ticket 65,536 */
+#define COORDINATOR_TOO_MANY_ENTRIES 12u /* more than 1,024 entries afterwards */
+#define COORDINATOR_TRANSACTION_OPEN 15u /* an open batch at the log's start or end (serialize only) */
+#define COORDINATOR_MOVE_REFUSED 16u     /* a move in the log: place and own tell which and why */
+#define COORDINATOR_SERIAL_TOO_MANY_ENTRIES 17u /* the serial order would exceed 1,024 entries */
+
+typedef struct coordinator_answer {
+    uint32_t number; /* one of the numbers above */
+    uint32_t words;  /* accepted: the words written, 0 by a check; else 0 */
+    uint32_t place;  /* COORDINATOR_MOVE_REFUSED: the move's place in the log, from 0; else 0 */
+    uint32_t own;    /* COORDINATOR_MOVE_REFUSED: the move's own number, 5 or 7 to 12; else 0 */
+} coordinator_answer;
+
+/* Whether a table is well formed. Refusals: 1, 2. */
+coordinator_answer coordinator_check_table(const uint32_t *table, size_t table_len);
+
+/* Whether a state is well formed under its table. Refusals: 1, 2, 3, 4. */
+coordinator_answer coordinator_check_state(const uint32_t *table, size_t table_len,
+                                           const uint32_t *state, size_t state_len);
+
+/* The state after one move. Refusals: 1 to 12 in this order. */
+coordinator_answer coordinator_move(const uint32_t *table, size_t table_len,
+                                    const uint32_t *state, size_t state_len,
+                                    const uint32_t *move, size_t move_len,
+                                    uint32_t *target, size_t target_len);
+
+/* The state after a log's moves, one after another. Refusals: 1, 2, 3, 4, 13, 6, 16. */
+coordinator_answer coordinator_run(const uint32_t *table, size_t table_len,
+                                   const uint32_t *state, size_t state_len,
+                                   const uint32_t *log, size_t log_len,
+                                   uint32_t *target, size_t target_len);
+
+/* The serial log of a log. Refusals: 1, 2, 3, 4, 13, 6, 14, 15 (start), 16, 15 (end), 17. */
+coordinator_answer coordinator_serialize(const uint32_t *table, size_t table_len,
+                                         const uint32_t *state, size_t state_len,
+                                         const uint32_t *log, size_t log_len,
+                                         uint32_t *target, size_t target_len);
+
+#ifdef __cplusplus
+}
+#endif
+
+#endif

@@ -1,0 +1,115 @@
+//! Safe Rust over the proved archive `libcoordinator.a`.
+//!
+//! A table of rules, a state, a move and a log are lists of 32-bit words; document 01 gives their
+//! layout. [`Table`], [`State`], [`Move`] and [`Log`] borrow such words and check nothing, so that
+//! words from a file or a line can be handed over as they are: every call checks all that it is
+//! handed, and answers a [`Refusal`] with document 01's number. [`TableBuilder`], [`StateBuilder`],
+//! [`LogBuilder`] and [`react`], [`commit`], [`abort`] write the words.
+//!
+//! No call allocates, keeps anything, or panics. A refused call leaves its target as it was; an
+//! accepted one leaves it as it was beyond the words that it gives back. Each call runs in a
+//! thread with 256 KB of stack.
+//!
+//! ```
+//! use coordinator::{check_state, check_table, Atom, Refusal, State, StateBuilder, Table, TableBuilder, Value};
+//!
+//! // Port 0 is global, port 1 local. A message on port 0 begins a transaction with it inside.
+//! let received = Value::Received(0);
+//! let table = TableBuilder::new(1, 1, 0)
+//!     .rule([Atom::Consume { port: 0 }, Atom::Begin, Atom::Body { port: 1, value: received }])
+//!     .words();
+//! check_table(Table::new(&table))?;
+//!
+//! let start = StateBuilder::new(1).message(0, 0, 7).words();
+//! check_state(Table::new(&table), State::new(&start))?;
+//!
+//! # #[cfg(feature = "move")] {
+//! // The message at place 0 begins transaction 1.
+//! let mut target = [0; coordinator::STATE_TARGET_WORDS];
+//! let mv = coordinator::react(0, &[0]);
+//! let after =
+//!     coordinator::make_move(Table::new(&table), State::new(&start), coordinator::Move::new(&mv), &mut target)?;
+//! assert_eq!(after.next(), Some(2));
+//! # }
+//! # Ok::<(), Refusal>(())
+//! ```
+#![warn(missing_docs)]
+mod boundary;
+mod log;
+mod refusal;
+mod state;
+mod table;
+
+pub use log::{abort, commit, react, Log, LogBuilder, Move};
+pub use refusal::Refusal;
+pub use state::{Entry, Item, State, StateBuilder};
+pub use table::{Atom, Table, TableBuilder, Value};
+
+/// Ports of a table, of all three classes together.
+pub const MAX_PORTS: usize = 256;
+/// Rules of a table.
+pub const MAX_RULES: usize = 64;
+/// Atoms of a table.
+pub const MAX_ATOMS: usize = 512;
+/// Atoms of a rule, its consumes included.
+pub const MAX_RULE_ATOMS: usize = 16;
+/// Consumes of a rule, and picks of a move.
+pub const MAX_CONSUMES: usize = 4;
+/// Entries of a state.
+pub const MAX_ENTRIES: usize = 1024;
+/// The next id of a state; a transaction's id is below it.
+pub const MAX_NEXT: u32 = 65_536;
+/// Moves of a log.
+pub const MAX_MOVES: usize = 1024;
+/// The words of a move.
+pub const MOVE_WORDS: usize = 1 + MAX_CONSUMES;
+/// The words that a target for a state must have, however small the state.
+pub const STATE_TARGET_WORDS: usize = 2 + 2 * MAX_ENTRIES;
+
+/// The words that a target for the serial log of `moves` moves must have.
+pub const fn log_target_words(moves: usize) -> usize {
+    1 + MOVE_WORDS * moves
+}
+
+/// Whether a table is well formed. Refusals: 1, 2.
+pub fn check_table(table: Table<'_>) -> Result<(), Refusal> {
+    boundary::check_table(table.words()).result().map(|_| ())
+}
+
+/// Whether a state is well formed under its table. Refusals: 1 to 4.
+pub fn check_state(table: Table<'_>, state: State<'_>) -> Result<(), Refusal> {
+    boundary::check_state(table.words(), state.words()).result().map(|_| ())
+}
+
+/// The state after one move, written to the front of the target. Refusals: 1 to 12, in that order.
+#[cfg(feature = "move")]
+pub fn make_move<'t>(
+    table: Table<'_>,
+    state: State<'_>,
+    mv: Move<'_>,
+    target: &'t mut [u32],
+) -> Result<State<'t>, Refusal> {
+    let words = boundary::make_move(table.words(), state.words(), mv.words(), target).result()?;
+    Ok(State::new(&target[..words]))
+}
+
+/// The state after a log's moves one after another, written to the front of the target.
+/// Refusals: 1 to 4, 13, 6, and 16 with the place and own number of the move refused.
+#[cfg(feature = "run")]
+pub fn run<'t>(table: Table<'_>, state: State<'_>, log: Log<'_>, target: &'t mut [u32]) -> Result<State<'t>, Refusal> {
+    let words = boundary::run(table.words(), state.words(), log.words(), target).result()?;
+    Ok(State::new(&target[..words]))
+}
+
+/// The serial log: the same moves, each transaction's together and right before its end, written
+/// to the front of the target. Refusals: 1 to 4, 13, 6, 14, 15 (start), 16, 15 (end), 17.
+#[cfg(feature = "serialize")]
+pub fn serialize<'t>(
+    table: Table<'_>,
+    state: State<'_>,
+    log: Log<'_>,
+    target: &'t mut [u32],
+) -> Result<Log<'t>, Refusal> {
+    let words = boundary::serialize(table.words(), state.words(), log.words(), target).result()?;
+    Ok(Log::new(&target[..words]))
+}
