@@ -80,7 +80,7 @@ module _ (x : Rule) (d : Decodes x (ruleIn x)) (picks : List ℕ) (four : length
   ps = take (x .consumes) picks
 
   count-picks : length ps ≡ x .consumes
-  count-picks = length-take-le (x .consumes) picks (omega (arith, d .leads .most))
+  count-picks = length-take-le (x .consumes) picks (omega (arith, d .legal .most))
 
   module _ (os ws gs : List ℕ) (n next : ℕ) where
     abbrev σ : semantics.State
@@ -111,7 +111,7 @@ module _ (x : Rule) (d : Decodes x (ruleIn x)) (picks : List ℕ) (four : length
     pub products-found : (i home : ℕ) {found : List ℕ} → found ≡ fourAt ws ps → Places n ps → home ≡ least (ownersAt σ ps)
         → productsFrom (x .class) next home (map valueOf found) i 0 (makers x) ≡ products (ruleIn x) σ (picked σ ps) i 0 (productAtoms (ruleIn x))
     products-found i home {found} e h least-is =
-        rw (products-from (ruleIn x) σ (picked σ ps) i 0 (productAtoms (ruleIn x)), d .leads .products, least-is)
+        rw (products-from (ruleIn x) σ (picked σ ps) i 0 (productAtoms (ruleIn x)), d .legal .products, least-is)
         (products-same (x .class) next (least (ownersAt σ ps)) (map valueOf found) (map (λ e. e .value) (picked σ ps)) (values-found e h) i 0 (makers x))
 
   -- ---- what a reaction leaves, in the working state; s₁ has the picks taken out
