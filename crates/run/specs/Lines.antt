@@ -22,8 +22,8 @@ use Rattle.state.specs.declared.State.{State}
 use Rattle.state.specs.Working.{stateIn}
 use Rattle.state.specs.Arrays.{count-in}
 use Rattle.run.specs.declared.Ran.{Ran}
-use Rattle.run.specs.Moves.{Bounded}
-use Rattle.run.specs.Runs.{Prepared, RanAs, movesIn, ranBy, moves-none, moves-whole, moves-first, moves-one}
+use Rattle.run.specs.Moves.{Prepared, Bounded}
+use Rattle.run.specs.Runs.{RanAs, movesIn, ranBy, moves-none, moves-whole, moves-first, moves-one}
 
 -- ---- contracts
 

@@ -22,19 +22,13 @@ use Rattle.state.specs.declared.State.{State}
 use Rattle.state.specs.Working.{stateIn}
 use Rattle.log.specs.Form.{Sized}
 use Rattle.run.specs.declared.Ran.{Ran}
-use Rattle.run.specs.Moves.{Bounded, step-bounded}
+use Rattle.run.specs.Moves.{Prepared, Bounded, step-bounded}
 
 -- ---- contracts
 
 -- the moves of a log at the places from `from` on, before `stop`
 abbrev pub movesIn : List ℕ → ℕ → ℕ → List (List ℕ)
 movesIn l from stop = map (moveAt l) (upFrom from (stop - from))
-
--- a table that is accepted, with the index of its rules, and a log in order
-pub record Prepared (t index l : List ℕ) : Type 0 where
-  pub table : tableVerdict t ≡ Allowed
-  pub starts : Starts (numbersOf t) (sizesOf t .rules) index
-  pub log : Sized l
 
 -- what a run over the places from `from` to `stop` asks
 pub record Startable (t index l : List ℕ) (s : State) (from stop ceiling : ℕ) : Type 0 where
