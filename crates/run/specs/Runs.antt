@@ -145,5 +145,8 @@ module _ {ceiling : ℕ} {t : Table} {l : List ℕ} {start : semantics.State} {f
       record { value = sym (rw (step-from stop h, k)); reached = r .so-far; bounds = r .bounds }
 
   -- no move is left
-  pub reached-end : RanAs (record { verdict = Allowed; place = i; state = s }) ceiling t l start from i
-  reached-end = record { value = sym (r .so-far); reached = r .so-far; bounds = r .bounds }
+  pub reached-end : (stop : ℕ) → i ≤ stop → stop ≤ i → RanAs (record { verdict = Allowed; place = stop; state = s }) ceiling t l start from stop
+  reached-end stop low high =
+      let e : stop ≡ i = omega arith in
+      let whole : run ceiling t from start (movesIn l from stop) ≡ ended (stateIn s) = rw e (r .so-far) in
+      record { value = sym whole; reached = whole; bounds = r .bounds }
