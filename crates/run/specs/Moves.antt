@@ -12,6 +12,7 @@ use Rattle.semantics.specs.State as semantics
 use Rattle.semantics.specs.Move as move
 use Rattle.semantics.specs.Move.{unless, both, react, commit, abort, moveOk, moveOf, reacted, ended, allowed, applied, to, refused, steppedBy, stepWords, moveVerdict}
 use Rattle.semantics.specs.Answers.{tableVerdict}
+use Rattle.semantics.specs.declared.Refusal.{Refusal}
 use Rattle.semantics.specs.declared.Refusal.the-variants.{MoveForm, TooManyEntries}
 use Rattle.semantics.specs.declared.Verdict.{Verdict}
 use Rattle.semantics.specs.declared.Verdict.the-variants.{Allowed, Denied}
@@ -45,7 +46,7 @@ pub record Decoded (m : Move) (t : Table) : Type 0 where
 unfoldable pub wordsVerdict : ℕ → Table → semantics.State → List ℕ → Verdict
 wordsVerdict ceiling t s w = both (unless (moveOk t w) MoveForm) (moveVerdict ceiling t s (moveOf t w))
 
-pub step-decided : (ceiling : ℕ) (t : Table) (i : ℕ) (s : semantics.State) (w : List ℕ) → stepWords ceiling t i s w ≡ steppedBy (wordsVerdict ceiling t s w) (applied t i s (moveOf t w))
+step-decided : (ceiling : ℕ) (t : Table) (i : ℕ) (s : semantics.State) (w : List ℕ) → stepWords ceiling t i s w ≡ steppedBy (wordsVerdict ceiling t s w) (applied t i s (moveOf t w))
 unfolding wordsVerdict
 step-decided ceiling t i s w = stepWords-verdict ceiling t i s w ∙ go (moveOk t w)
   where
@@ -53,6 +54,9 @@ step-decided ceiling t i s w = stepWords-verdict ceiling t i s w ∙ go (moveOk 
         ≡ steppedBy (both (unless b MoveForm) (moveVerdict ceiling t s (moveOf t w))) (applied t i s (moveOf t w))
     go true = refl
     go false = refl
+
+pub step-refused : (ceiling : ℕ) (t : Table) (i : ℕ) (s : semantics.State) (w : List ℕ) {q : Refusal} → wordsVerdict ceiling t s w ≡ Denied q → stepWords ceiling t i s w ≡ refused q
+step-refused ceiling t i s w h = rw (step-decided ceiling t i s w, h)
 
 module _ {m : Move} {t : Table} (d : Decoded m t) where
   pub is-move : m .ok ≡ true → IsMove t (m .rule) (m .head) (m .picks)

@@ -126,23 +126,24 @@ module _ {ceiling : ℕ} {t : Table} {l : List ℕ} {start : semantics.State} {f
   unfolding run
   step-from stop h = onward-from stop (omega arith) ∙ ap (run ceiling t i (stateIn s)) (moves-first l i stop h)
 
-  -- an accepted move
-  pub reached-next : (s′ : State) → stepWords ceiling t (i + 1) (stateIn s) (moveAt l i) ≡ to (stateIn s′) → Reached ceiling t l start from (i + 1) s′
-  unfolding run stateIn
-  reached-next s′ e =
-      let k = rw (add-one i) at e in
-      record {
-        past = omega (arith, r .past);
-        so-far = rw (add-one i, step-from (suc i) (omega arith), k, moves-none l (suc i) (suc i) (omega arith));
-        bounds = step-bounded ceiling t (i + 1) (stateIn s) (moveAt l i) s′ (r .bounds .next) e;
-      }
+  module _ {w : List ℕ} (words : w ≡ moveAt l i) where
+    -- an accepted move
+    pub reached-next : (s′ : State) → stepWords ceiling t (i + 1) (stateIn s) w ≡ to (stateIn s′) → Reached ceiling t l start from (i + 1) s′
+    unfolding run stateIn
+    reached-next s′ e =
+        let k = rw (words, add-one i) at e in
+        record {
+          past = omega (arith, r .past);
+          so-far = rw (add-one i, step-from (suc i) (omega arith), k, moves-none l (suc i) (suc i) (omega arith));
+          bounds = step-bounded ceiling t (i + 1) (stateIn s) w s′ (r .bounds .next) e;
+        }
 
-  -- a refused one
-  pub reached-refused : (stop : ℕ) → i < stop → (q : Refusal) → stepWords ceiling t (i + 1) (stateIn s) (moveAt l i) ≡ refused q
-      → RanAs (record { verdict = Denied q; place = i; state = s }) ceiling t l start from stop
-  reached-refused stop h q e =
-      let k = rw (add-one i) at e in
-      record { value = sym (rw (step-from stop h, k)); reached = r .so-far; bounds = r .bounds }
+    -- a refused one
+    pub reached-refused : (stop : ℕ) → i < stop → (q : Refusal) → stepWords ceiling t (i + 1) (stateIn s) w ≡ refused q
+        → RanAs (record { verdict = Denied q; place = i; state = s }) ceiling t l start from stop
+    reached-refused stop h q e =
+        let k = rw (words, add-one i) at e in
+        record { value = sym (rw (step-from stop h, k)); reached = r .so-far; bounds = r .bounds }
 
   -- no move is left
   pub reached-end : (stop : ℕ) → i ≤ stop → stop ≤ i → RanAs (record { verdict = Allowed; place = stop; state = s }) ceiling t l start from stop

@@ -1,12 +1,15 @@
 -- `run_part` meets its contract: at place i the moves before it have led to s.
-use Prim.Native.Nat.{_+_, _-_, _≤_}
+use Prim.Native.Nat.{ℕ, _-_, _≤_}
+use mathlib.Core.List.{map}
 use mathlib.Core.Path.{_≡_, sym, _∙_}
 use native.Mathlib.Omega.{arith}
-use borrow.Author.Needs.{needs}
+use borrow.Author.Needs.{needs, length-unmapped}
 use Rattle.semantics.specs.Table.{tableOf}
+use lib.ListN.{length}
+use Rattle.state.specs.declared.State.{State}
 use Rattle.state.specs.Working.{stateIn}
 use Rattle.state.specs.Arrays.{Arrays}
-use Rattle.run.specs.Moves.{step-made, allowed-applicable}
+use Rattle.run.specs.Moves.{step-refused, step-made, allowed-applicable}
 use Rattle.run.specs.Runs.{Startable, Reached, reached-start, reached-next, reached-refused, reached-end}
 use Rattle.run.proofs.run_part.Statement.{statement}
 use Rattle.run.proofs.run_part.Tie as tie
@@ -20,6 +23,11 @@ Inv table starts log from to ceiling s₀ i₀ s i =
 
 abbrev μ : tie.MeasureT-loop
 μ table starts log from to ceiling s₀ i₀ s i = to - i
+
+-- what a call says of a state that it returns, by its type
+arrays-of : (s : State) → length (map (λ (v : ℕ). v) (s .owners)) ≡ 1024 → length (map (λ (v : ℕ). v) (s .items)) ≡ 1024 → length (map (λ (v : ℕ). v) (s .origins)) ≡ 1024
+    → Arrays (s .owners) (s .items) (s .origins)
+arrays-of s a b c = record { owners = length-unmapped ℕ (s .owners) 1024 a; items = length-unmapped ℕ (s .items) 1024 b; origins = length-unmapped ℕ (s .origins) 1024 c }
 
 loop-holds : tie.Need-loop-holds Inv μ
 loop-holds c =
@@ -40,13 +48,36 @@ decided-requires c κs =
     (v .0 .prepared .table, read .move-at .ensures .1, record { owners = v .2 .owners; items = v .2 .items; fits = omega arith }, b)
 
 returns : tie.Need-returns Inv μ
-returns c = ?
+unfolding stateIn
+returns c =
+    let read = c .before .before .before .before .before .before .before in
+    let l = read .before .before .loop in
+    let denied = sym (c .before .before .before .decided .ensures (l .s .origins)) ∙ c .before .verdict .given .1 in
+    reached-refused (l .inv .3) (read .move-at .ensures .0) _ (read .before .loop-test .taken) _ (step-refused _ _ _ _ _ denied)
 
 applied-requires : tie.Need-applied-requires Inv μ
-applied-requires c κs = ?
+unfolding stateIn
+applied-requires c κs =
+    let read = c .before .before .before .before .before .before .before .before in
+    let l = read .before .before .loop in
+    let start = l .inv .0 in
+    let allows = sym (c .before .before .before .before .decided .ensures (l .s .origins)) ∙ c .before .before .enum-told .given .1 in
+    allowed-applicable _ (start .prepared .table) (read .move-at .ensures .1) _ (start .limit) _ (l .inv .3 .bounds) allows _
+    (omega (arith, read .before .loop-test .taken, start .within, start .prepared .log .few))
 
 loop-again : tie.Need-loop-again Inv μ
-loop-again c = ?
+unfolding stateIn
+loop-again c =
+    let read = c .before .before .before .before .before .before .before .before .before in
+    let l = read .before .before .loop in
+    let allows = sym (c .before .before .before .before .before .decided .ensures (l .s .origins)) ∙ c .before .before .before .enum-told .given .1 in
+    let kept = c .applied .ok .1 .1 in
+    (
+      l .inv .0,
+      omega (arith, read .before .loop-test .taken),
+      arrays-of (c .applied .result) (kept .0 .1 .0 .1) (kept .1 .0 .1 .0 .1) (kept .1 .1 .0 .1 .0 .1),
+      reached-next (l .inv .3) (read .move-at .ensures .0) _ (step-made (read .move-at .ensures .1) _ _ allows _ _ (c .applied .ensures _)),
+    )
 
 returns-2 : tie.Need-returns-2 Inv μ
 returns-2 c =
