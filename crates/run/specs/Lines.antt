@@ -132,20 +132,20 @@ module _ {t : Table} {l : List ℕ} {start : semantics.State} {before : List ℕ
       record { count = sym (h .count) ∙ ap length all; target = h .target ∙ ap (λ (xs : List Line). over (lineWords xs) before) all }
 
   module _ (more : i < moveCount l) (room : 4 * moveCount l ≤ length before) {r : Ran} (ran : RanAs r lineCeiling t l (stateIn s) i (i + 1))
-      {new : List ℕ} (write : new ≡ sets after (4 * i) (i ∷ answerIn (r .verdict) ∷ r .state .len ∷ r .state .next ∷ [])) where
+      {answer : ℕ} (said : answer ≡ answerIn (r .verdict)) {new : List ℕ} (write : new ≡ sets after (4 * i) (i ∷ answer ∷ r .state .len ∷ r .state .next ∷ [])) where
     line : Line
-    line = lineOf i (answerIn (r .verdict)) (stateIn (r .state))
+    line = lineOf i answer (stateIn (r .state))
 
     written : new ≡ over (lineWords (h .made ++ line ∷ [])) before
     unfolding line
     written =
         write
-        ∙ ap (sets after (4 * i)) (sym (line-words i (answerIn (r .verdict)) (r .state)))
+        ∙ ap (sets after (4 * i)) (sym (line-words i answer (r .state)))
         ∙ ap (λ (ws : List ℕ). sets ws (4 * i) (lineWords (line ∷ []))) (h .target)
         ∙ over-line (h .made) line before i (h .count) (omega arith)
 
     size-new : length new ≡ length before
-    size-new = ap length write ∙ length-sets after (4 * i) (i ∷ answerIn (r .verdict) ∷ r .state .len ∷ r .state .next ∷ []) ∙ h .size
+    size-new = ap length write ∙ length-sets after (4 * i) (i ∷ answer ∷ r .state .len ∷ r .state .next ∷ []) ∙ h .size
 
     count-new : length (h .made ++ line ∷ []) ≡ i + 1
     count-new = omega (arith, length-append (h .made) (line ∷ []), h .count)
@@ -159,7 +159,7 @@ module _ {t : Table} {l : List ℕ} {start : semantics.State} {before : List ℕ
       count = count-new;
       so-far =
           append-assoc (h .made) (line ∷ []) (linesFrom lineCeiling t (i + 1) (stateIn (r .state)) (movesIn l (i + 1) (moveCount l)))
-          ∙ rw (add-one i, v) (sym (ap (λ (xs : List Line). h .made ++ xs) (ap (linesFrom lineCeiling t i (stateIn s)) (moves-first l i (moveCount l) more) ∙ line-made ran v (movesIn l (suc i) (moveCount l)))))
+          ∙ rw (add-one i, said, v) (sym (ap (λ (xs : List Line). h .made ++ xs) (ap (linesFrom lineCeiling t i (stateIn s)) (moves-first l i (moveCount l) more) ∙ line-made ran v (movesIn l (suc i) (moveCount l)))))
           ∙ h .so-far;
       target = written;
       size = size-new;
@@ -171,6 +171,6 @@ module _ {t : Table} {l : List ℕ} {start : semantics.State} {before : List ℕ
     unfolding line
     tracing-refused {q} v =
         let last : linesFrom lineCeiling t i (stateIn s) (movesIn l i (moveCount l)) ≡ line ∷ [] =
-            ap (linesFrom lineCeiling t i (stateIn s)) (moves-first l i (moveCount l) more) ∙ line-refused ran v (movesIn l (suc i) (moveCount l)) ∙ rw v in
+            ap (linesFrom lineCeiling t i (stateIn s)) (moves-first l i (moveCount l) more) ∙ line-refused ran v (movesIn l (suc i) (moveCount l)) ∙ rw (said, v) in
         let all : h .made ++ line ∷ [] ≡ linesFrom lineCeiling t 0 start (movesOf l) = rw last at (h .so-far) in
         record { count = sym count-new ∙ ap length all; target = written ∙ ap (λ (xs : List Line). over (lineWords xs) before) all }

@@ -1,5 +1,6 @@
 // The run of a log: its moves in order, each on the state that the one before it left.
 mod moves;
+pub mod trace;
 
 ghost use mathlib.Core.Path.{_≡_};
 ghost use Rattle.semantics.specs.Table.{tableOf};
