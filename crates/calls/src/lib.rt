@@ -1,6 +1,8 @@
 // The public calls, on word slices of any length and content. None asks anything of its caller; each
 // says its answer and the target's whole contents by an equation with semantics' Answers.
 mod checks;
+mod logs;
 
 pub use checks::check_state;
 pub use checks::check_table;
+pub use logs::run;

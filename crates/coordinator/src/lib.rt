@@ -1,6 +1,6 @@
 // The public calls for C and Rust: the archive of this crate is the one that buyers link.
 ghost use mathlib.Core.Path.{_≡_};
-ghost use Rattle.semantics.specs.Answers.{checkTable, checkState};
+ghost use Rattle.semantics.specs.Answers.{checkTable, checkState, runLog, runLogTarget};
 use answers::answer_of;
 use semantics::Answer;
 
@@ -16,4 +16,17 @@ pub extern "C" fn coordinator_check_state(table: &[u32], state: &[u32]) -> Answe
     ensures { λ r. ⌜ r ≡ checkState (now (table .entry)) (now (state .entry)) ⌝ }
 {
     answer_of(calls::check_state(table, state))
+}
+
+#[no_mangle]
+pub extern "C" fn coordinator_run<'a>(
+    table: &'a [u32],
+    state: &'a [u32],
+    log: &'a [u32],
+    target: &mut [u32],
+) -> Answer
+    ensures answer { λ r. ⌜ r ≡ runLog (now (table .entry)) (now (state .entry)) (now (log .entry)) (now (target .entry)) ⌝ }
+    ensures contents { λ _. ⌜ now (target .exit) ≡ runLogTarget (now (table .entry)) (now (state .entry)) (now (log .entry)) (now (target .entry)) ⌝ }
+{
+    answer_of(calls::run(table, state, log, target))
 }
