@@ -11,10 +11,9 @@ use Rattle.lists.specs.Over.{over-sets}
 use Rattle.semantics.specs.Table.{Table}
 use Rattle.semantics.specs.State as semantics
 use Rattle.semantics.specs.Move.{Stepped, to, refused, stepWords}
-use Rattle.semantics.specs.Log as log
 use Rattle.semantics.specs.Log.{moveCount, moveAt, movesOf, ended, stopped, onward, run}
 use Rattle.semantics.specs.Answers.{number, lineCeiling}
-use Rattle.semantics.specs.Program.{Line, lineOf, linesBy, linesFrom}
+use Rattle.semantics.specs.Program.{Line, lineOf, linesFrom}
 use Rattle.semantics.specs.declared.Refusal.{Refusal}
 use Rattle.semantics.specs.declared.Verdict.{Verdict}
 use Rattle.semantics.specs.declared.Verdict.the-variants.{Allowed, Denied}
@@ -171,6 +170,6 @@ module _ {t : Table} {l : List ℕ} {start : semantics.State} {before : List ℕ
     unfolding line
     tracing-refused {q} v =
         let last : linesFrom lineCeiling t i (stateIn s) (movesIn l i (moveCount l)) ≡ line ∷ [] =
-            ap (linesFrom lineCeiling t i (stateIn s)) (moves-first l i (moveCount l) more) ∙ line-refused ran v (movesIn l (suc i) (moveCount l)) ∙ rw (said, v) in
+        ap (linesFrom lineCeiling t i (stateIn s)) (moves-first l i (moveCount l) more) ∙ line-refused ran v (movesIn l (suc i) (moveCount l)) ∙ rw (said, v) in
         let all : h .made ++ line ∷ [] ≡ linesFrom lineCeiling t 0 start (movesOf l) = rw last at (h .so-far) in
         record { count = sym count-new ∙ ap length all; target = written ∙ ap (λ (xs : List Line). over (lineWords xs) before) all }

@@ -96,8 +96,5 @@ pub fn consumes_at<'a>(table: &'a [u32], starts: &'a [u32; 65], r: u32) -> usize
     requires { ⌜ (tableVerdict (now table) ≡ Allowed) × (r < sizesOf (now table) .rules) × Starts (numbersOf (now table)) (sizesOf (now table) .rules) (now starts) ⌝ }
     ensures { λ n. ⌜ (n ≡ length (consumed (ruleAt (tableOf (now (table .entry))) r))) × (n ≤ 4) ⌝ }
 {
-    count_role(
-        rule_words(atom_words_of(table), starts, r as usize),
-        0,
-    )
+    count_role(rule_words(atom_words_of(table), starts, r as usize), 0)
 }
