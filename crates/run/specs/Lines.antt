@@ -11,10 +11,9 @@ use Rattle.lists.specs.Over.{over-sets}
 use Rattle.semantics.specs.Table.{Table}
 use Rattle.semantics.specs.State as semantics
 use Rattle.semantics.specs.Move.{Stepped, to, refused, stepWords}
-use Rattle.semantics.specs.Log as log
 use Rattle.semantics.specs.Log.{moveCount, moveAt, movesOf, ended, stopped, onward, run}
 use Rattle.semantics.specs.Answers.{number, lineCeiling}
-use Rattle.semantics.specs.Program.{Line, lineOf, linesBy, linesFrom}
+use Rattle.semantics.specs.Program.{Line, lineOf, linesFrom}
 use Rattle.semantics.specs.declared.Refusal.{Refusal}
 use Rattle.semantics.specs.declared.Verdict.{Verdict}
 use Rattle.semantics.specs.declared.Verdict.the-variants.{Allowed, Denied}

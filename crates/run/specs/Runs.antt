@@ -1,26 +1,23 @@
 -- What a run over part of a log asks and gives, and the laws of its loop.
-use Prim.Native.Nat.{ℕ, zero, suc, _+_, _-_, _≤_, _<_}
+use Prim.Native.Nat.{ℕ, suc, _+_, _-_, _≤_, _<_}
 use mathlib.Core.List.{List, [], _∷_, _++_, map}
-use mathlib.Core.Path.{_≡_, refl, sym, ap, _∙_}
+use mathlib.Core.Path.{_≡_, sym, ap, _∙_}
 use native.Mathlib.Nat.{add-zero, sub-zero}
 use native.Mathlib.Numerals.{add-one}
 use native.Mathlib.Omega.{arith}
 use lib.ListN.{length}
 use Rattle.lists.specs.Lists.{upFrom}
 use Rattle.lists.specs.Tabled.{length-upFrom, upFrom-append}
-use Rattle.semantics.specs.Table.{Table, sizesOf, numbersOf, tableOf}
+use Rattle.semantics.specs.Table.{Table}
 use Rattle.semantics.specs.State as semantics
 use Rattle.semantics.specs.Move.{Stepped, to, refused, stepWords}
 use Rattle.semantics.specs.Log as log
 use Rattle.semantics.specs.Log.{moveCount, moveAt, movesOf, ended, stopped, onward, run}
-use Rattle.semantics.specs.Answers.{tableVerdict}
 use Rattle.semantics.specs.declared.Refusal.{Refusal}
 use Rattle.semantics.specs.declared.Verdict.{Verdict}
 use Rattle.semantics.specs.declared.Verdict.the-variants.{Allowed, Denied}
-use Rattle.table.specs.Index.{Starts}
 use Rattle.state.specs.declared.State.{State}
 use Rattle.state.specs.Working.{stateIn}
-use Rattle.log.specs.Form.{Sized}
 use Rattle.run.specs.declared.Ran.{Ran}
 use Rattle.run.specs.Moves.{Prepared, Bounded, step-bounded}
 

@@ -2,7 +2,6 @@
 mod moves;
 pub mod trace;
 
-ghost use mathlib.Core.Path.{_≡_};
 ghost use Rattle.semantics.specs.Table.{tableOf};
 ghost use Rattle.state.specs.Working.{stateIn};
 ghost use Rattle.run.specs.Runs.{Startable, RanAs};

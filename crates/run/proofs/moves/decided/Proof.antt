@@ -1,7 +1,6 @@
 -- `decided` meets its contract: the form comes first.
-use mathlib.Core.Path.{_≡_, sym, ap, _∙_}
+use mathlib.Core.Path.{sym, ap, _∙_}
 use native.Mathlib.Omega.{arith}
-use borrow.Author.Needs.{needs}
 use borrow.Author.Tests.{not-true, not-false}
 use Rattle.semantics.specs.Table.{tableOf}
 use Rattle.semantics.specs.declared.Sizes.{Sizes}
