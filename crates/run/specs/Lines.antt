@@ -22,7 +22,7 @@ use Rattle.state.specs.Working.{stateIn}
 use Rattle.state.specs.Arrays.{count-in}
 use Rattle.run.specs.declared.Ran.{Ran}
 use Rattle.run.specs.Moves.{Prepared, Bounded}
-use Rattle.run.specs.Runs.{RanAs, movesIn, ranBy, moves-none, moves-whole, moves-first, moves-one}
+use Rattle.run.specs.Runs.{RanAs, movesIn, ranBy, moves-none, moves-whole, moves-first, moves-one, ended-same}
 
 -- ---- contracts
 
@@ -85,10 +85,7 @@ module _ {r : Ran} {ceiling : ℕ} {t : Table} {l : List ℕ} {s : semantics.Sta
 
   unchanged : r .place ≡ i → s ≡ stateIn (r .state)
   unfolding run
-  unchanged e = same (rw (e, moves-none l i i (omega arith)) at (h .reached))
-    where
-      same : {a b : semantics.State} → ended a ≡ ended b → a ≡ b
-      same h = cc
+  unchanged e = ended-same (rw (e, moves-none l i i (omega arith)) at (h .reached))
 
   line-made : r .verdict ≡ Allowed → (rest : List (List ℕ)) → linesFrom ceiling t i s (moveAt l i ∷ rest) ≡ lineOf i 0 (stateIn (r .state)) ∷ linesFrom ceiling t (suc i) (stateIn (r .state)) rest
   unfolding linesFrom

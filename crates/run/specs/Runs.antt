@@ -81,7 +81,7 @@ moves-one l i = moves-first l i (suc i) (omega arith) ∙ rw (moves-none l (suc 
 
 -- ---- parts of a run
 
-ended-same : {a b : semantics.State} → ended a ≡ ended b → a ≡ b
+pub ended-same : {a b : semantics.State} → ended a ≡ ended b → a ≡ b
 ended-same h = cc
 
 module _ (ceiling : ℕ) (t : Table) where

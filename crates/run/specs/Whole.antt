@@ -28,22 +28,20 @@ use Rattle.run.specs.Runs.{Startable, RanAs, ranBy, ranOf, moves-whole}
 use Rattle.run.specs.Lines.{Traceable}
 
 module _ (T S L : List ℕ) (v : logVerdict T S L ≡ Allowed) {s : State} (h : Holds s (stateOf S)) where
-  state-allowed : stateVerdict T S ≡ Allowed
+  log-given : (stateVerdict T S ≡ Allowed) × (logSizesOk L ≡ true)
   unfolding logVerdict
-  state-allowed = both-allowed (stateVerdict T S) (unless (logSizesOk L) LogSizes) v .0
-
-  log-sized : logSizesOk L ≡ true
-  unfolding logVerdict
-  log-sized = unless-allowed (logSizesOk L) LogSizes (both-allowed (stateVerdict T S) (unless (logSizesOk L) LogSizes) v .1)
+  log-given =
+      let (state, sizes) = both-allowed (stateVerdict T S) (unless (logSizesOk L) LogSizes) v in
+      (state, unless-allowed (logSizesOk L) LogSizes sizes)
 
   loaded-bounded : Bounded s 1024
   loaded-bounded =
-      let held = stateOf-held T S state-allowed in
+      let held = stateOf-held T S (log-given .0) in
       record { fits = omega (arith, held-len h, held .few); next = omega (arith, held-next h, held .sound .next-high) }
 
   module _ {index : List ℕ} (starts : Starts (numbersOf T) (sizesOf T .rules) index) where
     loaded-prepared : Prepared T index L
-    loaded-prepared = record { table = state-given S T state-allowed .0; starts = starts; log = sized L log-sized }
+    loaded-prepared = record { table = state-given S T (log-given .0) .0; starts = starts; log = sized L (log-given .1) }
 
     -- what `run_part` asks
     pub loaded-startable : Startable T index L s 0 (moveCount L) 1024
@@ -58,14 +56,16 @@ module _ (T S L : List ℕ) (v : logVerdict T S L ≡ Allowed) {s : State} (h : 
     ran-whole = ran .value ∙ rw (h .value, moves-whole L)
 
     module _ (target : List ℕ) (room : 2050 ≤ length target) where
-      result-whole : ranResult (ranOf r) ≡ runResult ceiling T S L target
+      result-by : {w : Verdict} → r .verdict ≡ w → runResult ceiling T S L target ≡ ranResult (ranBy w (r .place) (stateIn (r .state)))
       unfolding runResult
-      result-whole = rw (v, le-leb 2050 (length target) room) (ap ranResult ran-whole)
+      result-by e =
+          rw (v, le-leb 2050 (length target) room)
+          (ap ranResult (sym ran-whole) ∙ ap (λ (w : Verdict). ranResult (ranBy w (r .place) (stateIn (r .state)))) e)
 
       -- an accepted log's words
       pub result-ended : r .verdict ≡ Allowed → runResult ceiling T S L target ≡ write (stateWords (stateIn (r .state)))
-      result-ended e = sym result-whole ∙ ap (λ (w : Verdict). ranResult (ranBy w (r .place) (stateIn (r .state)))) e
+      result-ended e = result-by e
 
       -- 16 with the place and the own number
       pub result-refused : {q : Refusal} → r .verdict ≡ Denied q → runResult ceiling T S L target ≡ refuseMove (r .place) q
-      result-refused e = sym result-whole ∙ ap (λ (w : Verdict). ranResult (ranBy w (r .place) (stateIn (r .state)))) e
+      result-refused e = result-by e
