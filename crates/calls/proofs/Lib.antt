@@ -1,3 +1,4 @@
 pub mod Answers
 pub mod Results
 pub mod Running
+pub mod Moving

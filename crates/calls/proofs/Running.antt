@@ -62,7 +62,7 @@ module _ (t s l before : List ℕ) where
 
 -- ---- from the checks to the run
 
-module _ (t s l : List ℕ) (ok : stateVerdict t s ≡ Allowed) (sizes : logSizesOk l ≡ true) (x : State) (held : Holds x (stateOf s)) where
+module _ (t s : List ℕ) (ok : stateVerdict t s ≡ Allowed) (x : State) (held : Holds x (stateOf s)) where
   next-of : stateOf s .next ≤ 65536
   unfolding stateOf
   next-of = sized s (state-given s t ok .1) .last
@@ -70,13 +70,14 @@ module _ (t s l : List ℕ) (ok : stateVerdict t s ≡ Allowed) (sizes : logSize
   pub loaded-bounded : Bounded x 1024
   loaded-bounded = record { fits = held .fits; next = rw (held-next held) (next-of) }
 
+module _ (t s l : List ℕ) (ok : stateVerdict t s ≡ Allowed) (sizes : logSizesOk l ≡ true) (x : State) (held : Holds x (stateOf s)) where
   pub run-startable : (index : List ℕ) (n : ℕ) → Starts (numbersOf t) (sizesOf t .rules) index → n ≡ moveCount l → Startable t index l x 0 n 1024
   run-startable index n starts e =
       record {
         prepared = record { table = state-given s t ok .0; starts = starts; log = Form.sized l sizes };
         order = omega arith;
         within = omega arith;
-        bounds = loaded-bounded;
+        bounds = loaded-bounded t s ok x held;
         limit = omega arith;
       }
 

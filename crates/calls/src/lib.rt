@@ -2,7 +2,9 @@
 // says its answer and the target's whole contents by an equation with semantics' Answers.
 mod checks;
 mod logs;
+mod moves;
 
 pub use checks::check_state;
 pub use checks::check_table;
 pub use logs::run;
+pub use moves::make_move;

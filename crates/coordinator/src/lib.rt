@@ -1,6 +1,6 @@
 // The public calls for C and Rust: the archive of this crate is the one that buyers link.
 ghost use mathlib.Core.Path.{_≡_};
-ghost use Rattle.semantics.specs.Answers.{checkTable, checkState, runLog, runLogTarget};
+ghost use Rattle.semantics.specs.Answers.{checkTable, checkState, makeMove, makeMoveTarget, runLog, runLogTarget};
 use answers::answer_of;
 use semantics::Answer;
 
@@ -16,6 +16,19 @@ pub extern "C" fn coordinator_check_state(table: &[u32], state: &[u32]) -> Answe
     ensures { λ r. ⌜ r ≡ checkState (now (table .entry)) (now (state .entry)) ⌝ }
 {
     answer_of(calls::check_state(table, state))
+}
+
+#[no_mangle]
+pub extern "C" fn coordinator_move(
+    table: &[u32],
+    state: &[u32],
+    mv: &[u32],
+    target: &mut [u32],
+) -> Answer
+    ensures answer { λ r. ⌜ r ≡ makeMove (now (table .entry)) (now (state .entry)) (now (mv .entry)) (now (target .entry)) ⌝ }
+    ensures contents { λ _. ⌜ now (target .exit) ≡ makeMoveTarget (now (table .entry)) (now (state .entry)) (now (mv .entry)) (now (target .entry)) ⌝ }
+{
+    answer_of(calls::make_move(table, state, mv, target))
 }
 
 #[no_mangle]

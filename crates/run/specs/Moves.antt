@@ -27,7 +27,12 @@ use Rattle.step.specs.Moves.{RuleFor, IsMove, Applicable, applicable}
 use Rattle.log.specs.Form.{Sized}
 use Rattle.run.specs.declared.moves.Move.{Move}
 
--- a table that is accepted, with the index of its rules, and a log in order
+-- a table that is accepted, with the index of its rules
+pub record Indexed (t index : List ℕ) : Type 0 where
+  pub table : tableVerdict t ≡ Allowed
+  pub starts : Starts (numbersOf t) (sizesOf t .rules) index
+
+-- .. and a log in order
 pub record Prepared (t index l : List ℕ) : Type 0 where
   pub table : tableVerdict t ≡ Allowed
   pub starts : Starts (numbersOf t) (sizesOf t .rules) index

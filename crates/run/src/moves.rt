@@ -1,13 +1,13 @@
 // A move of a log, read once for its verdict and its step.
 ghost use Prim.Native.Nat.{ℕ, _≤_, _<_};
 ghost use mathlib.Core.Path.{_≡_};
-ghost use mathlib.Core.List.{List};
+ghost use mathlib.Core.List.{List, _∷_};
 ghost use Rattle.semantics.specs.Table.{tableOf};
 ghost use Rattle.semantics.specs.Log.{moveCount, moveAt};
 ghost use Rattle.semantics.specs.Answers.{tableVerdict};
 ghost use Rattle.semantics.specs.declared.Verdict.the-variants.{Allowed};
 ghost use Rattle.step.specs.Working.{stateFrom, Columns};
-ghost use Rattle.run.specs.Moves.{wordsOf, wordsVerdict, Prepared, Decoded};
+ghost use Rattle.run.specs.Moves.{wordsOf, wordsVerdict, Indexed, Prepared, Decoded};
 use log::head_at;
 use log::picks_at;
 use semantics::Refusal;
@@ -27,12 +27,11 @@ pub struct Move {
     pub rule: Rule,
 }
 
-pub fn move_at<'a>(table: &'a [u32], starts: &'a [u32; 65], log: &'a [u32], i: usize) -> Move
-    requires { ⌜ Prepared (now table) (now starts) (now log) × (i < moveCount (now log)) ⌝ }
-    ensures { λ m. ⌜ (wordsOf m ≡ moveAt (now (log .entry)) i) × Decoded m (tableOf (now (table .entry))) ⌝ }
+// A move in five words, under an accepted table.
+pub fn read_move<'a>(table: &'a [u32], starts: &'a [u32; 65], head: u32, picks: [u32; 4]) -> Move
+    requires { ⌜ Indexed (now table) (now starts) ⌝ }
+    ensures { λ m. ⌜ (wordsOf m ≡ head ∷ picks) × Decoded m (tableOf (now (table .entry))) ⌝ }
 {
-    let head = head_at(log, i);
-    let picks = picks_at(log, i);
     if form_ok(table, starts, head, picks) {
         let rule = rule_of(table, starts, head);
         return Move {
@@ -49,6 +48,13 @@ pub fn move_at<'a>(table: &'a [u32], starts: &'a [u32; 65], log: &'a [u32], i: u
         ok: false,
         rule,
     }
+}
+
+pub fn move_at<'a>(table: &'a [u32], starts: &'a [u32; 65], log: &'a [u32], i: usize) -> Move
+    requires { ⌜ Prepared (now table) (now starts) (now log) × (i < moveCount (now log)) ⌝ }
+    ensures { λ m. ⌜ (wordsOf m ≡ moveAt (now (log .entry)) i) × Decoded m (tableOf (now (table .entry))) ⌝ }
+{
+    read_move(table, starts, head_at(log, i), picks_at(log, i))
 }
 
 // 5, then 7 to 12.
