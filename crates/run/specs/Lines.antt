@@ -171,6 +171,6 @@ module _ {t : Table} {l : List ℕ} {start : semantics.State} {before : List ℕ
     unfolding line
     tracing-refused {q} v =
         let last : linesFrom lineCeiling t i (stateIn s) (movesIn l i (moveCount l)) ≡ line ∷ [] =
-            ap (linesFrom lineCeiling t i (stateIn s)) (moves-first l i (moveCount l) more) ∙ line-refused ran v (movesIn l (suc i) (moveCount l)) ∙ rw (said, v) in
+        ap (linesFrom lineCeiling t i (stateIn s)) (moves-first l i (moveCount l) more) ∙ line-refused ran v (movesIn l (suc i) (moveCount l)) ∙ rw (said, v) in
         let all : h .made ++ line ∷ [] ≡ linesFrom lineCeiling t 0 start (movesOf l) = rw last at (h .so-far) in
         record { count = sym count-new ∙ ap length all; target = written ∙ ap (λ (xs : List Line). over (lineWords xs) before) all }

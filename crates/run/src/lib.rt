@@ -41,12 +41,20 @@ pub fn run_part<'a>(
         let next = s.next;
         let verdict = decided(table, &s.owners, &s.items, n, next, m, ceiling);
         if let Verdict::Denied(refusal) = verdict {
-            return Ran { verdict: Verdict::Denied(refusal), place: i as u32, state: s };
+            return Ran {
+                verdict: Verdict::Denied(refusal),
+                place: i as u32,
+                state: s,
+            };
         }
         let rule = m.rule;
         let picks = m.picks;
         s = applied(s, rule, m.head, picks, (i + 1) as u32);
         i += 1;
     }
-    Ran { verdict: Verdict::Allowed, place: to as u32, state: s }
+    Ran {
+        verdict: Verdict::Allowed,
+        place: to as u32,
+        state: s,
+    }
 }

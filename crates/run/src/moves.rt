@@ -35,10 +35,20 @@ pub fn move_at<'a>(table: &'a [u32], starts: &'a [u32; 65], log: &'a [u32], i: u
     let picks = picks_at(log, i);
     if form_ok(table, starts, head, picks) {
         let rule = rule_of(table, starts, head);
-        return Move { head, picks, ok: true, rule };
+        return Move {
+            head,
+            picks,
+            ok: true,
+            rule,
+        };
     }
     let rule = no_rule();
-    Move { head, picks, ok: false, rule }
+    Move {
+        head,
+        picks,
+        ok: false,
+        rule,
+    }
 }
 
 // 5, then 7 to 12.
@@ -60,5 +70,15 @@ pub fn decided<'a>(
     let sizes = sizes_of(table);
     let rule = m.rule;
     let picks = m.picks;
-    verdict(owners, items, n, next, sizes.globals, rule, m.head, picks, ceiling)
+    verdict(
+        owners,
+        items,
+        n,
+        next,
+        sizes.globals,
+        rule,
+        m.head,
+        picks,
+        ceiling,
+    )
 }

@@ -38,7 +38,13 @@ fn put_line(lines: &mut [u32], i: usize, answer: u32, entries: usize, next: u32)
 }
 
 // One line for each move, a refused one last; answers how many lines.
-pub fn trace<'a>(table: &'a [u32], starts: &'a [u32; 65], mut s: State, log: &'a [u32], lines: &mut [u32]) -> usize
+pub fn trace<'a>(
+    table: &'a [u32],
+    starts: &'a [u32; 65],
+    mut s: State,
+    log: &'a [u32],
+    lines: &mut [u32],
+) -> usize
     requires { ⌜ Traceable (now table) (now starts) (now log) s (now lines) ⌝ }
     ensures { λ r. ⌜ TracedAs (linesFrom lineCeiling (tableOf (now (table .entry))) 0 (stateIn s) (movesOf (now (log .entry)))) (now (lines .entry)) (now (lines .exit)) r ⌝ }
 {

@@ -71,8 +71,7 @@ loop-again c =
     let read = c .before .before .before .before .before .before .before .before .before in
     let l = read .before .before .loop in
     let allows = sym (c .before .before .before .before .before .decided .ensures (l .s .origins)) ∙ c .before .before .before .enum-told .given .1 in
-    let kept = c .applied .ok .1 .1 in
-    (
+    let kept = c .applied .ok .1 .1 in (
       l .inv .0,
       omega (arith, read .before .loop-test .taken),
       arrays-of (c .applied .result) (kept .0 .1 .0 .1) (kept .1 .0 .1 .0 .1) (kept .1 .1 .0 .1 .0 .1),

@@ -13,16 +13,14 @@ rule-of-requires c κs =
 
 returns : tie.Need-returns
 returns c =
-    let form = c .before .before in
-    (
+    let form = c .before .before in (
       rw (form .before .before .head-at .ensures, form .before .picks-at .ensures),
       record { form = sym (c .before .if1 .taken) ∙ form .form-ok .ensures; rule = λ h. c .rule-of .ensures },
     )
 
 returns-2 : tie.Need-returns-2
 returns-2 c =
-    let form = c .before .before in
-    (
+    let form = c .before .before in (
       rw (form .before .before .head-at .ensures, form .before .picks-at .ensures),
       record { form = sym (c .before .if1 .left) ∙ form .form-ok .ensures; rule = λ h. absurd (false≢true h) },
     )

@@ -37,8 +37,7 @@ put-line-requires : tie.Need-put-line-requires Inv μ
 put-line-requires c κs =
     let ran = c .before .before .before in
     let v = ran .before .before .loop .inv in
-    let more = ran .before .loop-test .taken in
-    (
+    let more = ran .before .loop-test .taken in (
       omega (arith, more, v .1, v .0 .room, v .2 .size),
       omega (arith, more, v .1, v .0 .prepared .log .few),
       ran .run-part .ensures .bounds .fits,
@@ -55,8 +54,7 @@ loop-again : tie.Need-loop-again Inv μ
 loop-again c =
     let wrote = c .before .before .before .before in
     let ran = wrote .before .before .before .before in
-    let v = ran .before .before .loop .inv in
-    (
+    let v = ran .before .before .loop .inv in (
       v .0,
       v .1,
       tracing-next (v .2) (omega (arith, ran .before .loop-test .taken, v .1)) (v .0 .room) (ran .run-part .ensures) (wrote .before .answer-in .ensures) (wrote .put-line .ensures) (c .enum-told2 .given .1),
