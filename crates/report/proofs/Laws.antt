@@ -2,20 +2,18 @@
 use Prim.Native.Nat.{ℕ, _/_, _-_, _*_, _≤_}
 use mathlib.Core.Bool.{true}
 use mathlib.Core.List.{List}
-use mathlib.Core.Path.{_≡_, refl, sym, ap, _∙_}
+use mathlib.Core.Path.{_≡_, sym, ap, _∙_}
 use native.Mathlib.Omega.{arith}
 use lib.ListN.{length, getD, take, drop, length-append}
 use lib.Seq.{take-append-seam}
-use Rattle.lists.specs.Lists.{over}
-use Rattle.semantics.specs.Table.{tableOf, sizesOf, numbersOf}
+use Rattle.semantics.specs.Table.{tableOf}
 use Rattle.semantics.specs.State.{stateOf, stateSizesOk}
 use Rattle.semantics.specs.Columns as Columns
 use Rattle.semantics.specs.Log.{movesOf}
 use Rattle.semantics.specs.Answers.{lineCeiling, stateOwnVerdict}
-use Rattle.semantics.specs.Program.{Line, linesFrom, lines, firstLine, wordsOf, Parts, partsOf, inputVerdict}
+use Rattle.semantics.specs.Program.{Line, linesFrom, lines, firstLine, wordsOf, partsOf}
 use Rattle.semantics.specs.declared.Refusal.{Refusal}
 use Rattle.semantics.specs.declared.Refusal.the-variants.{StateSizes}
-use Rattle.semantics.specs.declared.Verdict.{Verdict}
 use Rattle.semantics.specs.declared.Verdict.the-variants.{Allowed, Denied}
 use Rattle.intake.specs.Gather.{Gathered, gathered-all}
 use Rattle.intake.specs.Split.{SplitAs, accepted, both-allowed, unless-allowed}

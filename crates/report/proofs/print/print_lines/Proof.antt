@@ -1,3 +1,4 @@
+-- `print_lines` is safe and ends: the lines that it prints lie within the words.
 use borrow.Author.Needs.{needs}
 use Prim.Native.Nat.{_-_, _*_, _≤_}
 use lib.ListN.{length}
