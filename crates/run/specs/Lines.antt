@@ -47,7 +47,7 @@ pub record TracedAs (lines : List Line) (before after : List ℕ) (n : ℕ) : Ty
 
 -- ---- one line more
 
-length-lineWords : (xs : List Line) → length (lineWords xs) ≡ 4 * length xs
+pub length-lineWords : (xs : List Line) → length (lineWords xs) ≡ 4 * length xs
 length-lineWords [] = refl
 length-lineWords (x ∷ xs) = omega (arith, length-lineWords xs)
 
