@@ -13,7 +13,7 @@ use Rattle.lists.specs.Each.{All}
 use Rattle.semantics.specs.Table.{Table}
 use Rattle.semantics.specs.State.{Origin, Entry, State, isMemberMark, owned}
 use Rattle.semantics.specs.Move.{Move, react, commit, abort, entryAt, applied}
-use Rattle.semantics.specs.Serial.{marksIn, after, isEnd, placeOf, again}
+use Rattle.semantics.specs.Serial.{Act, marksIn, after, isEnd, placeOf, again, replayed}
 use Rattle.wellformed.specs.Rules.{TableRight}
 use Rattle.wellformed.specs.Entries.{Sound}
 use Rattle.wellformed.specs.Preservation.{RuleKnown, applied-keeps}
@@ -84,3 +84,9 @@ module _ (t : Table) (right : TableRight t) (few : length (t .rules) ≤ 64) whe
         },
         replays ds (after t (suc (a .place)) c m) e (g .1) (A .2) still (known .1) (sm .1),
       )
+
+-- one move for each act
+pub replayed-length : (t : Table) (c : State) (xs : List Act) → length (replayed t c xs) ≡ length xs
+unfolding replayed
+replayed-length t c [] = refl
+replayed-length t c (a ∷ xs) = ap suc (replayed-length t (after t (suc (a .place)) c (again c a (a .move))) xs)

@@ -6,3 +6,4 @@ pub mod Places
 pub mod Again
 pub mod Room
 pub mod OfLog
+pub mod Facts
