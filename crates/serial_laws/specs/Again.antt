@@ -4,7 +4,6 @@ use mathlib.Core.Bool.{true, false, false≢true}
 use mathlib.Core.Option.{Option, some}
 use mathlib.Core.List.{List, [], _∷_, map, nil≢cons}
 use mathlib.Core.Path.{_≡_, refl, sym, ap, subst, _∙_}
-use native.Mathlib.Omega.{arith}
 use borrow.Author.Tests.{eqb-true}
 use lib.ListN.{length}
 use Rattle.lists.specs.Lists.{isEmpty, keep}
@@ -12,7 +11,7 @@ use Rattle.lists.specs.Choices.{and-right}
 use Rattle.lists.specs.Each.{All}
 use Rattle.semantics.specs.Table.{Table}
 use Rattle.semantics.specs.State.{Origin, Entry, State, isMemberMark, owned}
-use Rattle.semantics.specs.Move.{Move, react, commit, abort, entryAt, applied}
+use Rattle.semantics.specs.Move.{Move, entryAt, applied}
 use Rattle.semantics.specs.Serial.{Act, marksIn, after, isEnd, placeOf, again, replayed}
 use Rattle.wellformed.specs.Rules.{TableRight}
 use Rattle.wellformed.specs.Entries.{Sound}

@@ -1,22 +1,20 @@
 -- The place of the commit or abort that ends a member, read off the place of the member's begin.
-use Prim.Native.Nat.{ℕ, suc, _+_, _-_}
-use mathlib.Core.Bool.{Bool, true, false, _&&_, _||_, not, cond, true≢false, false≢true}
+use Prim.Native.Nat.{ℕ, suc, _-_}
+use mathlib.Core.Bool.{Bool, true, false, _&&_, _||_, cond, false≢true}
 use mathlib.Core.List.{List, [], _∷_, _++_}
-use mathlib.Core.Logic.{_⊎_, inl, inr}
 use mathlib.Core.Path.{_≡_, refl, sym, ap, subst, _∙_}
 use native.Mathlib.Omega.{arith}
-use borrow.Author.Tests.{eq-eqb}
 use lib.Dec.{eqb}
 use Rattle.lists.specs.Lists.{any, count, oneIf}
 use Rattle.lists.specs.Tests.{eqb-swap}
 use Rattle.lists.specs.Choices.{by-bool, and-left, and-right}
 use Rattle.lists.specs.Counting.{count-append}
-use Rattle.lists.specs.Each.{All, All-map, count-same, count-zero}
+use Rattle.lists.specs.Each.{All, count-same, count-zero}
 use Rattle.lists.specs.Members.{Among, any-some, among-left}
 use Rattle.semantics.specs.Table.{Table}
 use Rattle.semantics.specs.State.{Origin}
 use Rattle.semantics.specs.Move.{Move, react, commit, abort}
-use Rattle.semantics.specs.Serial.{Act, isEnd, isInner, sameOrigin, belongsTo}
+use Rattle.semantics.specs.Serial.{Act, isEnd, isInner, sameOrigin}
 use Rattle.serializability.specs.Statement.{isBegin, endsMemberOf}
 use Rattle.serializability.specs.Base.{same-eq, isInO-head, isInO-cons}
 use Rattle.serializability.specs.Marks.{firstOf}

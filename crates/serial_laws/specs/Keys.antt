@@ -1,16 +1,16 @@
 -- The key of each act, by a member of it: the place of the commit or abort that ends it, and its own place if none does.
-use Prim.Native.Nat.{ℕ, suc, _+_, _-_, _/_, _<_}
-use mathlib.Core.Bool.{Bool, true, false, _&&_, not, cond, true≢false}
+use Prim.Native.Nat.{ℕ, suc, _+_, _-_}
+use mathlib.Core.Bool.{Bool, true, false, _&&_, not, true≢false}
 use mathlib.Core.List.{List, [], _∷_, _++_, map, append-assoc, map-append, map-map}
 use mathlib.Core.Path.{_≡_, refl, sym, ap, subst, _∙_}
 use native.Mathlib.Omega.{arith}
 use borrow.Author.Tests.{not-true}
-use lib.ListN.{length, getD, length-map}
-use Rattle.lists.specs.Lists.{any, isEmpty, least}
-use Rattle.lists.specs.Choices.{by-bool, is-false, and-left, and-right}
+use lib.ListN.{length, getD}
+use Rattle.lists.specs.Lists.{isEmpty, least}
+use Rattle.lists.specs.Choices.{by-bool, and-left, and-right}
 use Rattle.lists.specs.Each.{All, All-map, any-found, empty-nil}
 use Rattle.semantics.specs.Table.{Table}
-use Rattle.semantics.specs.State.{Origin, Entry}
+use Rattle.semantics.specs.State.{Origin}
 use Rattle.semantics.specs.Serial.{Act, isEnd, isInner, sameOrigin}
 use Rattle.serializability.specs.Base.{isInO, same-eq}
 use Rattle.serializability.specs.Rules.{Shaped}

@@ -7,3 +7,4 @@ pub mod Again
 pub mod Room
 pub mod OfLog
 pub mod Facts
+pub mod Instances

@@ -8,7 +8,6 @@ use lib.ListN.{length, length-map}
 use Rattle.lists.specs.Lists.{all}
 use Rattle.semantics.specs.Table.{Table}
 use Rattle.semantics.specs.State.{State}
-use Rattle.semantics.specs.Move.{applied}
 use Rattle.semantics.specs.Serial.{Act, after, again, replayed, along, fits}
 use Rattle.wellformed.specs.Bare.{bare, bareState, allowed-same, applied-same}
 use Rattle.serializability.specs.Moves.{after-allowed}
