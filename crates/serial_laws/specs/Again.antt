@@ -72,8 +72,7 @@ module _ (t : Table) (right : TableRight t) (few : length (t .rules) ≤ 64) whe
       let m = again c (actOf a) (a .move) in
       let rule : RuleKnown t m = again-known t c (actOf a) (a .move) (known .0) in
       let held : Holdable t m = all-holdable t right few 0 c (m ∷ []) (applied t 1 c m) (g .0, refl) sound (rule, tt) .0 in
-      let still = subst (Sound (t .sizes)) (sym (after-allowed t (suc (a .place)) c m (g .0))) (applied-keeps right sound (suc (a .place)) m rule (g .0)) in
-      (
+      let still = subst (Sound (t .sizes)) (sym (after-allowed t (suc (a .place)) c m (g .0))) (applied-keeps right sound (suc (a .place)) m rule (g .0)) in (
         record {
           form = words-ok t m held;
           words = words-back t m held;

@@ -4,7 +4,7 @@ use mathlib.Core.Bool.{true, false, cond}
 use mathlib.Core.List.{List, [], map}
 use mathlib.Core.Path.{_≡_, refl, sym, ap, subst, _∙_}
 use native.Mathlib.Omega.{arith}
-use lib.ListN.{length, getD, length-map}
+use lib.ListN.{length, getD, length-map, List·getD-map}
 use Rattle.lists.specs.Each.{All}
 use Rattle.semantics.specs.Table.{tableOf}
 use Rattle.semantics.specs.State.{State, stateOf}
@@ -46,6 +46,8 @@ pub record SerialFacts (ceiling : ℕ) (T S L : List ℕ) : Type 0 where
   pub moves : (i : ℕ) → i < moveCount L → getD (actsIn T S L) i noAct .move ≡ moveOf (tableOf T) (moveAt L i)
   -- their order is that of their keys
   pub keys-count : (members : List ℕ) → length (keysBy (actsIn T S L) members) ≡ moveCount L
+  pub keys-at : (members : List ℕ) (i : ℕ) → i < moveCount L
+      → getD (keysBy (actsIn T S L) members) i 0 ≡ keyBy (actsIn T S L) (getD members i 0) (getD (actsIn T S L) i noAct)
   pub keys-below : (members : List ℕ) → All (Told members) (actsIn T S L) → (i : ℕ) → i < moveCount L → getD (keysBy (actsIn T S L) members) i 0 < moveCount L
   pub order : (members : List ℕ) → All (Told members) (actsIn T S L)
       → orderIn T S L ≡ map (λ p. getD (actsIn T S L) p noAct) (arrangedBy (keysBy (actsIn T S L) members))
@@ -81,6 +83,11 @@ module _ (ceiling : ℕ) (T S L : List ℕ) (e : State) (ok : stateVerdict T S �
 
   count-keys : (members : List ℕ) → length (keysBy (actsIn T S L) members) ≡ moveCount L
   count-keys members = length-map (actsIn T S L) (λ x. keyBy (actsIn T S L) (getD members (x .place) 0) x) ∙ count-acts
+
+  key-at : (members : List ℕ) (i : ℕ) → i < moveCount L
+      → getD (keysBy (actsIn T S L) members) i 0 ≡ keyBy (actsIn T S L) (getD members i 0) (getD (actsIn T S L) i noAct)
+  key-at members i h = List·getD-map (λ x. keyBy (actsIn T S L) (getD members (x .place) 0) x) (actsIn T S L) i noAct
+      ∙ ap (λ (p : ℕ). keyBy (actsIn T S L) (getD members p 0) (getD (actsIn T S L) i noAct)) (place-of i h)
 
   count-order : length (orderIn T S L) ≡ moveCount L
   unfolding serial
@@ -134,6 +141,7 @@ module _ (ceiling : ℕ) (T S L : List ℕ) (e : State) (ok : stateVerdict T S �
     places = place-of;
     moves = move-of;
     keys-count = count-keys;
+    keys-at = key-at;
     keys-below = below;
     order = by-keys;
     order-places = places-by-keys;

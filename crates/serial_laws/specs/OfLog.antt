@@ -50,13 +50,13 @@ module _ (t : Table) (right : TableRight t) (few : length (t .rules) ≤ 64) (ne
   sd : Shaped t
   sd = table-shaped t right ne
 
-  abbrev pub as-acts : List Act
-  as-acts = acts t 0 s ms
+  abbrev log-acts : List Act
+  log-acts = acts t 0 s ms
 
   abbrev ds : List Deed
   ds = deeds t 0 s ms
 
-  acts-are : as-acts ≡ map actOf ds
+  acts-are : log-acts ≡ map actOf ds
   acts-are = acts-deeds t 0 s ms
 
   g : Good 0 (view s)
@@ -79,28 +79,28 @@ module _ (t : Table) (right : TableRight t) (few : length (t .rules) ≤ 64) (ne
   bounds : All (λ x. x .key < 0 + length ds) ds
   bounds = key-bound t sd (view e) 0 (view s) ds g ran shut
 
-  ends : (xs ys : List Act) (a : Act) → as-acts ≡ xs ++ a ∷ ys → isEnd (a .move) ≡ true → (o : Origin) → concerns a o ≡ true
-      → endAfter (o .maker - 1) 0 as-acts ≡ a .place
-  ends = end-place t as-acts
+  ends : (xs ys : List Act) (a : Act) → log-acts ≡ xs ++ a ∷ ys → isEnd (a .move) ≡ true → (o : Origin) → concerns a o ≡ true
+      → endAfter (o .maker - 1) 0 log-acts ≡ a .place
+  ends = end-place t log-acts
       (subst (All (BeginsFirst t)) (sym acts-are) (All-unmap actOf (BeginsFirst t) ds (begins-first t sd (view e) 0 (view s) ds ran)))
       (λ xs ys x q h. serial-log .one-block xs ys x q h .0) (serial-log .begun-before)
 
-  keys-of : (members : List ℕ) → All (Told members) as-acts → keysBy as-acts members ≡ map (λ x. x .key) ds
+  keys-of : (members : List ℕ) → All (Told members) log-acts → keysBy log-acts members ≡ map (λ x. x .key) ds
   keys-of members told = ap (λ (l : List Act). keysBy l members) acts-are
       ∙ keys-are t sd (view e) (view s) ds g ran shut
       (subst (λ (l : List Act). (xs ys : List Act) (a : Act) → l ≡ xs ++ a ∷ ys → isEnd (a .move) ≡ true → (o : Origin) → concerns a o ≡ true
       → endAfter (o .maker - 1) 0 l ≡ a .place) acts-are ends)
       members (subst (All (Told members)) acts-are told)
 
-  pub keys-below : (members : List ℕ) → All (Told members) as-acts → (i : ℕ) → i < length ms → getD (keysBy as-acts members) i 0 < length ms
+  pub keys-below : (members : List ℕ) → All (Told members) log-acts → (i : ℕ) → i < length ms → getD (keysBy log-acts members) i 0 < length ms
   keys-below members told i h =
       let n = deeds-length t 0 s ms in
       let k = getD-below (λ x. x .key) (0 + length ds) ds bounds i (omega arith) in
       let q = ap (λ (l : List ℕ). getD l i 0) (keys-of members told) in
       omega arith
 
-  pub order-by-keys : (members : List ℕ) → All (Told members) as-acts
-      → ordered [] as-acts ≡ map (λ p. getD as-acts p noAct) (arrangedBy (keysBy as-acts members))
+  pub order-by-keys : (members : List ℕ) → All (Told members) log-acts
+      → ordered [] log-acts ≡ map (λ p. getD log-acts p noAct) (arrangedBy (keysBy log-acts members))
   order-by-keys members told =
       ap (ordered []) acts-are ∙ order-is
       ∙ ap (map actOf) (sym (arrange-isort (length ds) 0 ds
@@ -117,13 +117,13 @@ module _ (t : Table) (right : TableRight t) (few : length (t .rules) ≤ 64) (ne
       known-sorted : All (λ a. RuleKnown t (a .move)) (isort ds)
       known-sorted = All-isort (λ a. RuleKnown t (a .move)) ds (deeds-known t 0 s ms known)
 
-  sorted : map actOf (isort ds) ≡ ordered [] as-acts
+  sorted : map actOf (isort ds) ≡ ordered [] log-acts
   sorted = sym (ap (ordered []) acts-are ∙ order-is)
 
-  pub order-replays : Replays t s (ordered [] as-acts)
+  pub order-replays : Replays t s (ordered [] log-acts)
   order-replays = subst (Replays t s) sorted (replays t right few (isort ds) s (again-runs .state) (again-runs .goes) (again-runs .agains) (S .sound)
       (All-isort (λ a. RuleKnown t (a .move)) ds (deeds-known t 0 s ms known)) (All-isort EndsSome ds (ends-some t 0 (view s) (view e) ds ran)))
 
-  pub order-room : (n : ℕ) → replayFits n t s (ordered [] as-acts) ≡ all (fits n) (along t 0 s (replayed t s (ordered [] as-acts)))
+  pub order-room : (n : ℕ) → replayFits n t s (ordered [] log-acts) ≡ all (fits n) (along t 0 s (replayed t s (ordered [] log-acts)))
   order-room n = subst (λ (l : List Act). replayFits n t s l ≡ all (fits n) (along t 0 s (replayed t s l))) sorted
       (room-along n t (map actOf (isort ds)) 0 s s (again-runs .state) refl (again-runs .goes))
