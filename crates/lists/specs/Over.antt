@@ -4,8 +4,8 @@ use mathlib.Core.Path.{_≡_, refl, ap, _∙_}
 use mathlib.Core.List.{List, [], _∷_, _++_}
 use native.Mathlib.Numerals.{add-one}
 use native.Mathlib.Omega.{arith}
-use lib.ListN.{length, getD, take, drop, set, length-append, length-set}
-use lib.Seq.{paste, paste-zero, paste-suc, take-append-seam, drop-append-add, drop-drop, length-take-le}
+use lib.ListN.{length, getD, take, drop, set, length-append, length-drop, length-set}
+use lib.Seq.{sets, sets-eq, take-all, paste, paste-zero, paste-suc, take-append-seam, drop-append-add, drop-drop, length-take-le}
 use Rattle.lists.specs.Lists.{over}
 
 module _ {A : Type 0} where
@@ -25,6 +25,13 @@ module _ {A : Type 0} where
         length-append new (take n column),
         length-take-le n column h,
       )
+
+  -- some elements after what is written
+  pub over-sets : (new old more : List A) → length new + length more ≤ length old → sets (over new old) (length new) more ≡ over (new ++ more) old
+  over-sets new old more h =
+      let room : length new + length more ≤ length (over new old) = omega (arith, length-append new (drop (length new) old), length-drop (length new) old) in
+      sets-eq more (over new old) (length new) room
+      ∙ (rw (take-all (length more) more (omega arith)) at (over-column new old more (length more) (omega arith)))
 
   -- `new` is `old` with n elements of a source from place `at` on.
   pub record Pasted (old : List A) (at : ℕ) (source : List A) (n : ℕ) (new : List A) : Type 0 where

@@ -7,7 +7,7 @@ ghost use Rattle.semantics.specs.Log.{moveCount, logSizesOk};
 ghost use Rattle.log.specs.Form.{Place};
 
 // How many moves a log says it has; 0 of no words.
-fn count_of(log: &[u32]) -> usize
+pub fn count_of(log: &[u32]) -> usize
     ensures { λ r. ⌜ (r ≡ moveCount (now (log .entry))) × (r < 4294967296) ⌝ }
 {
     if 0 < log.len() { log[0] as usize } else { 0 }

@@ -1,0 +1,4 @@
+pub mod Moves
+pub mod Runs
+pub mod Lines
+pub mod Whole

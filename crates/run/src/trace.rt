@@ -1,0 +1,66 @@
+// The run move by move, for the program: the figures of each line that it prints.
+ghost use Prim.Native.Nat.{_+_, _*_, _≤_, _<_};
+ghost use mathlib.Core.Path.{_≡_};
+ghost use mathlib.Core.List.{_∷_, []};
+ghost use lib.ListN.{length};
+ghost use lib.Seq.{sets};
+ghost use Rattle.semantics.specs.Table.{tableOf};
+ghost use Rattle.semantics.specs.Log.{movesOf};
+ghost use Rattle.semantics.specs.Answers.{lineCeiling};
+ghost use Rattle.semantics.specs.Program.{linesFrom};
+ghost use Rattle.state.specs.Working.{stateIn};
+ghost use Rattle.run.specs.Lines.{answerIn, Traceable, TracedAs};
+use crate::run_part;
+use answers::number_of;
+use log::count_of;
+use semantics::Verdict;
+use state::State;
+
+fn answer_in(verdict: Verdict) -> u32
+    ensures { λ r. ⌜ r ≡ answerIn verdict ⌝ }
+{
+    match verdict {
+        Verdict::Allowed => 0,
+        Verdict::Denied(refusal) => number_of(refusal),
+    }
+}
+
+// Line i is the four words from 4 i on: place, answer, entries, next.
+fn put_line(lines: &mut [u32], i: usize, answer: u32, entries: usize, next: u32)
+    requires { ⌜ (4 * i + 4 ≤ length (now lines)) × (i ≤ 1024) × (entries ≤ 1024) ⌝ }
+    ensures { λ _. ⌜ now (lines .exit) ≡ sets (now (lines .entry)) (4 * i) (i ∷ answer ∷ entries ∷ next ∷ []) ⌝ }
+{
+    let at = 4 * i;
+    lines[at] = i as u32;
+    lines[at + 1] = answer;
+    lines[at + 2] = entries as u32;
+    lines[at + 3] = next;
+}
+
+// One line for each move, a refused one last; answers how many lines.
+pub fn trace<'a>(
+    table: &'a [u32],
+    starts: &'a [u32; 65],
+    mut s: State,
+    log: &'a [u32],
+    lines: &mut [u32],
+) -> usize
+    requires { ⌜ Traceable (now table) (now starts) (now log) s (now lines) ⌝ }
+    ensures { λ r. ⌜ TracedAs (linesFrom lineCeiling (tableOf (now (table .entry))) 0 (stateIn s) (movesOf (now (log .entry)))) (now (lines .entry)) (now (lines .exit)) r ⌝ }
+{
+    let moves = count_of(log);
+    let mut i = 0;
+    while i < moves {
+        let ran = run_part(table, starts, s, log, i, i + 1, State::MAX_ENTRIES);
+        let verdict = ran.verdict;
+        s = ran.state;
+        let n = s.len;
+        let next = s.next;
+        put_line(lines, i, answer_in(verdict), n, next);
+        i += 1;
+        if let Verdict::Denied(_) = verdict {
+            return i;
+        }
+    }
+    i
+}
