@@ -1,5 +1,5 @@
 // The run of a log: its moves in order, each on the state that the one before it left.
-mod moves;
+pub mod moves;
 pub mod trace;
 
 ghost use Rattle.semantics.specs.Table.{tableOf};
