@@ -1,3 +1,5 @@
 pub mod Tally
 pub mod Filling
 pub mod Marking
+pub mod Copying
+pub mod Acting
