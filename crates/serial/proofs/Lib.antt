@@ -3,3 +3,4 @@ pub mod Filling
 pub mod Marking
 pub mod Copying
 pub mod Acting
+pub mod Recording
