@@ -4,3 +4,4 @@ pub mod Marking
 pub mod Copying
 pub mod Acting
 pub mod Recording
+pub mod Keying
