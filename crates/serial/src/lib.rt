@@ -1,2 +1,4 @@
 // The serial log.
+mod keys;
 mod order;
+mod record;
