@@ -2,3 +2,4 @@ pub mod Answers
 pub mod Results
 pub mod Running
 pub mod Moving
+pub mod Serializing
