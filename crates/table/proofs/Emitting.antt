@@ -5,7 +5,7 @@ use mathlib.Core.List.{List, map}
 use mathlib.Core.Path.{_≡_, refl, sym, ap, _∙_}
 use native.Mathlib.Omega.{arith}
 use lib.Dec.{leb}
-use lib.ListN.{length, getD, drop}
+use lib.ListN.{length, drop}
 use Rattle.lists.specs.Lists.{any, count}
 use Rattle.lists.specs.Tests.{or-true, or-false}
 use Rattle.lists.specs.Counting.{count-map, any-count}
@@ -19,6 +19,7 @@ use Rattle.semantics.specs.declared.Verdict.the-variants.{Allowed}
 use Rattle.table.specs.Index.{Starts, Cut, cut}
 use Rattle.table.proofs.Decoding.{rule-within, cut-rule}
 
+-- the rule begins a transaction and emits
 abbrev pub both : Rule → Bool
 both x = begins x && emits x
 

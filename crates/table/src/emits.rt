@@ -1,5 +1,4 @@
-// Whether an opening rule has a give.
-ghost use Prim.Native.Nat.{ℕ};
+// Whether an opening rule has a give (14).
 ghost use mathlib.Core.Bool.{_&&_};
 ghost use mathlib.Core.Path.{_≡_};
 ghost use Rattle.semantics.specs.declared.Sizes.{Sizes};
