@@ -66,7 +66,7 @@ module _ (t : Table) (acts : List Act) (first : All (BeginsFirst t) acts)
     (begun-before : (xs ys : List Act) (a : Act) → acts ≡ xs ++ a ∷ ys → isEnd (a .move) ≡ true → (o : Origin) → concerns a o ≡ true
     → any (begins-member t o) xs ≡ true) where
   -- the begin of an end's member
-  begin-of : (xs ys : List Act) (a : Act) → acts ≡ xs ++ a ∷ ys → isEnd (a .move) ≡ true → (o : Origin) → concerns a o ≡ true
+  pub begin-of : (xs ys : List Act) (a : Act) → acts ≡ xs ++ a ∷ ys → isEnd (a .move) ≡ true → (o : Origin) → concerns a o ≡ true
       → (y : Act) × Among y acts × (y .members ≡ firstOf (y .place) ∷ []) × (isEnd (y .move) ≡ false) × (o ≡ firstOf (y .place))
   begin-of xs ys a q en o h =
       let (y, m, k) = any-some (begins-member t o) xs (begun-before xs ys a q en o h) in

@@ -1,13 +1,17 @@
 -- What the code of the serial log cites of an accepted log: its acts, their order by keys, the replay in that order, its room, and the answer.
 use Prim.Native.Nat.{ℕ, _+_, _*_, _≤_, _<_}
-use mathlib.Core.Bool.{true, false, cond}
+use mathlib.Core.Bool.{true, false, _&&_, cond}
 use mathlib.Core.List.{List, [], map}
 use mathlib.Core.Path.{_≡_, refl, sym, ap, subst, _∙_}
 use native.Mathlib.Omega.{arith}
+use borrow.Author.Tests.{leb-true}
+use lib.Dec.{eqb, leb}
 use lib.ListN.{length, getD, length-map, List·getD-map}
-use Rattle.lists.specs.Each.{All}
+use Rattle.lists.specs.Lists.{upFrom}
+use Rattle.lists.specs.Choices.{and-left, and-right}
+use Rattle.lists.specs.Each.{All, All-map}
 use Rattle.semantics.specs.Table.{tableOf}
-use Rattle.semantics.specs.State.{State, stateOf}
+use Rattle.semantics.specs.State.{Origin, State, stateOf}
 use Rattle.semantics.specs.Move.{moveOf}
 use Rattle.semantics.specs.Log.{moveCount, moveAt, movesOf, logSizesOk, logWords, ended}
 use Rattle.semantics.specs.Serial.{Act, beginsEmit, anyOpen, acts, ordered, replayed, serial, serialFits}
@@ -23,11 +27,12 @@ use Rattle.serializability.specs.LogWords.{moves-count}
 use Rattle.serializability.specs.RunWords.{run-accepted}
 use Rattle.serializability.specs.Demand3 as Demand3
 use Rattle.serializability.specs.Demand3.{demand3}
-use Rattle.serial.specs.Acts.{keyBy, Replays, replayFits}
+use Rattle.serial.specs.Acts.{concerns, keyBy, Replays, replayFits}
+use Rattle.serial.specs.KeysFor.{Begun}
 use Rattle.serial.specs.Order.{arrangedBy}
 use Rattle.serial_laws.specs.ByKey.{arranged-below}
 use Rattle.serial_laws.specs.Keys.{Told, keysBy}
-use Rattle.serial_laws.specs.Places.{noAct, acts-length, act-place, act-move, move-in, places-back}
+use Rattle.serial_laws.specs.Places.{noAct, acts-length, acts-places, act-place, act-move, move-in, places-back}
 use Rattle.serial_laws.specs.Again.{replayed-length}
 use Rattle.serial_laws.specs.OfLog as OfLog
 
@@ -44,6 +49,9 @@ pub record SerialFacts (ceiling : ℕ) (T S L : List ℕ) : Type 0 where
   pub acts-count : length (actsIn T S L) ≡ moveCount L
   pub places : (i : ℕ) → i < moveCount L → getD (actsIn T S L) i noAct .place ≡ i
   pub moves : (i : ℕ) → i < moveCount L → getD (actsIn T S L) i noAct .move ≡ moveOf (tableOf T) (moveAt L i)
+  pub all-places : map (λ a. a .place) (actsIn T S L) ≡ upFrom 0 (moveCount L)
+  -- the members they concern were begun in the log
+  pub begun : All Begun (actsIn T S L)
   -- their order is that of their keys
   pub keys-count : (members : List ℕ) → length (keysBy (actsIn T S L) members) ≡ moveCount L
   pub keys-at : (members : List ℕ) (i : ℕ) → i < moveCount L
@@ -78,6 +86,9 @@ module _ (ceiling : ℕ) (T S L : List ℕ) (e : State) (ok : stateVerdict T S �
   place-of : (i : ℕ) → i < moveCount L → getD (actsIn T S L) i noAct .place ≡ i
   place-of i h = let n = moves-length in let w = act-place (tableOf T) 0 (stateOf S) (movesIn T L) i (omega arith) in omega arith
 
+  places-all : map (λ a. a .place) (actsIn T S L) ≡ upFrom 0 (moveCount L)
+  places-all = acts-places (tableOf T) 0 (stateOf S) (movesIn T L) ∙ ap (upFrom 0) moves-length
+
   move-of : (i : ℕ) → i < moveCount L → getD (actsIn T S L) i noAct .move ≡ moveOf (tableOf T) (moveAt L i)
   move-of i h = act-move (tableOf T) 0 (stateOf S) (movesIn T L) i ∙ move-in (tableOf T) L i h
 
@@ -104,6 +115,16 @@ module _ (ceiling : ℕ) (T S L : List ℕ) (e : State) (ok : stateVerdict T S �
 
   accepted : Accepted (tableOf T) 0 (stateOf S) (movesIn T L) e
   accepted = run-accepted ceiling (tableOf T) 0 (stateOf S) (movesOf L) e ran .0
+
+  short : moveCount L ≤ 1024
+  unfolding logSizesOk
+  short = leb-true (moveCount L) 1024 (and-left (leb (moveCount L) 1024) (eqb (length L) (1 + 5 * moveCount L))
+      (and-right (leb 1 (length L)) (leb (moveCount L) 1024 && eqb (length L) (1 + 5 * moveCount L)) lo))
+
+  begun-here : All Begun (actsIn T S L)
+  begun-here = All-map {P = λ a. (o : Origin) → concerns a o ≡ true → (1 ≤ o .maker) × (o .maker ≤ length (movesIn T L))} {Q = Begun}
+      (λ a h o c. (h o c .0, (let k = h o c .1 in let n = moves-length in let l = short in omega arith))) (actsIn T S L)
+      (OfLog.members-begun (tableOf T) right few ne (stateOf S) start (movesIn T L) known e accepted cl)
 
   below : (members : List ℕ) → All (Told members) (actsIn T S L) → (i : ℕ) → i < moveCount L → getD (keysBy (actsIn T S L) members) i 0 < moveCount L
   below members told i h =
@@ -140,6 +161,8 @@ module _ (ceiling : ℕ) (T S L : List ℕ) (e : State) (ok : stateVerdict T S �
     acts-count = count-acts;
     places = place-of;
     moves = move-of;
+    all-places = places-all;
+    begun = begun-here;
     keys-count = count-keys;
     keys-at = key-at;
     keys-below = below;

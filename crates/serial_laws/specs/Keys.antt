@@ -102,21 +102,32 @@ module _ (t : Table) (sd : Shaped t) (G : Seen) where
 
 -- ---- the keys of a log
 
+module _ (t : Table) (sd : Shaped t) (G F : Seen) (ds : List Deed) (g : Good 0 F) (r : LogRuns t 0 F ds G) (n : NoneOpen G) where
+  -- the act that ends an inner one, among the acts of the log
+  pub inner-end : (us vs : List Deed) (x : Deed) → ds ≡ us ++ x ∷ vs → isInner (actOf x) ≡ true
+      → (a : Act) × (xs : List Act) × (ys : List Act) × (map actOf ds ≡ xs ++ a ∷ ys) × (a .place ≡ x .key) × (isEnd (a .move) ≡ true)
+      × ((o : Origin) → concerns (actOf x) o ≡ true → concerns a o ≡ true)
+  inner-end us vs x q h =
+      let rest = log-rest t sd 0 F G us (x ∷ vs) g (subst (λ (l : List Deed). LogRuns t 0 F l G) q r) (0 + length us) refl in
+      let (a, bs, cs, w, at, en, f) = end-of t sd G (0 + length us) (seenAfter t F us) x vs (rest .1) (rest .0) n h in (
+        actOf a,
+        map actOf (us ++ x ∷ bs),
+        map actOf cs,
+        ap (map actOf) (q ∙ ap (λ (l : List Deed). us ++ x ∷ l) w ∙ sym (append-assoc us (x ∷ bs) (a ∷ cs)))
+            ∙ map-append actOf (us ++ x ∷ bs) (a ∷ cs),
+        at,
+        en,
+        f,
+      )
+
 module _ (t : Table) (sd : Shaped t) (G F : Seen) (ds : List Deed) (g : Good 0 F) (r : LogRuns t 0 F ds G) (n : NoneOpen G)
     (end-place : (xs ys : List Act) (a : Act) → map actOf ds ≡ xs ++ a ∷ ys → isEnd (a .move) ≡ true → (o : Origin) → concerns a o ≡ true
     → endAfter (o .maker - 1) 0 (map actOf ds) ≡ a .place) where
   inner-key : (us vs : List Deed) (x : Deed) → ds ≡ us ++ x ∷ vs → isInner (actOf x) ≡ true → (o : Origin) → isInO o (x .members) ≡ true
       → endAfter (o .maker - 1) 0 (map actOf ds) ≡ x .key
   inner-key us vs x q h o c =
-      let rest = log-rest t sd 0 F G us (x ∷ vs) g (subst (λ (l : List Deed). LogRuns t 0 F l G) q r) (0 + length us) refl in
-      go (end-of t sd G (0 + length us) (seenAfter t F us) x vs (rest .1) (rest .0) n h)
-    where
-      go : (a : Deed) × (bs : List Deed) × (cs : List Deed) × (vs ≡ bs ++ a ∷ cs) × (a .place ≡ x .key) × (isEnd (a .move) ≡ true)
-          × ((o : Origin) → isInO o (x .members) ≡ true → isInO o (a .members) ≡ true) → endAfter (o .maker - 1) 0 (map actOf ds) ≡ x .key
-      go (a, bs, cs, w, at, en, f) =
-          end-place (map actOf (us ++ x ∷ bs)) (map actOf cs) (actOf a) (ap (map actOf) (q ∙ ap (λ (l : List Deed). us ++ x ∷ l) w ∙ sym (append-assoc us (x ∷ bs) (a ∷ cs)))
-          ∙ map-append actOf (us ++ x ∷ bs) (a ∷ cs)) en o (f o c)
-          ∙ at
+      let (a, xs, ys, w, at, en, f) = inner-end t sd G F ds g r n us vs x q h in
+      end-place xs ys a w en o (f o c) ∙ at
 
   key-of : (members : List ℕ) → All (Told members) (map actOf ds) → All (λ x. keyBy (map actOf ds) (getD members (x .place) 0) (actOf x) ≡ x .key) ds
   key-of members told = All-split (λ x. keyBy (map actOf ds) (getD members (x .place) 0) (actOf x) ≡ x .key) ds (λ us vs x q.

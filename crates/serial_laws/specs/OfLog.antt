@@ -1,17 +1,19 @@
 -- The laws for a log of decoded moves, accepted from a state without open transactions and ending in one.
 use Prim.Native.Nat.{ℕ, zero, suc, _+_, _-_, _≤_, _<_}
-use mathlib.Core.Bool.{true, false}
-use mathlib.Core.List.{List, [], _∷_, _++_, map}
+use mathlib.Core.Bool.{true, false, false≢true}
+use mathlib.Core.List.{List, [], _∷_, _++_, map, map-append}
 use mathlib.Core.Path.{_≡_, refl, sym, ap, subst, _∙_}
 use native.Mathlib.Nat.{not-suc-le-zero}
 use native.Mathlib.Omega.{arith}
 use lib.ListN.{length, getD}
-use Rattle.lists.specs.Lists.{all}
-use Rattle.lists.specs.Each.{All, All-map, All-unmap}
+use Rattle.lists.specs.Lists.{all, any, isEmpty}
+use Rattle.lists.specs.Choices.{by-bool}
+use Rattle.lists.specs.Each.{All, All-map, All-unmap, empty-nil}
+use Rattle.lists.specs.Members.{Among}
 use Rattle.semantics.specs.Table.{Table}
 use Rattle.semantics.specs.State.{Origin, State}
 use Rattle.semantics.specs.Move.{Move}
-use Rattle.semantics.specs.Serial.{Act, beginsEmit, anyOpen, after, acts, isEnd, ordered, replayed, along, fits}
+use Rattle.semantics.specs.Serial.{Act, beginsEmit, anyOpen, after, acts, isEnd, ordered, replayed, along, fits, sameOrigin}
 use Rattle.wellformed.specs.Rules.{TableRight}
 use Rattle.wellformed.specs.Preservation.{RuleKnown}
 use Rattle.serializability.specs.Statement.{Accepted, Serial}
@@ -19,6 +21,7 @@ use Rattle.serializability.specs.Rules.{Shaped}
 use Rattle.serializability.specs.Shapes.{table-shaped}
 use Rattle.serializability.specs.Key.{Deed, actOf, deeds, acts-deeds, deeds-length}
 use Rattle.serializability.specs.Link.{view, Good}
+use Rattle.serializability.specs.Marks.{firstOf}
 use Rattle.serializability.specs.Fate.{LogRuns, NoneOpen, runs, pairs, key-bound}
 use Rattle.serializability.specs.First.{log-runs}
 use Rattle.serializability.specs.Sort.{isort, sort-runs, arrange-isort, All-isort}
@@ -29,9 +32,10 @@ use Rattle.serializability.specs.Decoded.{serial-decoded}
 use Rattle.serial.specs.Acts.{concerns, endAfter, Replays, replayFits}
 use Rattle.serial.specs.Order.{arrangedBy}
 use Rattle.serial_laws.specs.ByKey.{arranged-acts}
-use Rattle.serial_laws.specs.EndPlace.{BeginsFirst, end-place}
-use Rattle.serial_laws.specs.Keys.{Told, keysBy, begins-first, keys-are}
-use Rattle.serial_laws.specs.Places.{noAct}
+use Rattle.serial_laws.specs.EndPlace.{BeginsFirst, begin-of, end-place}
+use Rattle.serial_laws.specs.Keys.{Told, keysBy, begins-first, inner-end, keys-are}
+use Rattle.serial_laws.specs.Splits.{All-split, All-among}
+use Rattle.serial_laws.specs.Places.{noAct, places-below}
 use Rattle.serial_laws.specs.Again.{EndsSome, ends-some, replays}
 use Rattle.serial_laws.specs.Room.{room-along}
 
@@ -79,11 +83,42 @@ module _ (t : Table) (right : TableRight t) (few : length (t .rules) ≤ 64) (ne
   bounds : All (λ x. x .key < 0 + length ds) ds
   bounds = key-bound t sd (view e) 0 (view s) ds g ran shut
 
+  first : All (BeginsFirst t) log-acts
+  first = subst (All (BeginsFirst t)) (sym acts-are) (All-unmap actOf (BeginsFirst t) ds (begins-first t sd (view e) 0 (view s) ds ran))
+
   ends : (xs ys : List Act) (a : Act) → log-acts ≡ xs ++ a ∷ ys → isEnd (a .move) ≡ true → (o : Origin) → concerns a o ≡ true
       → endAfter (o .maker - 1) 0 log-acts ≡ a .place
-  ends = end-place t log-acts
-      (subst (All (BeginsFirst t)) (sym acts-are) (All-unmap actOf (BeginsFirst t) ds (begins-first t sd (view e) 0 (view s) ds ran)))
-      (λ xs ys x q h. serial-log .one-block xs ys x q h .0) (serial-log .begun-before)
+  ends = end-place t log-acts first (λ xs ys x q h. serial-log .one-block xs ys x q h .0) (serial-log .begun-before)
+
+  -- ---- the members were begun in the log
+
+  -- o was made by a move of the log
+  abbrev MadeHere : Origin → Type 0
+  MadeHere o = (1 ≤ o .maker) × (o .maker ≤ length ms)
+
+  end-begun : (xs ys : List Act) (a : Act) → log-acts ≡ xs ++ a ∷ ys → isEnd (a .move) ≡ true → (o : Origin) → concerns a o ≡ true → MadeHere o
+  end-begun xs ys a q en o h = go (begin-of t log-acts first (λ us vs x w k. serial-log .one-block us vs x w k .0) (serial-log .begun-before) xs ys a q en o h)
+    where
+      go : (y : Act) × Among y log-acts × (y .members ≡ firstOf (y .place) ∷ []) × (isEnd (y .move) ≡ false) × (o ≡ firstOf (y .place)) → MadeHere o
+      go (y, m, f, n, z) =
+          let k : o .maker ≡ suc (y .place) = ap (λ (x : Origin). x .maker) z in
+          let l = All-among (λ a. a .place < length ms) log-acts y (places-below t (length ms) 0 s ms (omega arith)) m in
+          (omega arith, omega arith)
+
+  deed-begun : (us vs : List Deed) (x : Deed) → ds ≡ us ++ x ∷ vs → (o : Origin) → concerns (actOf x) o ≡ true → MadeHere o
+  deed-begun us vs x q o c = by-bool (isEnd (x .move))
+      (λ en. end-begun (map actOf us) (map actOf vs) (actOf x) (acts-are ∙ ap (map actOf) q ∙ map-append actOf us (x ∷ vs)) en o c)
+      (λ en. by-bool (isEmpty (x .members))
+      (λ none. absurd (false≢true (ap (any (sameOrigin o)) (sym (empty-nil (x .members) none)) ∙ c)))
+      (λ some. let (a, xs, ys, w, at, done, f) = inner-end t sd (view e) (view s) ds g ran shut us vs x q (rw (en, some)) in
+      end-begun xs ys a (acts-are ∙ w) done o (f o c)))
+
+  pub members-begun : All (λ a. (o : Origin) → concerns a o ≡ true → MadeHere o) log-acts
+  members-begun = subst (All (λ a. (o : Origin) → concerns a o ≡ true → MadeHere o)) (sym acts-are)
+      (All-unmap actOf (λ a. (o : Origin) → concerns a o ≡ true → MadeHere o) ds
+      (All-split (λ x. (o : Origin) → concerns (actOf x) o ≡ true → MadeHere o) ds deed-begun))
+
+  -- ---- the keys
 
   keys-of : (members : List ℕ) → All (Told members) log-acts → keysBy log-acts members ≡ map (λ x. x .key) ds
   keys-of members told = ap (λ (l : List Act). keysBy l members) acts-are

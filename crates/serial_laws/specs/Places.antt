@@ -1,5 +1,5 @@
 -- The acts of a log stand at their places, with the log's moves.
-use Prim.Native.Nat.{ℕ, zero, suc, _+_, _<_}
+use Prim.Native.Nat.{ℕ, zero, suc, _+_, _≤_, _<_}
 use mathlib.Core.List.{List, [], _∷_, map, map-map}
 use mathlib.Core.Path.{_≡_, refl, ap, _∙_}
 use native.Mathlib.Nat.{not-suc-le-zero}
@@ -28,6 +28,16 @@ unfolding acts
 act-place t i s [] j h = absurd (not-suc-le-zero h)
 act-place t i s (m ∷ ms) zero h = omega arith
 act-place t i s (m ∷ ms) (suc j) h = let w = act-place t (suc i) (after t (suc i) s m) ms j (omega arith) in omega arith
+
+pub acts-places : (t : Table) (i : ℕ) (s : State) (ms : List Move) → map (λ a. a .place) (acts t i s ms) ≡ upFrom i (length ms)
+unfolding acts
+acts-places t i s [] = refl
+acts-places t i s (m ∷ ms) = λ j. i ∷ acts-places t (suc i) (after t (suc i) s m) ms j
+
+pub places-below : (t : Table) (n i : ℕ) (s : State) (ms : List Move) → i + length ms ≤ n → All (λ a. a .place < n) (acts t i s ms)
+unfolding acts
+places-below t n i s [] h = tt
+places-below t n i s (m ∷ ms) h = (omega arith, places-below t n (suc i) (after t (suc i) s m) ms (omega arith))
 
 pub act-move : (t : Table) (i : ℕ) (s : State) (ms : List Move) (j : ℕ) → getD (acts t i s ms) j noAct .move ≡ getD ms j noMove
 unfolding acts
