@@ -10,10 +10,10 @@ use lib.Dec.{eqb, ltb}
 use lib.ListN.{length, getD, take, length-map, List·getD-eq-default}
 use lib.Seq.{length-take-le, getD-take}
 use Rattle.lists.specs.Lists.{any, isEmpty, isIn, keep, count}
-use Rattle.lists.specs.Choices.{by-bool, and-intro, and-left, and-right, and-three, clash}
+use Rattle.lists.specs.Choices.{by-bool, and-intro, and-left, and-right, clash, is-false}
 use Rattle.lists.specs.Tests.{or-true}
 use Rattle.lists.specs.Members.{Among, any-some, any-intro, among-keep, keep-among, among-map, map-among, getD-among, isIn-among, among-isIn, all-each}
-use Rattle.lists.specs.Each.{any-none, count-none}
+use Rattle.lists.specs.Each.{any-none, count-none, empty-nil}
 use Rattle.lists.specs.Rows.{rows, length-rows, getD-rows}
 use Rattle.semantics.specs.Words.{headKind, headNumber}
 use Rattle.semantics.specs.Table.{Table, Rule, ruleAt, hasRole, consumed, begins, emits, noRule}
@@ -35,16 +35,12 @@ use Rattle.serial.specs.Recordings.{Legal, usedBy, Pickable, marksEnded}
 
 -- ---- one of some origins is one of more
 
-among-some : {A : Type 0} (x : A) (xs : List A) → Among x xs → isEmpty xs ≡ false
-among-some x [] m = absurd m
-among-some x (y ∷ ys) m = refl
-
-pub one-of-more : {w : ℕ} {xs ys : List Origin} → isEmpty xs ≡ false → ((o : Origin) → Among o xs → Among o ys) → OneOf w xs → OneOf w ys
-one-of-more {w} {xs} {ys} some wider h =
-    let (o, m, e) = any-some (sameOrigin (originOf w)) xs (h .some some) in
+pub one-of-more : {w : ℕ} (xs ys : List Origin) (x : Origin) → Among x xs → ((o : Origin) → Among o xs → Among o ys) → OneOf w xs → OneOf w ys
+one-of-more {w} xs ys x n wider h =
+    let (o, m, e) = any-some (sameOrigin (originOf w)) xs (h .some (is-false (isEmpty xs) (λ k. subst (Among x) (empty-nil xs k) n))) in
     record {
       some = λ k. any-intro (sameOrigin (originOf w)) ys o (wider o m) e;
-      none = λ k. absurd (clash k (among-some o ys (wider o m)));
+      none = λ k. absurd (subst (Among o) (empty-nil ys k) (wider o m));
     }
 
 marks-wider : (id : ℕ) (bs : List ℕ) (s : semantics.State) → Among id bs → (o : Origin) → Among o (marksOf id (s .entries)) → Among o (marksIn bs s)
@@ -163,9 +159,9 @@ module _ {t : Table} {s : semantics.State} {m : Move} (g : Legal t s m) where
           let positive = owners-positive (reacts k) (λ q. c (d .class ∙ q)) (e .owner) owner in
           let (mark, n, kind, own, value) = g .sound .right .own e (getD-among nothing (s .entries) (getD (m .picks) 0 0) (first-lt k)) (λ q. omega arith) in
           let mine : isMarkOf id mark ≡ true = and-intro (eq-eqb (mark .kind) 3 kind) (or-true false (eq-eqb (mark .owner) id (own ∙ sym o))) in
-          let some = among-some (mark .origin) (marksOf id (s .entries)) (map-among (λ e. e .origin) (keep (isMarkOf id) (s .entries)) mark (keep-among (isMarkOf id) (s .entries) mark n mine)) in
+          let some = map-among (λ e. e .origin) (keep (isMarkOf id) (s .entries)) mark (keep-among (isMarkOf id) (s .entries) mark n mine) in
           rw (is-react k, begin, ne-eqb (rule k .class) 0 (λ q. c (d .class ∙ q)))
-          (one-of-more some (marks-wider id (ownersAt s (used k)) s (subst (λ (x : ℕ). Among x (ownersAt s (used k))) (sym o) owner)) h)
+          (one-of-more (marksOf id (s .entries)) (marksIn (ownersAt s (used k)) s) (mark .origin) some (marks-wider id (ownersAt s (used k)) s (subst (λ (x : ℕ). Among x (ownersAt s (used k))) (sym o) owner)) h)
 
 row-at : (os ws gs : List ℕ) (n p : ℕ) → p < n → entryAt (rows (rowOf os ws gs) 0 n) p ≡ rowOf os ws gs p
 row-at os ws gs n p l = getD-rows nothing (rowOf os ws gs) 0 n p l ∙ ap (rowOf os ws gs) (omega arith)

@@ -1,5 +1,5 @@
 -- The loop of the first pass: at place i the moves before it are run and recorded.
-use Prim.Native.Nat.{ℕ, zero, suc, _+_, _*_, _≤_, _<_}
+use Prim.Native.Nat.{ℕ, suc, _+_, _*_, _≤_, _<_}
 use mathlib.Core.Bool.{Bool, cond}
 use mathlib.Core.List.{List, [], _∷_, _++_, map, append-nil, append-assoc}
 use mathlib.Core.Path.{_≡_, refl, sym, ap, _∙_}
@@ -8,6 +8,7 @@ use native.Mathlib.Omega.{arith}
 use borrow.Author.Needs.{length-unmapped}
 use lib.ListN.{length, getD, take, drop, set, length-set, length-map}
 use lib.Seq.{getD-set-same, getD-set-other}
+use Rattle.lists.specs.Fronts.{take-le, part-kept}
 use Rattle.lists.specs.Each.{All, All-map, All-append}
 use Rattle.semantics.specs.Table.{Table, sizesOf, tableOf}
 use Rattle.semantics.specs.State as semantics
@@ -31,7 +32,7 @@ use Rattle.run.specs.Runs.{movesIn, moves-none, moves-whole, moves-first, Reach
 use Rattle.serial.specs.Acts.{Recorded, endsBegun, endAfter}
 use Rattle.serial.specs.Marks.{Lent, OneOf, NotedAt}
 use Rattle.serial.specs.Recordings.{Legal, usedBy, Pickable, PicksNoted, marksEnded, Recordable, Recordings, RecordedAs}
-use Rattle.serial.proofs.Copying.{picks-before, picks-here, part-kept}
+use Rattle.serial.proofs.Copying.{picks-before, picks-here}
 use Rattle.serial.proofs.Acting.{pickable, picks-origins, ends-marks}
 
 -- ---- recorded, and out of reach of what is written from place i on
@@ -63,11 +64,6 @@ endAfter-more p e (x ∷ xs) a = endAfter-more p (cond (endsBegun p x) (x .place
 after-accepted : (ceiling : ℕ) (t : Table) (i : ℕ) (s : semantics.State) (w : List ℕ) (s′ : semantics.State) → stepWords ceiling t i s w ≡ to s′ → after t i s (moveOf t w) ≡ s′
 unfolding after step
 after-accepted ceiling t i s w s′ e = let a = accepted ceiling t i s w s′ e in rw (a .allows, a .result)
-
-take-le : {A : Type 0} (n : ℕ) (xs : List A) → length (take n xs) ≤ n
-take-le zero xs = omega arith
-take-le (suc n) [] = omega arith
-take-le (suc n) (x ∷ xs) = omega (arith, take-le n xs)
 
 -- what a call says of a state that it returns, by its type
 pub arrays-of : (s : State) → length (map (λ (v : ℕ). v) (s .owners)) ≡ 1024 → length (map (λ (v : ℕ). v) (s .items)) ≡ 1024 → length (map (λ (v : ℕ). v) (s .origins)) ≡ 1024
