@@ -4,7 +4,7 @@ use mathlib.Core.List.{List, [], _∷_}
 use mathlib.Core.Path.{_≡_, sym, ap, _∙_}
 use native.Mathlib.Omega.{arith}
 use lib.ListN.{length, take, drop}
-use lib.Seq.{take-take, take-nil, drop-nil}
+use lib.Seq.{take-take, take-nil}
 
 module _ {A : Type 0} where
   pub take-le : (n : ℕ) (xs : List A) → length (take n xs) ≤ n

@@ -1,32 +1,31 @@
 -- One legal move of a log: its picks are places, and what is recorded of it is its act.
 use Prim.Native.Nat.{ℕ, zero, suc, _+_, _*_, _/_, _%_, _≤_, _<_}
-use mathlib.Core.Bool.{Bool, true, false, _&&_, _||_, not, cond, true≢false, false≢true}
+use mathlib.Core.Bool.{Bool, true, false, _&&_, cond, true≢false, false≢true}
 use mathlib.Core.List.{List, [], _∷_, map}
 use mathlib.Core.Logic.{inl, inr}
 use mathlib.Core.Path.{_≡_, refl, sym, ap, subst, _∙_}
 use native.Mathlib.Omega.{arith}
 use borrow.Author.Tests.{eqb-true, eqb-false, eq-eqb, ne-eqb, ltb-true, ltb-false}
 use lib.Dec.{eqb, ltb}
-use lib.ListN.{length, getD, take, length-map, List·getD-eq-default}
-use lib.Seq.{length-take-le, getD-take}
-use Rattle.lists.specs.Lists.{any, isEmpty, isIn, keep, count}
+use lib.ListN.{length, getD, take, List·getD-eq-default}
+use Rattle.lists.specs.Lists.{isEmpty, isIn, keep, count}
 use Rattle.lists.specs.Choices.{by-bool, and-intro, and-left, and-right, clash, is-false}
 use Rattle.lists.specs.Tests.{or-true}
-use Rattle.lists.specs.Members.{Among, any-some, any-intro, among-keep, keep-among, among-map, map-among, getD-among, isIn-among, among-isIn, all-each}
+use Rattle.lists.specs.Members.{Among, any-some, any-intro, among-keep, keep-among, among-map, map-among, getD-among, isIn-among, among-isIn}
 use Rattle.lists.specs.Each.{any-none, count-none, empty-nil}
 use Rattle.lists.specs.Rows.{rows, length-rows, getD-rows}
 use Rattle.semantics.specs.Words.{headKind, headNumber}
 use Rattle.semantics.specs.Table.{Table, Rule, ruleAt, hasRole, consumed, begins, emits, noRule}
 use Rattle.semantics.specs.State as semantics
 use Rattle.semantics.specs.State.{Origin, Entry, isMemberMark}
-use Rattle.semantics.specs.Move.{react, commit, abort, moveOk, moveOf, allowed, isZero, picksUsed, headOk, nothing, entryAt, picked, ownersAt}
-use Rattle.semantics.specs.Serial.{originsOf, sameOrigin, marksIn, reactMembers, membersOf, picksOf, beginsEmit, isEnd}
+use Rattle.semantics.specs.Move.{react, commit, abort, moveOf, allowed, picksUsed, nothing, entryAt, picked, ownersAt}
+use Rattle.semantics.specs.Serial.{originsOf, sameOrigin, marksIn, membersOf, picksOf, beginsEmit, isEnd}
 use Rattle.wellformed.specs.Rules.{RuleRight}
 use Rattle.wellformed.specs.Picks.{ReactGiven, react-given, picks-length, pick-lt, owners-positive}
 use Rattle.wellformed.specs.Preservation.{RuleKnown, rule-known}
 use Rattle.state.specs.Working.{originOf, rowOf}
 use Rattle.step.specs.Working.{stateFrom}
-use Rattle.step.specs.React.{Places, column}
+use Rattle.step.specs.React.{column}
 use Rattle.step.specs.Moves.{move-react, move-commit, move-abort}
 use Rattle.run.specs.declared.moves.Move.{Move}
 use Rattle.run.specs.Moves.{wordsOf}
@@ -169,7 +168,7 @@ row-at os ws gs n p l = getD-rows nothing (rowOf os ws gs) 0 n p l ∙ ap (rowOf
 -- in lent columns the owner of the first pick is read from the first
 pub first-row : (os ws gs : List ℕ) (n next : ℕ) {t : Table} {m : Move} → Legal t (stateFrom os ws gs n next) m → headKind (m .head) ≡ 0
     → getD os (getD (m .picks) 0 0) 0 ≡ entryAt (rows (rowOf os ws gs) 0 n) (getD (m .picks) 0 0) .owner
-first-row os ws gs n next {t} {m} g k = 
+first-row os ws gs n next {t} {m} g k =
     sym (ap (λ (e : Entry). e .owner) (row-at os ws gs n (getD (m .picks) 0 0) (omega (arith, first-lt g k, length-rows (rowOf os ws gs) 0 n))))
 
 -- ---- the picks and the ends recorded

@@ -79,7 +79,7 @@ module _ {gs picks : List ℕ} {i : ℕ} {before after : List ℕ} (h : PicksNot
   pub picks-here : take (length picks) (drop (4 * i) after) ≡ column gs picks
   picks-here =
       let whole : take (4 * i) before ++ take (length picks) (drop (4 * i) after) ≡ take (4 * i) before ++ column gs picks =
-          rw picks-before at (sym (take-add (4 * i) (length picks) after) ∙ h .here) in
+      rw picks-before at (sym (take-add (4 * i) (length picks) after) ∙ h .here) in
       sym (drop-at (take (4 * i) before) (take (length picks) (drop (4 * i) after)) (4 * i) front)
       ∙ ap (drop (4 * i)) whole
       ∙ drop-at (take (4 * i) before) (column gs picks) (4 * i) front

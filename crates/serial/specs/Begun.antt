@@ -1,27 +1,27 @@
 -- Laws for callers: the acts of a log have the places of its moves, and their members were begun in it if nothing is open at its start.
-use Prim.Native.Nat.{ℕ, zero, suc, _+_, _≤_, _<_}
+use Prim.Native.Nat.{ℕ, suc, _+_, _≤_}
 use mathlib.Core.Bool.{Bool, true, false, _&&_, _||_, not, cond, true≢false}
-use mathlib.Core.List.{List, [], _∷_, _++_, map}
+use mathlib.Core.List.{List, [], _∷_, map}
 use mathlib.Core.Logic.{_⊎_, inl, inr}
-use mathlib.Core.Path.{_≡_, refl, sym, ap, subst, _∙_}
+use mathlib.Core.Path.{_≡_, refl, sym, ap, _∙_}
 use native.Mathlib.Omega.{arith}
-use borrow.Author.Tests.{eqb-true, not-false}
+use borrow.Author.Tests.{eqb-true}
 use lib.Dec.{eqb}
 use lib.ListN.{length}
-use Rattle.lists.specs.Lists.{keep, keepIf, count, upFrom, isIn, without}
-use Rattle.lists.specs.Choices.{by-bool, and-left, and-right}
-use Rattle.lists.specs.Members.{Among, any-some, any-intro, among-keep, among-map, among-append, all-each}
-use Rattle.lists.specs.Each.{All, any-none, All-of}
+use Rattle.lists.specs.Lists.{keep, count, upFrom, isIn, without}
+use Rattle.lists.specs.Choices.{by-bool, and-left}
+use Rattle.lists.specs.Members.{Among, any-some, any-intro, among-keep, among-map, among-append}
+use Rattle.lists.specs.Removed.{among-without}
+use Rattle.lists.specs.Each.{All}
 use Rattle.semantics.specs.Table.{Table, Rule, ruleAt, hasRole, begins, productAtoms}
 use Rattle.semantics.specs.State.{Origin, Entry, State, isMemberMark, owned}
-use Rattle.semantics.specs.Move.{Move, react, commit, abort, Stepped, to, refused, steppedBy, step, allowed, applied, picked, ownersAt, merged, products, reacted, freed, ended, toGlobal}
-use Rattle.semantics.specs.Serial.{Act, anyOpen, sameOrigin, marksIn, reactMembers, membersOf, picksOf, stateOr, after, acts}
+use Rattle.semantics.specs.Move.{Move, react, commit, abort, steppedBy, step, allowed, applied, picked, ownersAt, merged, products, reacted, freed, ended, toGlobal}
+use Rattle.semantics.specs.Serial.{anyOpen, sameOrigin, marksIn, membersOf, stateOr, after, acts}
 use Rattle.semantics.specs.declared.Atom.{Atom}
 use Rattle.semantics.specs.declared.Sizes.{Sizes}
 use Rattle.semantics.specs.declared.Verdict.{Verdict}
 use Rattle.semantics.specs.declared.Verdict.the-variants.{Allowed, Denied}
 use Rattle.wellformed.specs.Entries.{Sound}
-use Rattle.serial.specs.Acts.{concerns}
 use Rattle.serial.specs.KeysFor.{Begun}
 
 pub acts-places : (t : Table) (i : ℕ) (s : State) (ms : List Move) → map (λ a. a .place) (acts t i s ms) ≡ upFrom i (length ms)
@@ -34,15 +34,6 @@ abbrev pub MarksBegun : ℕ → List Entry → Type 0
 MarksBegun i es = (e : Entry) → Among e es → e .kind ≡ 3 → (1 ≤ e .origin .maker) × (e .origin .maker ≤ i)
 
 -- ---- one move
-
-among-without : (ps : List ℕ) (i : ℕ) (es : List Entry) (e : Entry) → Among e (without ps i es) → Among e es
-among-without ps i [] e m = m
-among-without ps i (x ∷ es) e m = go (among-without ps (suc i) es e) (not (isIn i ps)) m
-  where
-    go : (Among e (without ps (suc i) es) → Among e es) → (b : Bool) → Among e (keepIf b x (without ps (suc i) es)) → Among e (x ∷ es)
-    go f true (inl q) = inl q
-    go f true (inr k) = inr (f k)
-    go f false k = inr (f k)
 
 products-maker : (R : Rule) (s : State) (es : List Entry) (i q : ℕ) (atoms : List Atom) (e : Entry) → Among e (products R s es i q atoms) → e .origin .maker ≡ i
 products-maker R s es i q [] e m = absurd m
@@ -119,13 +110,13 @@ module _ (t : Table) where
   unfolding acts MakersUpTo
   acts-begun-from i s [] h l = tt
   acts-begun-from i s (m ∷ ms) h l = (
-      λ o c.
-          let (x, n, q) = any-some (sameOrigin o) (membersOf t i s m) c in
-          let (a, b) = members-begun t i s m h x n in
-          let e = eqb-true (o .maker) (x .maker) (and-left (eqb (o .maker) (x .maker)) (eqb (o .index) (x .index)) q) in
-          (omega arith, omega arith),
-      acts-begun-from (suc i) (after t (suc i) s m) ms (after-begun t i s m h) (omega arith),
-    )
+    λ o c.
+        let (x, n, q) = any-some (sameOrigin o) (membersOf t i s m) c in
+        let (a, b) = members-begun t i s m h x n in
+        let e = eqb-true (o .maker) (x .maker) (and-left (eqb (o .maker) (x .maker)) (eqb (o .index) (x .index)) q) in
+        (omega arith, omega arith),
+    acts-begun-from (suc i) (after t (suc i) s m) ms (after-begun t i s m h) (omega arith),
+  )
 
   pub acts-begun : (z : Sizes) (s : State) (ms : List Move) → Sound z s → anyOpen s ≡ false → length ms ≤ 1024 → All Begun (acts t 0 s ms)
   acts-begun z s ms sound closed l = acts-begun-from 0 s ms start (omega arith)

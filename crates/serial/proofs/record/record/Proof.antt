@@ -1,15 +1,13 @@
 -- `record` meets its contract: at place i the moves before it are run and recorded.
-use Prim.Native.Nat.{_+_, _-_, _≤_, _<_}
+use Prim.Native.Nat.{_-_, _<_}
 use mathlib.Core.Path.{_≡_, sym, _∙_}
 use native.Mathlib.Omega.{arith}
 use borrow.Author.Needs.{needs}
-use lib.ListN.{length}
 use Rattle.semantics.specs.Table.{tableOf}
 use Rattle.semantics.specs.Log.{moveCount}
 use Rattle.semantics.specs.declared.Verdict.the-variants.{Allowed}
 use Rattle.state.specs.Working.{stateIn}
 use Rattle.run.specs.Moves.{wordsOf, wordsVerdict, step-refused, step-made, allowed-applicable}
-use Rattle.serial.specs.Marks.{Lent}
 use Rattle.serial.specs.Recordings.{Legal, Pickable}
 use Rattle.serial.proofs.Recording.{Recording, recording-start, arrays-of, recording-legal, recording-lent, recording-place, recording-pickable, recording-next, recording-refused, recording-end}
 use Rattle.serial.proofs.record.record.Statement.{statement}
@@ -99,9 +97,9 @@ loop-again c =
     let kept = c .applied .ok .1 .1 in (
       v .0,
       recording-next (v .1) (read .move-at .ensures .0) (more (read .before)) (legal told)
-      (c .before .before .before .before .before .before .before .before .before .before .before .before .before .before .before .picks-used .ensures) (c .before .before .before .before .before .before .before .before .before .before .before .before .before .note-picks .ensures) (c .before .before .before .before .before .before .before .before .member-of .ensures _ _ (legal told)) (c .before .before .note-if-end .ensures)
-      _ (arrays-of (c .applied .result) (kept .0 .1 .0 .1) (kept .1 .0 .1 .0 .1) (kept .1 .1 .0 .1 .0 .1))
-      (step-made (read .move-at .ensures .1) _ _ (allows told) _ _ (c .applied .ensures _)),
+          (c .before .before .before .before .before .before .before .before .before .before .before .before .before .before .before .picks-used .ensures) (c .before .before .before .before .before .before .before .before .before .before .before .before .before .note-picks .ensures) (c .before .before .before .before .before .before .before .before .member-of .ensures _ _ (legal told)) (c .before .before .note-if-end .ensures)
+          _ (arrays-of (c .applied .result) (kept .0 .1 .0 .1) (kept .1 .0 .1 .0 .1) (kept .1 .1 .0 .1 .0 .1))
+          (step-made (read .move-at .ensures .1) _ _ (allows told) _ _ (c .applied .ensures _)),
     )
 
 returns-2 : tie.Need-returns-2 Inv μ
