@@ -1,32 +1,31 @@
 -- One legal move of a log: its picks are places, and what is recorded of it is its act.
 use Prim.Native.Nat.{ℕ, zero, suc, _+_, _*_, _/_, _%_, _≤_, _<_}
-use mathlib.Core.Bool.{Bool, true, false, _&&_, _||_, not, cond, true≢false, false≢true}
+use mathlib.Core.Bool.{Bool, true, false, _&&_, cond, true≢false, false≢true}
 use mathlib.Core.List.{List, [], _∷_, map}
 use mathlib.Core.Logic.{inl, inr}
 use mathlib.Core.Path.{_≡_, refl, sym, ap, subst, _∙_}
 use native.Mathlib.Omega.{arith}
 use borrow.Author.Tests.{eqb-true, eqb-false, eq-eqb, ne-eqb, ltb-true, ltb-false}
 use lib.Dec.{eqb, ltb}
-use lib.ListN.{length, getD, take, length-map, List·getD-eq-default}
-use lib.Seq.{length-take-le, getD-take}
-use Rattle.lists.specs.Lists.{any, isEmpty, isIn, keep, count}
-use Rattle.lists.specs.Choices.{by-bool, and-intro, and-left, and-right, and-three, clash}
+use lib.ListN.{length, getD, take, List·getD-eq-default}
+use Rattle.lists.specs.Lists.{isEmpty, isIn, keep, count}
+use Rattle.lists.specs.Choices.{by-bool, and-intro, and-left, and-right, clash, is-false}
 use Rattle.lists.specs.Tests.{or-true}
-use Rattle.lists.specs.Members.{Among, any-some, any-intro, among-keep, keep-among, among-map, map-among, getD-among, isIn-among, among-isIn, all-each}
-use Rattle.lists.specs.Each.{any-none, count-none}
+use Rattle.lists.specs.Members.{Among, any-some, any-intro, among-keep, keep-among, among-map, map-among, getD-among, isIn-among, among-isIn}
+use Rattle.lists.specs.Each.{any-none, count-none, empty-nil}
 use Rattle.lists.specs.Rows.{rows, length-rows, getD-rows}
 use Rattle.semantics.specs.Words.{headKind, headNumber}
 use Rattle.semantics.specs.Table.{Table, Rule, ruleAt, hasRole, consumed, begins, emits, noRule}
 use Rattle.semantics.specs.State as semantics
 use Rattle.semantics.specs.State.{Origin, Entry, isMemberMark}
-use Rattle.semantics.specs.Move.{react, commit, abort, moveOk, moveOf, allowed, isZero, picksUsed, headOk, nothing, entryAt, picked, ownersAt}
-use Rattle.semantics.specs.Serial.{originsOf, sameOrigin, marksIn, reactMembers, membersOf, picksOf, beginsEmit, isEnd}
+use Rattle.semantics.specs.Move.{react, commit, abort, moveOf, allowed, picksUsed, nothing, entryAt, picked, ownersAt}
+use Rattle.semantics.specs.Serial.{originsOf, sameOrigin, marksIn, membersOf, picksOf, beginsEmit, isEnd}
 use Rattle.wellformed.specs.Rules.{RuleRight}
 use Rattle.wellformed.specs.Picks.{ReactGiven, react-given, picks-length, pick-lt, owners-positive}
 use Rattle.wellformed.specs.Preservation.{RuleKnown, rule-known}
 use Rattle.state.specs.Working.{originOf, rowOf}
 use Rattle.step.specs.Working.{stateFrom}
-use Rattle.step.specs.React.{Places, column}
+use Rattle.step.specs.React.{column}
 use Rattle.step.specs.Moves.{move-react, move-commit, move-abort}
 use Rattle.run.specs.declared.moves.Move.{Move}
 use Rattle.run.specs.Moves.{wordsOf}
@@ -35,16 +34,12 @@ use Rattle.serial.specs.Recordings.{Legal, usedBy, Pickable, marksEnded}
 
 -- ---- one of some origins is one of more
 
-among-some : {A : Type 0} (x : A) (xs : List A) → Among x xs → isEmpty xs ≡ false
-among-some x [] m = absurd m
-among-some x (y ∷ ys) m = refl
-
-pub one-of-more : {w : ℕ} {xs ys : List Origin} → isEmpty xs ≡ false → ((o : Origin) → Among o xs → Among o ys) → OneOf w xs → OneOf w ys
-one-of-more {w} {xs} {ys} some wider h =
-    let (o, m, e) = any-some (sameOrigin (originOf w)) xs (h .some some) in
+pub one-of-more : {w : ℕ} (xs ys : List Origin) (x : Origin) → Among x xs → ((o : Origin) → Among o xs → Among o ys) → OneOf w xs → OneOf w ys
+one-of-more {w} xs ys x n wider h =
+    let (o, m, e) = any-some (sameOrigin (originOf w)) xs (h .some (is-false (isEmpty xs) (λ k. subst (Among x) (empty-nil xs k) n))) in
     record {
       some = λ k. any-intro (sameOrigin (originOf w)) ys o (wider o m) e;
-      none = λ k. absurd (clash k (among-some o ys (wider o m)));
+      none = λ k. absurd (subst (Among o) (empty-nil ys k) (wider o m));
     }
 
 marks-wider : (id : ℕ) (bs : List ℕ) (s : semantics.State) → Among id bs → (o : Origin) → Among o (marksOf id (s .entries)) → Among o (marksIn bs s)
@@ -163,9 +158,9 @@ module _ {t : Table} {s : semantics.State} {m : Move} (g : Legal t s m) where
           let positive = owners-positive (reacts k) (λ q. c (d .class ∙ q)) (e .owner) owner in
           let (mark, n, kind, own, value) = g .sound .right .own e (getD-among nothing (s .entries) (getD (m .picks) 0 0) (first-lt k)) (λ q. omega arith) in
           let mine : isMarkOf id mark ≡ true = and-intro (eq-eqb (mark .kind) 3 kind) (or-true false (eq-eqb (mark .owner) id (own ∙ sym o))) in
-          let some = among-some (mark .origin) (marksOf id (s .entries)) (map-among (λ e. e .origin) (keep (isMarkOf id) (s .entries)) mark (keep-among (isMarkOf id) (s .entries) mark n mine)) in
+          let some = map-among (λ e. e .origin) (keep (isMarkOf id) (s .entries)) mark (keep-among (isMarkOf id) (s .entries) mark n mine) in
           rw (is-react k, begin, ne-eqb (rule k .class) 0 (λ q. c (d .class ∙ q)))
-          (one-of-more some (marks-wider id (ownersAt s (used k)) s (subst (λ (x : ℕ). Among x (ownersAt s (used k))) (sym o) owner)) h)
+          (one-of-more (marksOf id (s .entries)) (marksIn (ownersAt s (used k)) s) (mark .origin) some (marks-wider id (ownersAt s (used k)) s (subst (λ (x : ℕ). Among x (ownersAt s (used k))) (sym o) owner)) h)
 
 row-at : (os ws gs : List ℕ) (n p : ℕ) → p < n → entryAt (rows (rowOf os ws gs) 0 n) p ≡ rowOf os ws gs p
 row-at os ws gs n p l = getD-rows nothing (rowOf os ws gs) 0 n p l ∙ ap (rowOf os ws gs) (omega arith)
@@ -173,7 +168,7 @@ row-at os ws gs n p l = getD-rows nothing (rowOf os ws gs) 0 n p l ∙ ap (rowOf
 -- in lent columns the owner of the first pick is read from the first
 pub first-row : (os ws gs : List ℕ) (n next : ℕ) {t : Table} {m : Move} → Legal t (stateFrom os ws gs n next) m → headKind (m .head) ≡ 0
     → getD os (getD (m .picks) 0 0) 0 ≡ entryAt (rows (rowOf os ws gs) 0 n) (getD (m .picks) 0 0) .owner
-first-row os ws gs n next {t} {m} g k = 
+first-row os ws gs n next {t} {m} g k =
     sym (ap (λ (e : Entry). e .owner) (row-at os ws gs n (getD (m .picks) 0 0) (omega (arith, first-lt g k, length-rows (rowOf os ws gs) 0 n))))
 
 -- ---- the picks and the ends recorded

@@ -1,12 +1,12 @@
 -- The loop that writes the origins of a move's picks, and what is read back of the array.
-use Prim.Native.Nat.{ℕ, zero, suc, _+_, _*_, _≤_, _<_}
-use mathlib.Core.List.{List, [], _∷_, _++_, map, map-append, append-nil, append-assoc}
-use mathlib.Core.Path.{_≡_, refl, sym, ap, _∙_}
+use Prim.Native.Nat.{ℕ, suc, _+_, _*_, _≤_, _<_}
+use mathlib.Core.List.{List, [], _∷_, _++_, map-append, append-nil, append-assoc}
+use mathlib.Core.Path.{_≡_, sym, ap, _∙_}
 use native.Mathlib.Nat.{add-zero}
 use native.Mathlib.Numerals.{add-one}
 use native.Mathlib.Omega.{arith}
-use lib.ListN.{length, getD, take, drop, set, length-set, length-map}
-use lib.Seq.{length-take-le, take-suc, take-suc-set, getD-take, take-take, take-at, drop-at, take-add, take-nil, drop-nil}
+use lib.ListN.{length, getD, take, drop, set, length-set}
+use lib.Seq.{length-take-le, take-suc, take-suc-set, getD-take, take-take, take-at, drop-at, take-add}
 use Rattle.lists.specs.Members.{getD-among}
 use Rattle.step.specs.React.{Places, column}
 use Rattle.serial.specs.Recordings.{PicksNoted}
@@ -79,17 +79,7 @@ module _ {gs picks : List ℕ} {i : ℕ} {before after : List ℕ} (h : PicksNot
   pub picks-here : take (length picks) (drop (4 * i) after) ≡ column gs picks
   picks-here =
       let whole : take (4 * i) before ++ take (length picks) (drop (4 * i) after) ≡ take (4 * i) before ++ column gs picks =
-          rw picks-before at (sym (take-add (4 * i) (length picks) after) ∙ h .here) in
+      rw picks-before at (sym (take-add (4 * i) (length picks) after) ∙ h .here) in
       sym (drop-at (take (4 * i) before) (take (length picks) (drop (4 * i) after)) (4 * i) front)
       ∙ ap (drop (4 * i)) whole
       ∙ drop-at (take (4 * i) before) (column gs picks) (4 * i) front
-
-part-of-front : {A : Type 0} (a k n : ℕ) (xs : List A) → a + k ≤ n → take k (drop a (take n xs)) ≡ take k (drop a xs)
-part-of-front zero k n xs l = take-take k n xs (omega arith)
-part-of-front (suc a) k n [] l = rw take-nil
-part-of-front (suc a) k zero (x ∷ xs) l = absurd (omega arith)
-part-of-front (suc a) k (suc n) (x ∷ xs) l = part-of-front a k n xs (omega arith)
-
--- what stands before place n is the same if the first n are
-pub part-kept : {A : Type 0} (a k n : ℕ) (xs ys : List A) → take n xs ≡ take n ys → a + k ≤ n → take k (drop a xs) ≡ take k (drop a ys)
-part-kept {A} a k n xs ys e l = sym (part-of-front a k n xs l) ∙ ap (λ (zs : List A). take k (drop a zs)) e ∙ part-of-front a k n ys l

@@ -9,13 +9,11 @@ use borrow.Author.Tests.{eqb-true, eqb-false, eq-eqb, ne-eqb}
 use lib.Dec.{eqb}
 use lib.ListN.{length, getD, set, length-set}
 use lib.Seq.{getD-set-same, getD-set-other}
-use Rattle.lists.specs.Lists.{any, isEmpty, keepIf, keep}
 use Rattle.lists.specs.Choices.{by-bool}
 use Rattle.lists.specs.Ahead.{Ahead, ahead-start, ahead-next, ahead-done}
 use Rattle.lists.specs.Rows.{rows, rowsFrom, rows-tails, rows-whole}
 use Rattle.semantics.specs.Words.{itemKind}
-use Rattle.semantics.specs.State.{Origin, Entry, isMemberMark}
-use Rattle.semantics.specs.Serial.{originsOf, sameOrigin}
+use Rattle.semantics.specs.State.{Origin, Entry}
 use Rattle.state.specs.Working.{originOf, rowOf}
 use Rattle.serial.specs.Marks.{Lent, isMarkOf, marksOf, OneOf, anyMadeAt, NotedAt}
 
@@ -42,7 +40,7 @@ module _ {os ws gs : List ℕ} {n id i : ℕ} (a : Seeking os ws gs n id i) wher
   seeking-here l h =
       let q : isMarkOf id (rowOf os ws gs i) ≡ true = is-mark (itemKind (getD ws i 0)) (getD os i 0) id true h in
       let e : originOf (getD gs i 0) ∷ marksOf id (rowsFrom (rowOf os ws gs) n (i + 1)) ≡ marksOf id (rows (rowOf os ws gs) 0 n) =
-          sym (ap (marksOf id) (rows-tails (rowOf os ws gs) n .more i l) ∙ rw q) ∙ a .ahead .so-far in
+      sym (ap (marksOf id) (rows-tails (rowOf os ws gs) n .more i l) ∙ rw q) ∙ a .ahead .so-far in
       rw (← e) (record { some = λ k. rw (eq-eqb (getD gs i 0 / 1024) (getD gs i 0 / 1024) refl, eq-eqb (getD gs i 0 % 1024) (getD gs i 0 % 1024) refl); none = λ k. absurd (true≢false (sym k)) })
 
   pub seeking-next : i < n → eqb (itemKind (getD ws i 0)) 3 && eqb (getD os i 0) id ≡ false → Seeking os ws gs n id (i + 1)
@@ -79,7 +77,7 @@ pub record Noting (os ws gs : List ℕ) (n id place i : ℕ) (before now : List 
   pub size : length now ≡ 1024
   pub each : (p : ℕ) → p < 1024
       → Ahead (rowsFrom (rowOf os ws gs) n) n (λ xs. cond (anyMadeAt p (marksOf id xs)) place (getD now p 0)) i
-        (cond (anyMadeAt p (marksOf id (rows (rowOf os ws gs) 0 n))) place (getD before p 0))
+      (cond (anyMadeAt p (marksOf id (rows (rowOf os ws gs) 0 n))) place (getD before p 0))
 
 pub noting-start : {os ws gs : List ℕ} {n : ℕ} (id place : ℕ) {before : List ℕ} → Lent os ws gs n → length before ≡ 1024 → Noting os ws gs n id place 0 before before
 noting-start {os} {ws} {gs} {n} id place {before} c size = record {

@@ -1,6 +1,6 @@
 -- The loop of the first pass: at place i the moves before it are run and recorded.
-use Prim.Native.Nat.{ℕ, zero, suc, _+_, _*_, _≤_, _<_}
-use mathlib.Core.Bool.{Bool, cond}
+use Prim.Native.Nat.{ℕ, suc, _+_, _*_, _≤_, _<_}
+use mathlib.Core.Bool.{cond}
 use mathlib.Core.List.{List, [], _∷_, _++_, map, append-nil, append-assoc}
 use mathlib.Core.Path.{_≡_, refl, sym, ap, _∙_}
 use native.Mathlib.Numerals.{add-one}
@@ -8,14 +8,15 @@ use native.Mathlib.Omega.{arith}
 use borrow.Author.Needs.{length-unmapped}
 use lib.ListN.{length, getD, take, drop, set, length-set, length-map}
 use lib.Seq.{getD-set-same, getD-set-other}
+use Rattle.lists.specs.Fronts.{take-le, part-kept}
 use Rattle.lists.specs.Each.{All, All-map, All-append}
 use Rattle.semantics.specs.Table.{Table, sizesOf, tableOf}
 use Rattle.semantics.specs.State as semantics
-use Rattle.semantics.specs.Move.{both, unless, to, refused, moveOk, moveOf, allowed, applied, step, stepWords, moveVerdict}
+use Rattle.semantics.specs.Move.{unless, to, refused, moveOk, moveOf, allowed, step, stepWords, moveVerdict}
 use Rattle.semantics.specs.Log.{moveCount, moveAt, movesOf}
 use Rattle.semantics.specs.Serial.{Act, picksOf, membersOf, after, acts}
 use Rattle.semantics.specs.declared.Refusal.{Refusal}
-use Rattle.semantics.specs.declared.Refusal.the-variants.{MoveForm, TooManyEntries}
+use Rattle.semantics.specs.declared.Refusal.the-variants.{MoveForm}
 use Rattle.semantics.specs.declared.Verdict.the-variants.{Allowed, Denied}
 use Rattle.wellformed.specs.Verdicts.{both-allowed, unless-allowed, sizes-tableOf, denied≢allowed}
 use Rattle.wellformed.specs.Rules.{table-right}
@@ -26,12 +27,12 @@ use Rattle.state.specs.Working.{originOf, stateIn}
 use Rattle.state.specs.Arrays.{Arrays}
 use Rattle.step.specs.React.{column}
 use Rattle.run.specs.declared.moves.Move.{Move}
-use Rattle.run.specs.Moves.{Bounded, Decoded, wordsOf, wordsVerdict, is-move}
+use Rattle.run.specs.Moves.{Decoded, wordsOf, wordsVerdict, is-move}
 use Rattle.run.specs.Runs.{movesIn, moves-none, moves-whole, moves-first, Reached, reached-start, reached-next, reached-refused, reached-end}
 use Rattle.serial.specs.Acts.{Recorded, endsBegun, endAfter}
 use Rattle.serial.specs.Marks.{Lent, OneOf, NotedAt}
-use Rattle.serial.specs.Recordings.{Legal, usedBy, Pickable, PicksNoted, marksEnded, Recordable, Recordings, RecordedAs}
-use Rattle.serial.proofs.Copying.{picks-before, picks-here, part-kept}
+use Rattle.serial.specs.Recordings.{Legal, usedBy, Pickable, PicksNoted, marksEnded, Recordable, RecordedAs}
+use Rattle.serial.proofs.Copying.{picks-before, picks-here}
 use Rattle.serial.proofs.Acting.{pickable, picks-origins, ends-marks}
 
 -- ---- recorded, and out of reach of what is written from place i on
@@ -63,11 +64,6 @@ endAfter-more p e (x ∷ xs) a = endAfter-more p (cond (endsBegun p x) (x .place
 after-accepted : (ceiling : ℕ) (t : Table) (i : ℕ) (s : semantics.State) (w : List ℕ) (s′ : semantics.State) → stepWords ceiling t i s w ≡ to s′ → after t i s (moveOf t w) ≡ s′
 unfolding after step
 after-accepted ceiling t i s w s′ e = let a = accepted ceiling t i s w s′ e in rw (a .allows, a .result)
-
-take-le : {A : Type 0} (n : ℕ) (xs : List A) → length (take n xs) ≤ n
-take-le zero xs = omega arith
-take-le (suc n) [] = omega arith
-take-le (suc n) (x ∷ xs) = omega (arith, take-le n xs)
 
 -- what a call says of a state that it returns, by its type
 pub arrays-of : (s : State) → length (map (λ (v : ℕ). v) (s .owners)) ≡ 1024 → length (map (λ (v : ℕ). v) (s .items)) ≡ 1024 → length (map (λ (v : ℕ). v) (s .origins)) ≡ 1024
@@ -141,7 +137,7 @@ module _ {T index l : List ℕ} {s₀ : State} {ceiling : ℕ} {before : List �
     recording-end {k} e q =
         let ran = reached-end (h .reached) k (omega (arith, h .within)) q in
         let all : h .made ≡ acts (tableOf T) 0 (stateIn s₀) (map (moveOf (tableOf T)) (movesOf l)) =
-            sym (append-nil (h .made)) ∙ (rw (moves-none l i (moveCount l) (omega arith)) at (h .so-far)) in
+        sym (append-nil (h .made)) ∙ (rw (moves-none l i (moveCount l) (omega arith)) at (h .so-far)) in
         record {
           value = ran .value ∙ rw (e, moves-whole l);
           bounds = h .reached .bounds;

@@ -59,7 +59,11 @@ fn first_mark<'a>(
 fn begun_by(owner: u32, item: u32, origin: u32, id: u32) -> u32
     ensures { λ r. ⌜ r ≡ cond (eqb (itemKind item) 3 && eqb owner id) (origin / 1024) 0 ⌝ }
 {
-    if is_mark(owner, item, id) { origin / 1024 } else { 0 }
+    if is_mark(owner, item, id) {
+        origin / 1024
+    } else {
+        0
+    }
 }
 
 // The end at this place is that of the begin by this maker; the start's maker, 0, has no place.
@@ -113,7 +117,15 @@ fn note_if_end<'a>(
     if head / 16777216 == 0 {
         return;
     }
-    note_ends(owners, items, origins, n, head % 16777216, place as u32, ended);
+    note_ends(
+        owners,
+        items,
+        origins,
+        n,
+        head % 16777216,
+        place as u32,
+        ended,
+    );
 }
 
 // How many picks a move uses.
@@ -121,7 +133,11 @@ fn picks_used(m: Move) -> usize
     ensures { λ r. ⌜ r ≡ usedBy m ⌝ }
 {
     let rule = m.rule;
-    if m.head / 16777216 == 0 { rule.consumes } else { 0 }
+    if m.head / 16777216 == 0 {
+        rule.consumes
+    } else {
+        0
+    }
 }
 
 // The origins of the first k picks, in the words from 4 i on.

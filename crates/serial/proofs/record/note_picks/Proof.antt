@@ -1,9 +1,7 @@
 -- `note_picks` meets its contract: the origins of the first j picks stand.
-use Prim.Native.Nat.{_+_, _-_, _*_, _≤_, _<_}
-use mathlib.Core.Path.{_≡_}
+use Prim.Native.Nat.{_-_}
 use native.Mathlib.Omega.{arith}
 use borrow.Author.Needs.{needs}
-use lib.ListN.{length, getD}
 use Rattle.serial.proofs.Copying.{Copying, copying-start, copying-place, copying-next, copying-done}
 use Rattle.serial.proofs.record.note_picks.Statement.{statement}
 use Rattle.serial.proofs.record.note_picks.Tie as tie

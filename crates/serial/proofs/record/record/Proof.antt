@@ -1,15 +1,13 @@
 -- `record` meets its contract: at place i the moves before it are run and recorded.
-use Prim.Native.Nat.{_+_, _-_, _≤_, _<_}
+use Prim.Native.Nat.{_-_, _<_}
 use mathlib.Core.Path.{_≡_, sym, _∙_}
 use native.Mathlib.Omega.{arith}
 use borrow.Author.Needs.{needs}
-use lib.ListN.{length}
 use Rattle.semantics.specs.Table.{tableOf}
 use Rattle.semantics.specs.Log.{moveCount}
 use Rattle.semantics.specs.declared.Verdict.the-variants.{Allowed}
 use Rattle.state.specs.Working.{stateIn}
 use Rattle.run.specs.Moves.{wordsOf, wordsVerdict, step-refused, step-made, allowed-applicable}
-use Rattle.serial.specs.Marks.{Lent}
 use Rattle.serial.specs.Recordings.{Legal, Pickable}
 use Rattle.serial.proofs.Recording.{Recording, recording-start, arrays-of, recording-legal, recording-lent, recording-place, recording-pickable, recording-next, recording-refused, recording-end}
 use Rattle.serial.proofs.record.record.Statement.{statement}
@@ -56,52 +54,68 @@ returns c =
 
 -- the move is allowed
 module _ (c : tie.After-enum-told Inv μ) where
-  allows : wordsVerdict (c .before .before .before .before .before .before .before .before .before .before .before .before .args .ceiling) (tableOf (c .before .before .before .before .before .before .before .before .before .before .before .before .args .table .now)) (stateIn (c .before .before .before .before .before .before .before .before .loop .s)) (wordsOf (c .before .before .before .before .before .before .move-at .result)) ≡ Allowed
+  abbrev read : tie.After-move-at Inv μ
+  read = c .before .before .before .before .before .before
+
+  abbrev turn : tie.In-loop Inv μ
+  turn = read .before
+
+  abbrev at : tie.At-loop Inv μ
+  at = turn .before
+
+  abbrev start : tie.Start Inv μ
+  start = at .before .before .before .before
+
+  allows : wordsVerdict (start .args .ceiling) (tableOf (start .args .table .now)) (stateIn (at .loop .s)) (wordsOf (read .move-at .result)) ≡ Allowed
   unfolding stateIn
-  allows = sym (c .before .before .decided .ensures (c .before .before .before .before .before .before .before .before .loop .s .origins)) ∙ c .enum-told .given .1
+  allows = sym (c .before .before .decided .ensures (at .loop .s .origins)) ∙ c .enum-told .given .1
 
-  legal : Legal (tableOf (c .before .before .before .before .before .before .before .before .before .before .before .before .args .table .now)) (stateIn (c .before .before .before .before .before .before .before .before .loop .s)) (c .before .before .before .before .before .before .move-at .result)
-  legal = recording-legal (c .before .before .before .before .before .before .before .before .loop .inv .1) (c .before .before .before .before .before .before .move-at .ensures .1) allows
+  legal : Legal (tableOf (start .args .table .now)) (stateIn (at .loop .s)) (read .move-at .result)
+  legal = recording-legal (at .loop .inv .1) (read .move-at .ensures .1) allows
 
-  pickable : Pickable (c .before .before .before .before .before .before .move-at .result)
-  pickable = recording-pickable (c .before .before .before .before .before .before .before .before .loop .inv .1) legal
+  pickable : Pickable (read .move-at .result)
+  pickable = recording-pickable (at .loop .inv .1) legal
 
 note-picks-requires : tie.Need-note-picks-requires Inv μ
 note-picks-requires c κs =
     let told = c .before .before .before .before .before in
-    let v = told .before .before .before .before .before .before .before .before .loop .inv .1 in
+    let v = at told .loop .inv .1 in
     let e = c .before .picks-used .ensures in
-    (v .arrays .origins, rw e (pickable told .few), rw e (pickable told .places), small (told .before .before .before .before .before .before .before), v .origins-size)
+    (v .arrays .origins, rw e (pickable told .few), rw e (pickable told .places), small (turn told), v .origins-size)
 
 member-of-requires : tie.Need-member-of-requires Inv μ
 member-of-requires c κs =
     let told = c .before .before .before .before .before .before .before .before .before .before in
-    (recording-lent (told .before .before .before .before .before .before .before .before .loop .inv .1), pickable told, small (told .before .before .before .before .before .before .before))
+    (recording-lent (at told .loop .inv .1), pickable told, small (turn told))
 
 note-if-end-requires : tie.Need-note-if-end-requires Inv μ
 note-if-end-requires c κs =
     let told = c .before .before .before .before .before .before .before .before .before .before .before .before .before .before .before .before in
-    let v = told .before .before .before .before .before .before .before .before .loop .inv .1 in
-    (recording-lent v, small (told .before .before .before .before .before .before .before), v .ended-size)
+    let v = at told .loop .inv .1 in
+    (recording-lent v, small (turn told), v .ended-size)
 
 applied-requires : tie.Need-applied-requires Inv μ
 applied-requires c κs =
     let told = c .before .before .before .before .before .before .before .before .before .before .before .before .before .before .before .before .before .before in
-    let v = told .before .before .before .before .before .before .before .before .loop .inv .1 in
-    allowed-applicable _ (v .asked .prepared .table) (told .before .before .before .before .before .before .move-at .ensures .1) _ (v .asked .limit) _ (v .reached .bounds) (allows told) _ (omega (arith, small (told .before .before .before .before .before .before .before)))
+    let v = at told .loop .inv .1 in
+    allowed-applicable _ (v .asked .prepared .table) (read told .move-at .ensures .1) _ (v .asked .limit) _ (v .reached .bounds) (allows told) _
+    (omega (arith, small (turn told)))
 
 loop-again : tie.Need-loop-again Inv μ
 unfolding stateIn
 loop-again c =
-    let told = c .before .before .before .before .before .before .before .before .before .before .before .before .before .before .before .before .before .before .before in
-    let read = told .before .before .before .before .before .before in
-    let v = read .before .before .loop .inv in
+    let ended = c .before .before in
+    let member = ended .before .before .before .before .before .before in
+    let noted = member .before .before .before .before .before in
+    let used = noted .before .before in
+    let told = used .before .before .before .before in
+    let v = at told .loop .inv in
     let kept = c .applied .ok .1 .1 in (
       v .0,
-      recording-next (v .1) (read .move-at .ensures .0) (more (read .before)) (legal told)
-      (c .before .before .before .before .before .before .before .before .before .before .before .before .before .before .before .picks-used .ensures) (c .before .before .before .before .before .before .before .before .before .before .before .before .before .note-picks .ensures) (c .before .before .before .before .before .before .before .before .member-of .ensures _ _ (legal told)) (c .before .before .note-if-end .ensures)
+      recording-next (v .1) (read told .move-at .ensures .0) (more (turn told)) (legal told)
+      (used .picks-used .ensures) (noted .note-picks .ensures) (member .member-of .ensures _ _ (legal told)) (ended .note-if-end .ensures)
       _ (arrays-of (c .applied .result) (kept .0 .1 .0 .1) (kept .1 .0 .1 .0 .1) (kept .1 .1 .0 .1 .0 .1))
-      (step-made (read .move-at .ensures .1) _ _ (allows told) _ _ (c .applied .ensures _)),
+      (step-made (read told .move-at .ensures .1) _ _ (allows told) _ _ (c .applied .ensures _)),
     )
 
 returns-2 : tie.Need-returns-2 Inv μ
@@ -121,13 +135,13 @@ record-spec =
     (λ c κs. search needs)
     note-picks-requires
     member-of-requires
-    (λ c. omega (arith, small (c .before .before .before .before .before .before .before .before .before .before .before .before .before .before .before .before .before .before)))
-    (λ c. omega (arith, small (c .before .before .before .before .before .before .before .before .before .before .before .before .before .before .before .before .before .before)))
+    (λ c. omega (arith, small (turn (c .before .before .before .before .before .before .before .before .before .before .before))))
+    (λ c. omega (arith, small (turn (c .before .before .before .before .before .before .before .before .before .before .before))))
     note-if-end-requires
-    (λ c. omega (arith, small (c .before .before .before .before .before .before .before .before .before .before .before .before .before .before .before .before .before .before .before .before .before .before .before .before .before)))
-    (λ c. omega (arith, small (c .before .before .before .before .before .before .before .before .before .before .before .before .before .before .before .before .before .before .before .before .before .before .before .before .before)))
+    (λ c. omega (arith, small (turn (c .before .before .before .before .before .before .before .before .before .before .before .before .before .before .before .before .before .before))))
+    (λ c. omega (arith, small (turn (c .before .before .before .before .before .before .before .before .before .before .before .before .before .before .before .before .before .before))))
     applied-requires
-    (λ c. omega (arith, small (c .before .before .before .before .before .before .before .before .before .before .before .before .before .before .before .before .before .before .before .before .before .before .before .before .before .before)))
+    (λ c. omega (arith, small (turn (c .before .before .before .before .before .before .before .before .before .before .before .before .before .before .before .before .before .before .before))))
     (λ c. omega (arith, c .before .before .before .before .before .before .before .before .before .before .before .before .before .before .before .before .before .before .before .before .before .before .before .before .before .before .loop-test .taken))
     loop-again
     (λ c. omega (arith, c .before .loop .inv .0, c .before .loop .inv .1 .asked .prepared .log .few))
