@@ -3,3 +3,5 @@ pub mod Results
 pub mod Running
 pub mod Moving
 pub mod Serializing
+pub mod FirstPass
+pub mod SecondPass
