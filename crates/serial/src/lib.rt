@@ -1,2 +1,3 @@
 // The serial log.
 mod order;
+pub mod replay;

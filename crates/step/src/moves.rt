@@ -61,7 +61,8 @@ pub fn form_ok<'a>(table: &'a [u32], starts: &'a [u32; 65], head: u32, picks: [u
     unused_zero(picks, consumes_at(table, starts, number))
 }
 
-fn no_rule() -> Rule {
+// Stands for the rule of what is no reaction.
+pub fn no_rule() -> Rule {
     let blank = atom_of(0);
     let atoms = [blank; 16];
     Rule {
