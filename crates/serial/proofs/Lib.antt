@@ -1,2 +1,4 @@
 pub mod Tally
 pub mod Filling
+pub mod Places
+pub mod Used
