@@ -2,3 +2,4 @@ pub mod Tally
 pub mod Filling
 pub mod Places
 pub mod Used
+pub mod Again

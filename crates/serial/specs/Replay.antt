@@ -30,7 +30,7 @@ abbrev pub placeIn : List Entry → ℕ → ℕ
 placeIn es w = placeOf es (originOf w)
 
 -- the head of a recorded move among these entries; a head has 24 bits for an id
-abbrev pub headAgain : List Entry → ℕ → ℕ → ℕ
+unfoldable pub headAgain : List Entry → ℕ → ℕ → ℕ
 headAgain es head member =
     cond (eqb (headKind head) 0) head
     (headWord (cond (eqb (headKind head) 1) 1 2) (entryAt es (placeIn es member) .owner % 2 ^ 24))

@@ -1,0 +1,119 @@
+-- The words of a recorded act made again: what the code computes of them is what `again` says.
+use Prim.Native.Nat.{ℕ, _+_, _*_, _%_, _^_, _≤_, _<_, min}
+use mathlib.Core.Bool.{Bool, true, false, cond}
+use mathlib.Core.List.{List, [], _∷_, _++_, map, map-map}
+use mathlib.Core.Path.{_≡_, refl, sym, ap, _∙_}
+use native.Mathlib.Omega.{arith}
+use lib.Dec.{eqb}
+use lib.ListN.{length, getD, take, drop, replicate, length-append, length-replicate, length-map}
+use lib.Seq.{length-take-le, take-take}
+use borrow.Author.Tests.{eqb-true, eq-eqb, ne-eqb}
+use Rattle.lists.specs.Padded.{padded, padded-cut}
+use Rattle.semantics.specs.Words.{headKind, headNumber, headWord}
+use Rattle.semantics.specs.Table.{Table}
+use Rattle.semantics.specs.State.{Entry, State}
+use Rattle.semantics.specs.Move.{Move, react, commit, abort, picksUsed, moveOf, entryAt}
+use Rattle.semantics.specs.Log.{moveAt, headOf, fourPicks}
+use Rattle.semantics.specs.Serial.{Act, isEnd, placeOf, again}
+use Rattle.state.specs.Working.{originOf}
+use Rattle.serial.specs.Acts.{Recorded, ActsAgain, idOf, wordsOfMove}
+use Rattle.serial.specs.Replay.{placeIn, headAgain}
+
+-- ---- the head that the code makes
+
+module _ (es : List Entry) (head member : ℕ) where
+  pub head-react : headKind head ≡ 0 → head ≡ headAgain es head member
+  unfolding headAgain
+  head-react k = rw (eq-eqb (headKind head) 0 k)
+
+  module _ (k : headKind head ≡ 0 → ⊥) {owner place : ℕ} (e : owner ≡ entryAt es place .owner) (p : place ≡ placeIn es member) where
+    owner-now : owner ≡ entryAt es (placeIn es member) .owner
+    owner-now = e ∙ ap (λ (n : ℕ). entryAt es n .owner) p
+
+    pub head-commit : headKind head ≡ 1 → 0x01000000 + owner % 2 ^ 24 ≡ headAgain es head member
+    unfolding headAgain
+    head-commit h = rw (ne-eqb (headKind head) 0 k, eq-eqb (headKind head) 1 h, ← owner-now)
+
+    pub head-abort : (headKind head ≡ 1 → ⊥) → 0x02000000 + owner % 2 ^ 24 ≡ headAgain es head member
+    unfolding headAgain
+    head-abort h = rw (ne-eqb (headKind head) 0 k, ne-eqb (headKind head) 1 h, ← owner-now)
+
+-- ---- the words of an act
+
+-- the picks of an act at place p and its head, as the code computes them in a state
+pub record Words (t : Table) (c : State) (l origins members : List ℕ) (p head : ℕ) (picks : List ℕ) : Type 0 where
+  pub used : picksUsed t (getD l (1 + p) 0) ≤ 4
+  pub head-now : head ≡ headAgain (c .entries) (getD l (1 + p) 0) (getD members p 0)
+  pub picks-now : picks ≡ padded 4 0 (map (placeIn (c .entries)) (take (picksUsed t (getD l (1 + p) 0)) (take 4 (drop (4 * p) origins))))
+
+-- an id in words has 24 bits
+id-narrow : (t : Table) (w : ℕ) (ps : List ℕ) → idOf (moveOf t (w ∷ ps)) < 2 ^ 24
+unfolding moveOf
+id-narrow t w ps = go (eqb (headKind w) 0) (eqb (headKind w) 1)
+  where
+    go : (k one : Bool) → idOf (cond k (react (headNumber w) (take (picksUsed t w) ps)) (cond one (commit (headNumber w)) (abort (headNumber w)))) < 2 ^ 24
+    go true one = omega arith
+    go false true = omega arith
+    go false false = omega arith
+
+abbrev picksIn : Move → List ℕ
+picksIn (react r ps) = ps
+picksIn (commit b) = []
+picksIn (abort b) = []
+
+-- a reaction in words has as many picks as its head uses
+react-picks : (t : Table) (w : ℕ) (ps : List ℕ) (m : Move) → headKind w ≡ 0 → moveOf t (w ∷ ps) ≡ m → take (picksUsed t w) ps ≡ picksIn m
+unfolding moveOf
+react-picks t w ps m k h = let e = eq-eqb (headKind w) 0 k in rw e (ap picksIn (rw e at h))
+
+module _ {t : Table} {l origins members : List ℕ} {c : State} {a : Act} (r : Recorded t l origins members a) (g : ActsAgain t c a) where
+  abbrev was : ℕ
+  was = getD l (1 + a .place) 0
+
+  id-now : idOf (again c a (a .move)) < 2 ^ 24
+  id-now =
+      let m = again c a (a .move) in
+      let n = id-narrow t (headOf m) (fourPicks m) in
+      let e = ap idOf (g .words) in
+      omega arith
+
+  owner-now-is : isEnd (a .move) ≡ true → entryAt (c .entries) (placeIn (c .entries) (getD members (a .place) 0)) .owner ≡ idOf (again c a (a .move))
+  owner-now-is h = g .owner h (originOf (getD members (a .place) 0)) (r .some (g .present h))
+
+  head-same : headAgain (c .entries) was (getD members (a .place) 0) ≡ headOf (again c a (a .move))
+  unfolding headAgain moveOf again
+  head-same = go (entryAt (c .entries) (placeIn (c .entries) (getD members (a .place) 0)) .owner) (eqb (headKind was) 0) (eqb (headKind was) 1) (a .move) _
+      (eqb-true (headKind was) 0) (r .move) owner-now-is id-now
+    where
+      go : (owner : ℕ) (k one : Bool) (m : Move) (ps : List ℕ) → (k ≡ true → headKind was ≡ 0)
+          → m ≡ cond k (react (headNumber was) ps) (cond one (commit (headNumber was)) (abort (headNumber was)))
+          → (isEnd m ≡ true → owner ≡ idOf (again c a m)) → idOf (again c a m) < 2 ^ 24
+          → cond k was (headWord (cond one 1 2) (owner % 2 ^ 24)) ≡ headOf (again c a m)
+      go owner true one m ps z e o l = let k = z refl in rw e (omega arith)
+      go owner false true m ps z e o l =
+          let p = (rw e at o) refl in
+          let q = rw e at l in
+          rw e (omega arith)
+      go owner false false m ps z e o l =
+          let p = (rw e at o) refl in
+          let q = rw e at l in
+          rw e (omega arith)
+
+  picks-same : picksUsed t was ≤ 4 → padded 4 0 (map (placeIn (c .entries)) (take (picksUsed t was) (take 4 (drop (4 * a .place) origins)))) ≡ fourPicks (again c a (a .move))
+  unfolding moveOf again
+  picks-same u = go (eqb (headKind was) 0) refl (eqb (headKind was) 1) (a .move) _ (r .move) (g .words) head-same
+    where
+      ws : List ℕ
+      ws = drop (4 * a .place) origins
+
+      -- the recorded picks among the entries now
+      found : List ℕ
+      found = map (placeOf (c .entries)) (a .picks)
+
+      go : (k : Bool) → eqb (headKind was) 0 ≡ k → (one : Bool) (m : Move) (ps : List ℕ)
+          → m ≡ cond k (react (headNumber was) ps) (cond one (commit (headNumber was)) (abort (headNumber was)))
+          → moveOf t (wordsOfMove (again c a m)) ≡ again c a m → headAgain (c .entries) was (getD members (a .place) 0) ≡ headOf (again c a m)
+          → padded 4 0 (map (placeIn (c .entries)) (take (picksUsed t was) (take 4 ws))) ≡ fourPicks (again c a m)
+      go true k one m ps e words head = ?
+      go false k true m ps e words head = rw (k, e)
+      go false k false m ps e words head = rw (k, e)
