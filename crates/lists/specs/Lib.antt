@@ -26,3 +26,4 @@ pub mod Neither
 pub mod Numbers
 pub mod Each
 pub mod UpFrom
+pub mod Columns

@@ -2,7 +2,7 @@
 use Prim.Native.Nat.{ℕ, _+_, _*_, _%_, _^_, _≤_, _<_, min}
 use mathlib.Core.Bool.{Bool, true, false, cond}
 use mathlib.Core.List.{List, [], _∷_, _++_, map, map-map}
-use mathlib.Core.Path.{_≡_, refl, sym, ap, _∙_}
+use mathlib.Core.Path.{_≡_, refl, sym, ap, subst, _∙_}
 use native.Mathlib.Omega.{arith}
 use lib.Dec.{eqb}
 use lib.ListN.{length, getD, take, drop, replicate, length-append, length-replicate, length-map}
@@ -11,7 +11,7 @@ use borrow.Author.Tests.{eqb-true, eq-eqb, ne-eqb}
 use Rattle.lists.specs.Padded.{padded, padded-cut}
 use Rattle.semantics.specs.Words.{headKind, headNumber, headWord}
 use Rattle.semantics.specs.Table.{Table}
-use Rattle.semantics.specs.State.{Entry, State}
+use Rattle.semantics.specs.State.{Origin, Entry, State}
 use Rattle.semantics.specs.Move.{Move, react, commit, abort, picksUsed, moveOf, entryAt}
 use Rattle.semantics.specs.Log.{moveAt, headOf, fourPicks}
 use Rattle.semantics.specs.Serial.{Act, isEnd, placeOf, again}
@@ -66,6 +66,19 @@ react-picks : (t : Table) (w : ℕ) (ps : List ℕ) (m : Move) → headKind w �
 unfolding moveOf
 react-picks t w ps m k h = let e = eq-eqb (headKind w) 0 k in rw e (ap picksIn (rw e at h))
 
+-- places are looked up of as many origins as there are picks
+places-same : (es : List Entry) (ws : List ℕ) (os : List Origin) (u : ℕ) → u ≤ 4 → os ≡ map originOf (take (length os) ws)
+    → take u (take 4 (map (placeOf es) os ++ replicate 4 0)) ≡ map (placeOf es) os
+    → padded 4 0 (map (placeIn es) (take u (take 4 ws))) ≡ take 4 (map (placeOf es) os ++ replicate 4 0)
+places-same es ws os u le rec used =
+    let qs = map (placeOf es) os in
+    let long = length-take-le 4 (qs ++ replicate 4 0) (omega (arith, length-append qs (replicate 4 0), length-replicate {A = ℕ} 4 0)) in
+    let count : u ≡ length os = omega (arith, length-take-le u (take 4 (qs ++ replicate 4 0)) (omega arith), ap length used, length-map os (placeOf es)) in
+    let few : length qs ≤ 4 = omega (arith, length-map os (placeOf es)) in
+    let same : map (placeIn es) (take u (take 4 ws)) ≡ qs =
+        ap (map (placeIn es)) (take-take u 4 ws le ∙ ap (λ (n : ℕ). take n ws) count) ∙ sym (map-map (placeOf es) originOf (take (length os) ws)) ∙ ap (map (placeOf es)) (sym rec) in
+    ap (padded 4 0) same ∙ padded-cut 4 0 qs few
+
 module _ {t : Table} {l origins members : List ℕ} {c : State} {a : Act} (r : Recorded t l origins members a) (g : ActsAgain t c a) where
   abbrev was : ℕ
   was = getD l (1 + a .place) 0
@@ -101,19 +114,24 @@ module _ {t : Table} {l origins members : List ℕ} {c : State} {a : Act} (r : R
 
   picks-same : picksUsed t was ≤ 4 → padded 4 0 (map (placeIn (c .entries)) (take (picksUsed t was) (take 4 (drop (4 * a .place) origins)))) ≡ fourPicks (again c a (a .move))
   unfolding moveOf again
-  picks-same u = go (eqb (headKind was) 0) refl (eqb (headKind was) 1) (a .move) _ (r .move) (g .words) head-same
+  picks-same u = go (eqb (headKind was) 0) refl (eqb (headKind was) 1) (a .move) _ (r .move) (g .words)
     where
-      ws : List ℕ
-      ws = drop (4 * a .place) origins
-
-      -- the recorded picks among the entries now
-      found : List ℕ
-      found = map (placeOf (c .entries)) (a .picks)
-
       go : (k : Bool) → eqb (headKind was) 0 ≡ k → (one : Bool) (m : Move) (ps : List ℕ)
           → m ≡ cond k (react (headNumber was) ps) (cond one (commit (headNumber was)) (abort (headNumber was)))
-          → moveOf t (wordsOfMove (again c a m)) ≡ again c a m → headAgain (c .entries) was (getD members (a .place) 0) ≡ headOf (again c a m)
-          → padded 4 0 (map (placeIn (c .entries)) (take (picksUsed t was) (take 4 ws))) ≡ fourPicks (again c a m)
-      go true k one m ps e words head = ?
-      go false k true m ps e words head = rw (k, e)
-      go false k false m ps e words head = rw (k, e)
+          → moveOf t (wordsOfMove (again c a m)) ≡ again c a m
+          → padded 4 0 (map (placeIn (c .entries)) (take (picksUsed t was) (take 4 (drop (4 * a .place) origins)))) ≡ fourPicks (again c a m)
+      go true k one m ps e words =
+          let kind = eqb-true (headKind was) 0 k in
+          let head : was ≡ headWord 0 (headNumber was) = omega arith in
+          let now = react (headNumber was) (map (placeOf (c .entries)) (a .picks)) in
+          let used = react-picks t was (fourPicks now) now kind (ap (λ (w : ℕ). moveOf t (w ∷ fourPicks now)) head ∙ (rw e at words)) in
+          rw e (places-same (c .entries) (drop (4 * a .place) origins) (a .picks) (picksUsed t was) u (r .picks) used)
+      go false k true m ps e words = rw (k, e)
+      go false k false m ps e words = rw (k, e)
+
+-- the words that the code computes are those of the act made again
+pub words-same : {t : Table} {l origins members : List ℕ} {c : State} {a : Act} → Recorded t l origins members a → ActsAgain t c a
+    → {p head : ℕ} {picks : List ℕ} → p ≡ a .place → Words t c l origins members p head picks → head ∷ picks ≡ wordsOfMove (again c a (a .move))
+words-same {t} {l} {origins} {members} {c} {a} r g {p} {head} {picks} e w =
+    let v = subst (λ (q : ℕ). Words t c l origins members q head picks) e w in
+    rw (v .head-now ∙ head-same r g, v .picks-now ∙ picks-same r g (v .used))
