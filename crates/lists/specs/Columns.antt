@@ -1,10 +1,11 @@
 -- A list that code writes in two columns: one that grows by an element, and behind it one that grows by a part.
 use Prim.Native.Nat.{ℕ, suc, _+_, _-_, _*_, _≤_, _<_}
-use mathlib.Core.List.{List, [], _∷_, _++_}
+use mathlib.Core.List.{List, [], _∷_, _++_, append-assoc}
 use mathlib.Core.Path.{_≡_, refl, sym, ap, _∙_}
 use native.Mathlib.Omega.{arith}
-use lib.ListN.{length, take, drop, set, length-set}
+use lib.ListN.{length, take, drop, set, length-append, length-drop, length-set, take-append-drop}
 use lib.Seq.{paste, take-all, take-paste, drop-paste, take-append-le, drop-append-le, take-take, drop-drop, take-suc-set, drop-set-lt, length-take-le}
+use Rattle.lists.specs.Lists.{over}
 use Rattle.lists.specs.Beginning.{drop-take}
 
 module _ {A : Type 0} (d : List A) (at : ℕ) (s : List A) (n : ℕ) (hd : at + n ≤ length d) (hs : n ≤ length s) where
@@ -77,3 +78,19 @@ module _ {A : Type 0} (out : List A) (k j : ℕ) (x : A) (xs : List A) (more : j
       let b : 1 + j < 1 + 5 * k = omega arith in
       behind-paste (set out (1 + j) x) at xs 4 fits (omega arith) (1 + 5 * k) (omega arith)
       ∙ drop-set-lt (1 + 5 * k) out (1 + j) x b
+
+-- all rows are written
+pub rows-over : {A : Type 0} (out before : List A) (k : ℕ) (x : A) (xs ys : List A) → take (1 + k) out ≡ x ∷ xs → take (4 * k) (drop (1 + k) out) ≡ ys
+    → 1 + 5 * k ≤ length out → drop (1 + 5 * k) out ≡ drop (1 + 5 * k) before → out ≡ over (x ∷ xs ++ ys) before
+rows-over {A} out before k x xs ys first second room rest =
+    let a = ap length first in
+    let b = ap length second in
+    let c = length-take-le (1 + k) out (omega arith) in
+    let d = length-take-le (4 * k) (drop (1 + k) out) (omega (arith, length-drop (1 + k) out)) in
+    let size : length (x ∷ xs ++ ys) ≡ 1 + 5 * k = omega (arith, length-append (x ∷ xs) ys) in
+    let behind : 1 + k + 4 * k ≡ 1 + 5 * k = omega arith in
+    let tail : drop (4 * k) (drop (1 + k) out) ≡ drop (1 + 5 * k) before = drop-drop (4 * k) (1 + k) out ∙ ap (λ (n : ℕ). drop n out) behind ∙ rest in
+    sym (take-append-drop (1 + k) out)
+    ∙ ap (λ (r : List A). take (1 + k) out ++ r) (sym (take-append-drop (4 * k) (drop (1 + k) out)))
+    ∙ rw (first, second, tail) (sym (append-assoc (x ∷ xs) ys (drop (1 + 5 * k) before)))
+    ∙ ap (λ (n : ℕ). (x ∷ xs ++ ys) ++ drop n before) (sym size)

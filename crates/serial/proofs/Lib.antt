@@ -3,3 +3,4 @@ pub mod Filling
 pub mod Places
 pub mod Used
 pub mod Again
+pub mod Replaying
