@@ -17,7 +17,7 @@ use Rattle.semantics.specs.Log.{moveAt, headOf, fourPicks}
 use Rattle.semantics.specs.Serial.{Act, isEnd, placeOf, again}
 use Rattle.state.specs.Working.{originOf}
 use Rattle.serial.specs.Acts.{Recorded, ActsAgain, idOf, wordsOfMove}
-use Rattle.serial.specs.Replay.{placeIn, headAgain}
+use Rattle.serial.specs.Replay.{placeIn, headAgain, Words}
 
 -- ---- the head that the code makes
 
@@ -40,11 +40,17 @@ module _ (es : List Entry) (head member : ℕ) where
 
 -- ---- the words of an act
 
--- the picks of an act at place p and its head, as the code computes them in a state
-pub record Words (t : Table) (c : State) (l origins members : List ℕ) (p head : ℕ) (picks : List ℕ) : Type 0 where
-  pub used : picksUsed t (getD l (1 + p) 0) ≤ 4
-  pub head-now : head ≡ headAgain (c .entries) (getD l (1 + p) 0) (getD members p 0)
-  pub picks-now : picks ≡ padded 4 0 (map (placeIn (c .entries)) (take (picksUsed t (getD l (1 + p) 0)) (take 4 (drop (4 * p) origins))))
+-- as the code puts them together
+pub words-made : {t : Table} {es : List Entry} {l origins members : List ℕ} {p : ℕ} {was head k : ℕ} {wanted picks : List ℕ} → was ≡ getD l (1 + p) 0
+    → head ≡ headAgain es was (getD members p 0) → (k ≡ picksUsed t was) × (k ≤ 4) → wanted ≡ take 4 (drop (4 * p) origins)
+    → picks ≡ padded 4 0 (map (placeIn es) (take k wanted)) → Words t es l origins members p head picks
+words-made {t} {es} {l} {origins} {members} {p} w h (u, le) v q =
+    let used = u ∙ ap (picksUsed t) w in
+    record {
+      used = rw (← used) le;
+      head-now = h ∙ ap (λ (n : ℕ). headAgain es n (getD members p 0)) w;
+      picks-now = q ∙ rw (used, v);
+    }
 
 -- an id in words has 24 bits
 id-narrow : (t : Table) (w : ℕ) (ps : List ℕ) → idOf (moveOf t (w ∷ ps)) < 2 ^ 24
@@ -131,7 +137,7 @@ module _ {t : Table} {l origins members : List ℕ} {c : State} {a : Act} (r : R
 
 -- the words that the code computes are those of the act made again
 pub words-same : {t : Table} {l origins members : List ℕ} {c : State} {a : Act} → Recorded t l origins members a → ActsAgain t c a
-    → {p head : ℕ} {picks : List ℕ} → p ≡ a .place → Words t c l origins members p head picks → head ∷ picks ≡ wordsOfMove (again c a (a .move))
+    → {p head : ℕ} {picks : List ℕ} → p ≡ a .place → Words t (c .entries) l origins members p head picks → head ∷ picks ≡ wordsOfMove (again c a (a .move))
 words-same {t} {l} {origins} {members} {c} {a} r g {p} {head} {picks} e w =
-    let v = subst (λ (q : ℕ). Words t c l origins members q head picks) e w in
+    let v = subst (λ (q : ℕ). Words t (c .entries) l origins members q head picks) e w in
     rw (v .head-now ∙ head-same r g, v .picks-now ∙ picks-same r g (v .used))

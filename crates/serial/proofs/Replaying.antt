@@ -25,8 +25,8 @@ use Rattle.semantics.specs.declared.Verdict.the-variants.{Allowed}
 use Rattle.wellformed.specs.Verdicts.{both-intro, unless-intro}
 use Rattle.wellformed.specs.Length.{length-maker}
 use Rattle.serial.specs.Acts.{Recorded, ActsAgain, Replays, replayFits, wordsOfMove}
-use Rattle.serial.specs.Replay.{Arranged}
-use Rattle.serial.proofs.Again.{Words, words-same}
+use Rattle.serial.specs.Replay.{Words, Arranged}
+use Rattle.serial.proofs.Again.{words-same}
 
 -- `rest` is left of the acts xs at the state c, and the rows of the others are written
 pub record Replaying (ceiling : ℕ) (t : Table) (start : State) (l order origins members : List ℕ) (xs rest : List Act) (j : ℕ) (c : State) (out : List ℕ) : Type 0 where
@@ -66,7 +66,7 @@ module _ (ceiling : ℕ) (t : Table) (start : State) (l order origins members : 
     ahead : drop j (take (moveCount l) order) ≡ getD order j 0 ∷ drop (j + 1) (take (moveCount l) order)
     ahead = prefix-tails 0 order (moveCount l) few .more j more
 
-    module _ {c : State} {out : List ℕ} {head : ℕ} {picks : List ℕ} (w : Words t c l origins members (getD order j 0) head picks) where
+    module _ {c : State} {out : List ℕ} {head : ℕ} {picks : List ℕ} (w : Words t (c .entries) l origins members (getD order j 0) head picks) where
       -- the move does not pass
       pub replaying-denied : (rest : List Act) → Replaying ceiling t start l order origins members xs rest j c out
           → (moveOk t (head ∷ picks) ≡ true → moveVerdict ceiling t c (moveOf t (head ∷ picks)) ≡ Allowed → ⊥) → false ≡ replayFits ceiling t start xs

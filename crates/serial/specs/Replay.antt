@@ -4,14 +4,15 @@ use mathlib.Core.Bool.{Bool, true, false, cond}
 use mathlib.Core.List.{List, _∷_, map}
 use mathlib.Core.Path.{_≡_}
 use lib.Dec.{eqb}
-use lib.ListN.{length, getD, take}
+use lib.ListN.{length, getD, take, drop}
 use Rattle.lists.specs.Lists.{over}
 use Rattle.lists.specs.Each.{All}
+use Rattle.lists.specs.Padded.{padded}
 use Rattle.semantics.specs.Words.{headKind, headWord}
 use Rattle.semantics.specs.Table.{Table, sizesOf, numbersOf}
 use Rattle.semantics.specs.State as semantics
 use Rattle.semantics.specs.State.{Entry}
-use Rattle.semantics.specs.Move.{entryAt, moveOk, moveOf, moveVerdict}
+use Rattle.semantics.specs.Move.{picksUsed, entryAt, moveOk, moveOf, moveVerdict}
 use Rattle.semantics.specs.Log.{moveCount, logWords}
 use Rattle.semantics.specs.Serial.{Act, placeOf, replayed}
 use Rattle.semantics.specs.Answers.{tableVerdict}
@@ -35,23 +36,33 @@ headAgain es head member =
     cond (eqb (headKind head) 0) head
     (headWord (cond (eqb (headKind head) 1) 1 2) (entryAt es (placeIn es member) .owner % 2 ^ 24))
 
+-- the head and the picks of the recorded move at place p among these entries
+pub record Words (t : Table) (es : List Entry) (l origins members : List ℕ) (p head : ℕ) (picks : List ℕ) : Type 0 where
+  pub used : picksUsed t (getD l (1 + p) 0) ≤ 4
+  pub head-now : head ≡ headAgain es (getD l (1 + p) 0) (getD members p 0)
+  pub picks-now : picks ≡ padded 4 0 (map (placeIn es) (take (picksUsed t (getD l (1 + p) 0)) (take 4 (drop (4 * p) origins))))
+
 -- d says whether the move in these words is in order and allowed
 pub record DecidedAs (d : Decision) (ceiling : ℕ) (t : Table) (s : semantics.State) (head : ℕ) (picks : List ℕ) : Type 0 where
   pub is-move : d .ok ≡ true → IsMove t (d .rule) head picks
   pub allows : d .ok ≡ true → moveVerdict ceiling t s (moveOf t (head ∷ picks)) ≡ Allowed
   pub denies : d .ok ≡ false → moveOk t (head ∷ picks) ≡ true → moveVerdict ceiling t s (moveOf t (head ∷ picks)) ≡ Allowed → ⊥
 
--- what a replay asks: any arrays will do whose order has places of the log
-pub record Replayable (t index : List ℕ) (s : State) (l order origins members : List ℕ) (ceiling : ℕ) (target : List ℕ) : Type 0 where
+-- what is read in every turn
+pub record Readable (t index l origins members : List ℕ) : Type 0 where
   pub table : tableVerdict t ≡ Allowed
   pub starts : Starts (numbersOf t) (sizesOf t .rules) index
-  pub bounds : Bounded s ceiling
-  pub limit : ceiling ≤ 1024
   pub log : Sized l
-  pub places : (j : ℕ) → j < moveCount l → getD order j 0 < moveCount l
-  pub ordered : length order ≡ 1024
   pub picked : length origins ≡ 4096
   pub marked : length members ≡ 1024
+
+-- what a replay asks: any arrays will do whose order has places of the log
+pub record Replayable (t index : List ℕ) (s : State) (l order origins members : List ℕ) (ceiling : ℕ) (target : List ℕ) : Type 0 where
+  pub read : Readable t index l origins members
+  pub bounds : Bounded s ceiling
+  pub limit : ceiling ≤ 1024
+  pub places : (j : ℕ) → j < moveCount l → getD order j 0 < moveCount l
+  pub ordered : length order ≡ 1024
   pub room : 1 + 5 * moveCount l ≤ length target
 
 -- acts in this order that the arrays hold and that can be made again

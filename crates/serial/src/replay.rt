@@ -3,18 +3,19 @@
 ghost use Prim.Native.Nat.{ℕ, _+_, _*_, _≤_, _<_};
 ghost use mathlib.Core.Path.{_≡_};
 ghost use mathlib.Core.List.{List, _∷_, map};
-ghost use lib.ListN.{length, take, drop};
+ghost use lib.ListN.{length, take, drop, set};
 ghost use Rattle.lists.specs.Padded.{padded};
 ghost use Rattle.lists.specs.Over.{Pasted};
 ghost use Rattle.lists.specs.Rows.{rows};
 ghost use Rattle.semantics.specs.Table.{sizesOf, numbersOf, tableOf};
 ghost use Rattle.semantics.specs.Move.{picksUsed, entryAt};
+ghost use Rattle.semantics.specs.Log.{moveCount};
 ghost use Rattle.semantics.specs.Answers.{tableVerdict};
 ghost use Rattle.semantics.specs.declared.Verdict.the-variants.{Allowed};
 ghost use Rattle.table.specs.Index.{Starts};
 ghost use Rattle.state.specs.Working.{rowOf, stateIn};
 ghost use Rattle.step.specs.Working.{stateFrom, Columns};
-ghost use Rattle.serial.specs.Replay.{placeIn, headAgain, DecidedAs, Replayable, ReplayedAs};
+ghost use Rattle.serial.specs.Replay.{placeIn, headAgain, Words, DecidedAs, Readable, Replayable, ReplayedAs};
 use log::head_at;
 use semantics::Verdict;
 use state::State;
@@ -26,6 +27,12 @@ use step::moves::verdict;
 use table::decode::Rule;
 use table::decode::consumes_at;
 use table::parts::sizes_of;
+
+// The words of a move.
+struct Again {
+    head: u32,
+    picks: [u32; 4],
+}
 
 // Whether a move is made, and then the rule of a reaction.
 struct Decision {
@@ -115,6 +122,28 @@ fn head_again<'a>(
     if kind == 1 { 16777216 + id } else { 33554432 + id }
 }
 
+// The words of the recorded move at place p among these entries.
+fn again_at<'a>(
+    table: &'a [u32],
+    starts: &'a [u32; 65],
+    owners: &'a [u32; 1024],
+    origins: &'a [u32; 1024],
+    n: usize,
+    log: &'a [u32],
+    wanted: &'a [u32; 4096],
+    members: &'a [u32; 1024],
+    p: usize,
+) -> Again
+    requires { ⌜ Readable (now table) (now starts) (now log) (now wanted) (now members) × Columns (now owners) (now origins) n × (p < moveCount (now log)) ⌝ }
+    ensures { λ r. ⌜ ((ws : List ℕ) → Words (tableOf (now (table .entry))) (rows (rowOf (now (owners .entry)) ws (now (origins .entry))) 0 n) (now (log .entry)) (now (wanted .entry)) (now (members .entry)) p (r .head) (r .picks)) ⌝ }
+{
+    let was = head_at(log, p);
+    let head = head_again(owners, origins, n, was, members[p]);
+    let k = picks_used(table, starts, was);
+    let picks = places_of(origins, n, wanted_at(wanted, p), k);
+    Again { head, picks }
+}
+
 // 5, then 7 to 12.
 fn decided<'a>(
     table: &'a [u32],
@@ -154,6 +183,15 @@ fn put_picks(out: &mut [u32], at: usize, picks: [u32; 4])
     }
 }
 
+// The move at place j of a log of k moves.
+fn put_move(out: &mut [u32], k: usize, j: usize, head: u32, picks: [u32; 4])
+    requires { ⌜ (j < k) × (k ≤ 1024) × (1 + 5 * k ≤ length (now out)) ⌝ }
+    ensures { λ _. ⌜ Pasted (set (now (out .entry)) (1 + j) head) (1 + k + 4 * j) picks 4 (now (out .exit)) ⌝ }
+{
+    out[1 + j] = head;
+    put_picks(out, 1 + k + 4 * j, picks);
+}
+
 // The log of the recorded moves in this order, over the target's beginning; whether every state on
 // the way has at most so many entries. The move at place p is the maker p + 1, as in the first log.
 pub fn replay<'a>(
@@ -177,15 +215,14 @@ pub fn replay<'a>(
         let p = order[j] as usize;
         let n = s.len;
         let next = s.next;
-        let was = head_at(log, p);
-        let head = head_again(&s.owners, &s.origins, n, was, members[p]);
-        let picks = places_of(&s.origins, n, wanted_at(origins, p), picks_used(table, starts, was));
+        let m = again_at(table, starts, &s.owners, &s.origins, n, log, origins, members, p);
+        let head = m.head;
+        let picks = m.picks;
         let d = decided(table, starts, &s.owners, &s.items, n, next, head, picks, ceiling);
         if !d.ok {
             return false;
         }
-        out[1 + j] = head;
-        put_picks(out, 1 + k + 4 * j, picks);
+        put_move(out, k, j, head, picks);
         let rule = d.rule;
         s = applied(s, rule, head, picks, (p + 1) as u32);
         j += 1;
