@@ -50,7 +50,7 @@ module _ {A : Type 0} (out : List A) (k j : ℕ) (x : A) (xs : List A) (more : j
   unfolding at
   fits = omega (arith, length-set out (1 + j) x)
 
-  pub row : List A
+  unfoldable pub row : List A
   row = paste (set out (1 + j) x) (1 + k + 4 * j) xs 4
 
   pub row-first : take (1 + (j + 1)) row ≡ take (1 + j) out ++ x ∷ []
