@@ -36,9 +36,9 @@ module _ {A : Type 0} where
       let e : length xs + m ≡ n = omega arith in
       let f : m + length xs ≡ n = omega arith in
       let front : take m (replicate n d) ≡ replicate m d =
-          ap (λ (k : ℕ). take m (replicate k d)) (sym f)
-          ∙ ap (take m) (sym (replicate-append-replicate m (length xs) d))
-          ∙ take-at (replicate m d) (replicate (length xs) d) m (length-replicate m d) in
+      ap (λ (k : ℕ). take m (replicate k d)) (sym f)
+      ∙ ap (take m) (sym (replicate-append-replicate m (length xs) d))
+      ∙ take-at (replicate m d) (replicate (length xs) d) m (length-replicate m d) in
       sym (ap (λ (k : ℕ). take k (xs ++ replicate n d)) (sym e) ∙ take-append-add xs (replicate n d) m ∙ ap (λ (l : List A). xs ++ l) front)
 
   getD-replicate-any : (n i : ℕ) (d : A) → getD (replicate n d) i d ≡ d

@@ -92,8 +92,7 @@ module _ (ceiling : ℕ) (t : Table) (start : State) (l order origins members : 
           let place = head-eq (r .places ∙ ahead) in
           let words = words-same (r .recorded .0) g (sym place) w in
           let maker : getD order j 0 + 1 ≡ suc (a .place) = omega arith in
-          let next : s ≡ after t (suc (a .place)) c m = e ∙ rw (maker, words, g .words) (sym (after-allowed t (suc (a .place)) c m (g .allows))) in
-          (
+          let next : s ≡ after t (suc (a .place)) c m = e ∙ rw (maker, words, g .words) (sym (after-allowed t (suc (a .place)) c m (g .allows))) in (
             rest,
             record {
               places = tail-eq (r .places ∙ ahead);
@@ -118,8 +117,7 @@ module _ (ceiling : ℕ) (t : Table) (start : State) (l order origins members : 
         let whole = replayed t start xs in
         let heads : take (1 + k) out ≡ k ∷ map headOf whole = sym (append-nil (take (1 + k) out)) ∙ r .heads in
         let picks : take (4 * k) (drop (1 + k) out) ≡ allPicks whole = sym (append-nil (take (4 * k) (drop (1 + k) out))) ∙ r .picks in
-        let count : length whole ≡ k = omega (arith, ap length heads, length-take-le (1 + k) out (omega arith), length-map whole headOf) in
-        (
+        let count : length whole ≡ k = omega (arith, ap length heads, length-take-le (1 + k) out (omega arith), length-map whole headOf) in (
           sym (le-leb (length (c .entries)) ceiling n) ∙ r .fitting,
           rw count (rows-over out before k k (map headOf whole) (allPicks whole) heads picks room tail),
         )

@@ -110,11 +110,11 @@ module _ {T index : List ℕ} {start : State} {l order origins members : List �
     going-end done {before} e =
         let k : j ≡ moveCount l = omega (arith, g .within) in
         let tail : drop (1 + 5 * moveCount l) out ≡ drop (1 + 5 * moveCount l) before =
-            g .tail ∙ ap (drop (1 + 5 * moveCount l)) e ∙ drop-set-lt (1 + 5 * moveCount l) before 0 (moveCount l) (omega arith) in
+        g .tail ∙ ap (drop (1 + 5 * moveCount l)) e ∙ drop-set-lt (1 + 5 * moveCount l) before 0 (moveCount l) (omega arith) in
         let ended : (xs : List Act) → Arranged (tableOf T) (stateIn start) l order origins members xs
-            → (true ≡ replayFits ceiling (tableOf T) (stateIn start) xs) × (out ≡ over (logWords (replayed (tableOf T) (stateIn start) xs)) before) = λ xs h.
-            let (rest, r) = g .acts xs h in
-            replaying-end ceiling (tableOf T) (stateIn start) l order origins members xs few rest (rw k at r) fit before going-room tail in
+        → (true ≡ replayFits ceiling (tableOf T) (stateIn start) xs) × (out ≡ over (logWords (replayed (tableOf T) (stateIn start) xs)) before) = λ xs h.
+        let (rest, r) = g .acts xs h in
+        replaying-end ceiling (tableOf T) (stateIn start) l order origins members xs few rest (rw k at r) fit before going-room tail in
         record {
           fits = λ xs h. ended xs h .0;
           target = λ xs h q. ended xs h .1;

@@ -76,7 +76,12 @@ fn wanted_at(origins: &[u32; 4096], p: usize) -> [u32; 4]
     ensures { λ r. ⌜ r ≡ take 4 (drop (4 * p) (now (origins .entry))) ⌝ }
 {
     let at = 4 * p;
-    [origins[at], origins[at + 1], origins[at + 2], origins[at + 3]]
+    [
+        origins[at],
+        origins[at + 1],
+        origins[at + 2],
+        origins[at + 3],
+    ]
 }
 
 // How many picks a head uses.
@@ -119,7 +124,11 @@ fn head_again<'a>(
         return head;
     }
     let id = owner_at(owners, n, place_of(origins, n, member)) % 16777216;
-    if kind == 1 { 16777216 + id } else { 33554432 + id }
+    if kind == 1 {
+        16777216 + id
+    } else {
+        33554432 + id
+    }
 }
 
 // The words of the recorded move at place p among these entries.
@@ -140,7 +149,8 @@ fn again_at<'a>(
     let was = head_at(log, p);
     let head = head_again(owners, origins, n, was, members[p]);
     let k = picks_used(table, starts, was);
-    let picks = places_of(origins, n, wanted_at(wanted, p), k);
+    let picked = wanted_at(wanted, p);
+    let picks = places_of(origins, n, picked, k);
     Again { head, picks }
 }
 
@@ -165,7 +175,17 @@ fn decided<'a>(
     }
     let rule = rule_of(table, starts, head);
     let sizes = sizes_of(table);
-    let v = verdict(owners, items, n, next, sizes.globals, rule, head, picks, ceiling);
+    let v = verdict(
+        owners,
+        items,
+        n,
+        next,
+        sizes.globals,
+        rule,
+        head,
+        picks,
+        ceiling,
+    );
     if let Verdict::Denied(refusal) = v {
         return Decision { ok: false, rule };
     }
@@ -215,10 +235,30 @@ pub fn replay<'a>(
         let p = order[j] as usize;
         let n = s.len;
         let next = s.next;
-        let m = again_at(table, starts, &s.owners, &s.origins, n, log, origins, members, p);
+        let m = again_at(
+            table,
+            starts,
+            &s.owners,
+            &s.origins,
+            n,
+            log,
+            origins,
+            members,
+            p,
+        );
         let head = m.head;
         let picks = m.picks;
-        let d = decided(table, starts, &s.owners, &s.items, n, next, head, picks, ceiling);
+        let d = decided(
+            table,
+            starts,
+            &s.owners,
+            &s.items,
+            n,
+            next,
+            head,
+            picks,
+            ceiling,
+        );
         if !d.ok {
             return false;
         }

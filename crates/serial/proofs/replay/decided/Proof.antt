@@ -31,14 +31,22 @@ verdict-requires c κs =
     let p = c .before .before .before .before .before .pre in
     (p .2, p .3, λ k. decodes-itself _ _ (c .before .rule-of .ensures k))
 
+module _ (c : tie.After-verdict) where
+  -- the move in the words at hand
+  abbrev Formed : Type 0
+  Formed = let a = c .before .before .before .before .before .before .args in IsMove (tableOf (a .table .now)) (c .before .before .rule-of .result) (a .head) (a .picks)
+
+  formed : Formed
+  formed = record {
+    form = sym (c .before .before .before .before .form-ok .ensures) ∙ not-false _ (c .before .before .before .if1 .left);
+    rule = c .before .before .rule-of .ensures;
+  }
+
 returns-2 : tie.Need-returns-2
 unfolding tableOf
 returns-2 c gs =
     let read = c .before .before .before in
-    let a = read .before .before .before .before .before .before .args in
-    let m : IsMove (tableOf (a .table .now)) (read .before .before .rule-of .result) (a .head) (a .picks) =
-        record { form = sym (read .before .before .before .before .form-ok .ensures) ∙ not-false _ (read .before .before .before .if1 .left); rule = read .before .before .rule-of .ensures } in
-    let v = read .verdict .ensures _ gs m (sym (ap (λ (z : Sizes). z .globals) (read .before .sizes-of .ensures))) in
+    let v = read .verdict .ensures _ gs (formed read) (sym (ap (λ (z : Sizes). z .globals) (read .before .sizes-of .ensures))) in
     record {
       is-move = λ h. absurd (false≢true h);
       allows = λ h. absurd (false≢true h);
@@ -49,12 +57,9 @@ returns-3 : tie.Need-returns-3
 unfolding tableOf
 returns-3 c gs =
     let read = c .before .before in
-    let a = read .before .before .before .before .before .before .args in
-    let m : IsMove (tableOf (a .table .now)) (read .before .before .rule-of .result) (a .head) (a .picks) =
-        record { form = sym (read .before .before .before .before .form-ok .ensures) ∙ not-false _ (read .before .before .before .if1 .left); rule = read .before .before .rule-of .ensures } in
-    let v = read .verdict .ensures _ gs m (sym (ap (λ (z : Sizes). z .globals) (read .before .sizes-of .ensures))) in
+    let v = read .verdict .ensures _ gs (formed read) (sym (ap (λ (z : Sizes). z .globals) (read .before .sizes-of .ensures))) in
     record {
-      is-move = λ h. m;
+      is-move = λ h. formed read;
       allows = λ h. sym v ∙ c .enum-told .given .1;
       denies = λ h. absurd (true≢false h);
     }

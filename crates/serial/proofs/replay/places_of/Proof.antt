@@ -31,8 +31,7 @@ loop-again c =
     let l = c .before .before .loop in
     let four = l .inv .0 in
     let more = c .before .loop-test .taken in
-    let few = c .before .before .before .pre .2 in
-    (
+    let few = c .before .before .before .pre .2 in (
       four,
       omega arith,
       length-set (l .places) (l .i) (c .place-of .result) ∙ l .inv .2,
