@@ -28,3 +28,4 @@ pub mod Each
 pub mod UpFrom
 pub mod Fronts
 pub mod Mapped
+pub mod Columns

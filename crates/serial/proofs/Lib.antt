@@ -5,3 +5,8 @@ pub mod Copying
 pub mod Acting
 pub mod Recording
 pub mod Keying
+pub mod Places
+pub mod Used
+pub mod Again
+pub mod Replaying
+pub mod Turns
