@@ -1,7 +1,7 @@
 -- A list that code writes in two columns: one that grows by an element, and behind it one that grows by a part.
 use Prim.Native.Nat.{ℕ, suc, _+_, _-_, _*_, _≤_, _<_}
 use mathlib.Core.List.{List, [], _∷_, _++_, append-assoc}
-use mathlib.Core.Path.{_≡_, refl, sym, ap, _∙_}
+use mathlib.Core.Path.{_≡_, sym, ap, _∙_}
 use native.Mathlib.Omega.{arith}
 use lib.ListN.{length, take, drop, set, length-append, length-drop, length-set, take-append-drop}
 use lib.Seq.{paste, take-all, take-paste, drop-paste, take-append-le, drop-append-le, take-take, drop-drop, take-suc-set, drop-set-lt, length-take-le}

@@ -1,5 +1,5 @@
 -- The words of a recorded act made again: what the code computes of them is what `again` says.
-use Prim.Native.Nat.{ℕ, _+_, _*_, _%_, _^_, _≤_, _<_, min}
+use Prim.Native.Nat.{ℕ, _+_, _*_, _%_, _^_, _≤_, _<_}
 use mathlib.Core.Bool.{Bool, true, false, cond}
 use mathlib.Core.List.{List, [], _∷_, _++_, map, map-map}
 use mathlib.Core.Path.{_≡_, refl, sym, ap, subst, _∙_}
@@ -13,7 +13,7 @@ use Rattle.semantics.specs.Words.{headKind, headNumber, headWord}
 use Rattle.semantics.specs.Table.{Table}
 use Rattle.semantics.specs.State.{Origin, Entry, State}
 use Rattle.semantics.specs.Move.{Move, react, commit, abort, picksUsed, moveOf, entryAt}
-use Rattle.semantics.specs.Log.{moveAt, headOf, fourPicks}
+use Rattle.semantics.specs.Log.{headOf, fourPicks}
 use Rattle.semantics.specs.Serial.{Act, isEnd, placeOf, again}
 use Rattle.state.specs.Working.{originOf}
 use Rattle.serial.specs.Acts.{Recorded, ActsAgain, idOf, wordsOfMove}

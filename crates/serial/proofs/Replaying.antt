@@ -1,12 +1,11 @@
 -- The loop of the replay: what is written, followed by the replay of what is left, is the whole.
 use Prim.Native.Nat.{ℕ, suc, _+_, _*_, _≤_, _<_}
-use mathlib.Core.Bool.{Bool, true, false, _&&_}
+use mathlib.Core.Bool.{true, false}
 use mathlib.Core.List.{List, [], _∷_, _++_, map, nil≢cons, append-nil, append-assoc}
 use mathlib.Core.Path.{_≡_, refl, sym, ap, _∙_}
-use native.Mathlib.Numerals.{add-one}
 use native.Mathlib.Omega.{arith}
 use lib.Dec.{leb}
-use lib.ListN.{length, getD, take, drop, set, length-append, length-map, take-append-drop}
+use lib.ListN.{length, getD, take, drop, set, length-map}
 use lib.Seq.{append-snoc, length-take-le}
 use borrow.Author.Tests.{le-leb}
 use Rattle.lists.specs.Lists.{over}
@@ -24,7 +23,7 @@ use Rattle.semantics.specs.declared.Refusal.the-variants.{TooManyEntries}
 use Rattle.semantics.specs.declared.Verdict.the-variants.{Allowed}
 use Rattle.wellformed.specs.Verdicts.{both-intro, unless-intro}
 use Rattle.wellformed.specs.Length.{length-maker}
-use Rattle.serial.specs.Acts.{Recorded, ActsAgain, Replays, replayFits, wordsOfMove}
+use Rattle.serial.specs.Acts.{Recorded, Replays, replayFits}
 use Rattle.serial.specs.Replay.{Words, Arranged}
 use Rattle.serial.proofs.Again.{words-same}
 

@@ -2,7 +2,7 @@
 // the same origins, ends under the ids that the batches now have.
 ghost use Prim.Native.Nat.{ℕ, _+_, _*_, _≤_, _<_};
 ghost use mathlib.Core.Path.{_≡_};
-ghost use mathlib.Core.List.{List, _∷_, map};
+ghost use mathlib.Core.List.{List, map};
 ghost use lib.ListN.{length, take, drop, set};
 ghost use Rattle.lists.specs.Padded.{padded};
 ghost use Rattle.lists.specs.Over.{Pasted};

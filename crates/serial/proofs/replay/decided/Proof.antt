@@ -1,7 +1,6 @@
 -- `decided` meets its contract: the form comes first.
 use mathlib.Core.Bool.{false≢true, true≢false}
-use mathlib.Core.Path.{_≡_, sym, ap, _∙_}
-use native.Mathlib.Omega.{arith}
+use mathlib.Core.Path.{sym, ap, _∙_}
 use borrow.Author.Needs.{needs}
 use borrow.Author.Tests.{not-true, not-false}
 use Rattle.lists.specs.Choices.{clash}

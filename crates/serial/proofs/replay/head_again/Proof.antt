@@ -1,4 +1,3 @@
-use native.Mathlib.Omega.{arith}
 use borrow.Author.Needs.{needs}
 use Rattle.serial.proofs.Again.{head-react, head-commit, head-abort}
 use Rattle.serial.proofs.replay.head_again.Statement.{statement}

@@ -1,10 +1,10 @@
 -- `places_of` meets its contract: the places of the first i origins stand at the front.
-use Prim.Native.Nat.{ℕ, _-_, _≤_, _<_}
+use Prim.Native.Nat.{ℕ, _-_, _≤_}
 use mathlib.Core.List.{List, map}
 use mathlib.Core.Path.{_≡_, ap, _∙_}
 use native.Mathlib.Omega.{arith}
 use borrow.Author.Needs.{needs}
-use lib.ListN.{length, getD, take, set, length-set}
+use lib.ListN.{length, take, set, length-set}
 use Rattle.lists.specs.Padded.{padded, padded-none, fill-padded}
 use Rattle.lists.specs.Rows.{rows}
 use Rattle.state.specs.Working.{rowOf}

@@ -1,11 +1,10 @@
 -- `replay` meets its contract: before turn j the first j moves are written, and s is the state that they leave.
-use Prim.Native.Nat.{_+_, _-_, _<_, _≤_}
-use mathlib.Core.Path.{_≡_, refl}
+use Prim.Native.Nat.{_-_, _<_}
+use mathlib.Core.Path.{refl}
 use native.Mathlib.Omega.{arith}
 use borrow.Author.Needs.{needs}
 use borrow.Author.Tests.{not-true, not-false}
 use lib.ListN.{getD, length-set}
-use Rattle.semantics.specs.Table.{tableOf}
 use Rattle.state.specs.Working.{stateIn}
 use Rattle.step.specs.Bounds.{bounded-applicable}
 use Rattle.serial.proofs.Turns.{arrays-of, Going, going-start, going-room, going-denied, going-next, going-end}
