@@ -4,7 +4,7 @@ use mathlib.Core.Bool.{Bool, true, false, not, cond}
 use mathlib.Core.List.{List}
 use mathlib.Core.Path.{_≡_, refl, sym, ap, _∙_}
 use native.Mathlib.Omega.{arith}
-use lib.ListN.{length}
+use lib.ListN.{length, replicate}
 use Rattle.semantics.specs.Table.{sizesOf, tableOf}
 use Rattle.semantics.specs.State as semantics
 use Rattle.semantics.specs.State.{stateOf}
@@ -68,4 +68,15 @@ module _ (t index s l target : List ℕ) (k : Serializable t index s l target) (
             record {
               outcome = f .outcome ∙ ap outcomeOf (sym result-is);
               target = f .target ∙ ap (λ (y : Result). targetAfter y target) (sym result-is);
+            }
+
+        pub reorder-asked : length before ≡ 1024 → before ≡ replicate 1024 0 → Reorderable t index s l origins members ends target
+        reorder-asked m zeros =
+            record {
+              begun = k;
+              end = stateIn (r .state);
+              ran = ran-ended;
+              shut = shut;
+              recordings = rw (held .value, zeros) at (done .recordings e);
+              record-sizes = done .record-sizes;
             }

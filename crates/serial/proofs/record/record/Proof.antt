@@ -113,9 +113,9 @@ loop-again c =
     let kept = c .applied .ok .1 .1 in (
       v .0,
       recording-next (v .1) (read told .move-at .ensures .0) (more (turn told)) (legal told)
-      (used .picks-used .ensures) (noted .note-picks .ensures) (member .member-of .ensures _ _ (legal told)) (ended .note-if-end .ensures)
-      _ (arrays-of (c .applied .result) (kept .0 .1 .0 .1) (kept .1 .0 .1 .0 .1) (kept .1 .1 .0 .1 .0 .1))
-      (step-made (read told .move-at .ensures .1) _ _ (allows told) _ _ (c .applied .ensures _)),
+          (used .picks-used .ensures) (noted .note-picks .ensures) (member .member-of .ensures _ _ (legal told)) (ended .note-if-end .ensures)
+          _ (arrays-of (c .applied .result) (kept .0 .1 .0 .1) (kept .1 .0 .1 .0 .1) (kept .1 .1 .0 .1 .0 .1))
+          (step-made (read told .move-at .ensures .1) _ _ (allows told) _ _ (c .applied .ensures _)),
     )
 
 returns-2 : tie.Need-returns-2 Inv μ
