@@ -2,3 +2,6 @@ pub mod Answers
 pub mod Results
 pub mod Running
 pub mod Moving
+pub mod Serializing
+pub mod FirstPass
+pub mod SecondPass

@@ -1,3 +1,4 @@
 pub mod Ready
 pub mod Logs
 pub mod Moves
+pub mod Serials

@@ -3,8 +3,10 @@
 mod checks;
 mod logs;
 mod moves;
+mod serials;
 
 pub use checks::check_state;
 pub use checks::check_table;
 pub use logs::run;
 pub use moves::make_move;
+pub use serials::serialize;

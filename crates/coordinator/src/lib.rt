@@ -1,6 +1,6 @@
 // The public calls for C and Rust: the archive of this crate is the one that buyers link.
 ghost use mathlib.Core.Path.{_≡_};
-ghost use Rattle.semantics.specs.Answers.{checkTable, checkState, makeMove, makeMoveTarget, runLog, runLogTarget};
+ghost use Rattle.semantics.specs.Answers.{checkTable, checkState, makeMove, makeMoveTarget, runLog, runLogTarget, serialize, serializeTarget};
 use answers::answer_of;
 use semantics::Answer;
 
@@ -42,4 +42,17 @@ pub extern "C" fn coordinator_run<'a>(
     ensures contents { λ _. ⌜ now (target .exit) ≡ runLogTarget (now (table .entry)) (now (state .entry)) (now (log .entry)) (now (target .entry)) ⌝ }
 {
     answer_of(calls::run(table, state, log, target))
+}
+
+#[no_mangle]
+pub extern "C" fn coordinator_serialize<'a>(
+    table: &'a [u32],
+    state: &'a [u32],
+    log: &'a [u32],
+    target: &mut [u32],
+) -> Answer
+    ensures answer { λ r. ⌜ r ≡ serialize (now (table .entry)) (now (state .entry)) (now (log .entry)) (now (target .entry)) ⌝ }
+    ensures contents { λ _. ⌜ now (target .exit) ≡ serializeTarget (now (table .entry)) (now (state .entry)) (now (log .entry)) (now (target .entry)) ⌝ }
+{
+    answer_of(calls::serialize(table, state, log, target))
 }

@@ -26,3 +26,6 @@ pub mod Neither
 pub mod Numbers
 pub mod Each
 pub mod UpFrom
+pub mod Fronts
+pub mod Mapped
+pub mod Columns

@@ -5,8 +5,8 @@ use mathlib.Core.List.{List, [], _∷_, _++_, map, map-append, append-assoc}
 use native.Mathlib.Nat.{sub-zero}
 use native.Mathlib.Numerals.{add-one}
 use native.Mathlib.Omega.{arith}
-use lib.ListN.{length, getD, take, set, replicate, length-append, length-replicate, length-map}
-use lib.Seq.{length-take-le, take-suc, set-at, take-append-seam}
+use lib.ListN.{length, getD, take, set, replicate, length-append, length-replicate, length-map, replicate-append-replicate}
+use lib.Seq.{length-take-le, take-suc, set-at, take-at, take-append-seam, take-append-add}
 
 module _ {A : Type 0} where
   -- xs, then d up to n elements
@@ -28,6 +28,18 @@ module _ {A : Type 0} where
 
   pub take-padded : (n : ℕ) (d : A) (xs : List A) → take (length xs) (padded n d xs) ≡ xs
   take-padded n d xs = take-append-seam xs (replicate (n - length xs) d)
+
+  -- the same, cut from more than enough
+  pub padded-cut : (n : ℕ) (d : A) (xs : List A) → length xs ≤ n → padded n d xs ≡ take n (xs ++ replicate n d)
+  padded-cut n d xs h =
+      let m = n - length xs in
+      let e : length xs + m ≡ n = omega arith in
+      let f : m + length xs ≡ n = omega arith in
+      let front : take m (replicate n d) ≡ replicate m d =
+      ap (λ (k : ℕ). take m (replicate k d)) (sym f)
+      ∙ ap (take m) (sym (replicate-append-replicate m (length xs) d))
+      ∙ take-at (replicate m d) (replicate (length xs) d) m (length-replicate m d) in
+      sym (ap (λ (k : ℕ). take k (xs ++ replicate n d)) (sym e) ∙ take-append-add xs (replicate n d) m ∙ ap (λ (l : List A). xs ++ l) front)
 
   getD-replicate-any : (n i : ℕ) (d : A) → getD (replicate n d) i d ≡ d
   getD-replicate-any zero i d = refl

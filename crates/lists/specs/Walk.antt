@@ -16,6 +16,17 @@ module _ {A : Type 0} where
   pub drop-step : (xs : List A) (i : ℕ) (d : A) → i < length xs → drop i xs ≡ getD xs i d ∷ drop (i + 1) xs
   drop-step xs i d h = rw (add-one, drop-cons xs i d h)
 
+  -- four elements in a row
+  pub take-four : (l : List A) (at : ℕ) (d : A) → at + 4 ≤ length l → getD l at d ∷ getD l (at + 1) d ∷ getD l (at + 2) d ∷ getD l (at + 3) d ∷ [] ≡ take 4 (drop at l)
+  take-four l at d h =
+      let two : at + 1 + 1 ≡ at + 2 = omega arith in
+      let three : at + 2 + 1 ≡ at + 3 = omega arith in
+      let e = drop-step l at d (omega arith) in
+      let f = drop-step l (at + 1) d (omega arith) in
+      let g = drop-step l (at + 2) d (omega arith) in
+      let i = drop-step l (at + 3) d (omega arith) in
+      rw (e, f, two, g, three, i)
+
   -- a function of what is left, at i
   pub step : {B : Type 0} (f : List A → B) (xs : List A) (i : ℕ) (d : A) → i < length xs → f (drop i xs) ≡ f (getD xs i d ∷ drop (i + 1) xs)
   step f xs i d h = ap f (drop-step xs i d h)

@@ -1,2 +1,12 @@
 pub mod Tally
 pub mod Filling
+pub mod Marking
+pub mod Copying
+pub mod Acting
+pub mod Recording
+pub mod Keying
+pub mod Places
+pub mod Used
+pub mod Again
+pub mod Replaying
+pub mod Turns

@@ -1,2 +1,6 @@
-// The serial log.
-mod order;
+// The serial log, in two passes: the log is run and recorded, then its moves are made again in serial
+// order, each on the entries of the same origin.
+pub mod keys;
+pub mod order;
+pub mod record;
+pub mod replay;

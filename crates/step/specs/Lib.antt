@@ -4,3 +4,4 @@ pub mod Products
 pub mod React
 pub mod Narrow
 pub mod Moves
+pub mod Bounds

@@ -1,0 +1,135 @@
+// The serial log.
+ghost use mathlib.Core.Path.{_≡_};
+ghost use Rattle.semantics.specs.Answers.{answerOf, serialize, serializeTarget};
+ghost use Rattle.calls.specs.Serials.{Serializable, SerializedAs, Reorderable, ReorderedAs};
+use crate::checks::ready;
+use log::count_of;
+use opened::any_open;
+use semantics::Outcome;
+use semantics::Refusal;
+use semantics::Verdict;
+use serial::keys::keys_of;
+use serial::order::order_of;
+use serial::record::record;
+use serial::replay::replay;
+use state::State;
+use state::load;
+use table::begins_emit;
+use words::copy_words;
+
+// The second pass: the log's moves in serial order. Nothing is written before all of them fit: 17.
+fn reordered<'a>(
+    table: &'a [u32],
+    starts: &'a [u32; 65],
+    state: &'a [u32],
+    log: &'a [u32],
+    origins: &'a [u32; 4096],
+    members: &'a [u32; 1024],
+    ended: &'a [u32; 1024],
+    target: &mut [u32],
+) -> Outcome
+    requires { ⌜ Reorderable (now table) (now starts) (now state) (now log) (now origins) (now members) (now ended) (now target) ⌝ }
+    ensures { λ r. ⌜ ReorderedAs (now (table .entry)) (now (state .entry)) (now (log .entry)) (now (target .entry)) (now (target .exit)) r ⌝ }
+{
+    let k = count_of(log);
+    let keys = keys_of(log, members, ended, k);
+    let order = order_of(&keys, k);
+    let mut out = [0u32; 5121];
+    let fits = replay(
+        table,
+        starts,
+        load(state),
+        log,
+        &order,
+        origins,
+        members,
+        State::MAX_ENTRIES,
+        &mut out,
+    );
+    if !fits {
+        return Outcome::Refused(Refusal::SerialTooManyEntries);
+    }
+    let n = 1 + 5 * k;
+    copy_words(&out, n, target);
+    Outcome::Written(n as u32)
+}
+
+// The first pass, and what it may find: 16, then 15 at the end.
+fn serialized<'a>(
+    table: &'a [u32],
+    starts: &'a [u32; 65],
+    state: &'a [u32],
+    log: &'a [u32],
+    target: &mut [u32],
+) -> Outcome
+    requires { ⌜ Serializable (now table) (now starts) (now state) (now log) (now target) ⌝ }
+    ensures { λ r. ⌜ SerializedAs (now (table .entry)) (now (state .entry)) (now (log .entry)) (now (target .entry)) (now (target .exit)) r ⌝ }
+{
+    let mut origins = [0u32; 4096];
+    let mut members = [0u32; 1024];
+    let mut ended = [0u32; 1024];
+    let ran = record(
+        table,
+        starts,
+        load(state),
+        log,
+        State::MAX_ENTRIES,
+        &mut origins,
+        &mut members,
+        &mut ended,
+    );
+    let verdict = ran.verdict;
+    let place = ran.place;
+    if let Verdict::Denied(refusal) = verdict {
+        return Outcome::MoveRefused(place, refusal);
+    }
+    let end = ran.state;
+    let n = end.len;
+    if any_open(&end.owners, n) {
+        return Outcome::Refused(Refusal::TransactionOpen);
+    }
+    reordered(
+        table,
+        starts,
+        state,
+        log,
+        &origins,
+        &members,
+        &ended,
+        target,
+    )
+}
+
+// The log's batches one after another: the words written, or 1 to 4, 13, 6, 14, 15, 16, 15, 17. What
+// it writes has demand 3: crates/serializability/specs/Demand3.antt.
+pub fn serialize<'a>(
+    table: &'a [u32],
+    state: &'a [u32],
+    log: &'a [u32],
+    target: &mut [u32],
+) -> Outcome
+    ensures answer { λ r. ⌜ answerOf r ≡ serialize (now (table .entry)) (now (state .entry)) (now (log .entry)) (now (target .entry)) ⌝ }
+    ensures contents { λ _. ⌜ now (target .exit) ≡ serializeTarget (now (table .entry)) (now (state .entry)) (now (log .entry)) (now (target .entry)) ⌝ }
+{
+    let checked = ready(table, state);
+    let said = checked.verdict;
+    if let Verdict::Denied(refusal) = said {
+        return Outcome::Refused(refusal);
+    }
+    if !log::sizes_ok(log) {
+        return Outcome::Refused(Refusal::LogSizes);
+    }
+    if target.len() < 1 + 5 * count_of(log) {
+        return Outcome::Refused(Refusal::TargetTooShort);
+    }
+    let starts = checked.starts;
+    if begins_emit(table, &starts) {
+        return Outcome::Refused(Refusal::BeginEmits);
+    }
+    let s = load(state);
+    let n = s.len;
+    if any_open(&s.owners, n) {
+        return Outcome::Refused(Refusal::TransactionOpen);
+    }
+    serialized(table, &starts, state, log, target)
+}

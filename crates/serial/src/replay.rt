@@ -1,0 +1,271 @@
+// The second pass: the recorded moves again in the serial order, picks renumbered to the entries of
+// the same origins, ends under the ids that the batches now have.
+ghost use Prim.Native.Nat.{ℕ, _+_, _*_, _≤_, _<_};
+ghost use mathlib.Core.Path.{_≡_};
+ghost use mathlib.Core.List.{List, map};
+ghost use lib.ListN.{length, take, drop, set};
+ghost use Rattle.lists.specs.Padded.{padded};
+ghost use Rattle.lists.specs.Over.{Pasted};
+ghost use Rattle.lists.specs.Rows.{rows};
+ghost use Rattle.semantics.specs.Table.{sizesOf, numbersOf, tableOf};
+ghost use Rattle.semantics.specs.Move.{picksUsed, entryAt};
+ghost use Rattle.semantics.specs.Log.{moveCount};
+ghost use Rattle.semantics.specs.Answers.{tableVerdict};
+ghost use Rattle.semantics.specs.declared.Verdict.the-variants.{Allowed};
+ghost use Rattle.table.specs.Index.{Starts};
+ghost use Rattle.state.specs.Working.{rowOf, stateIn};
+ghost use Rattle.step.specs.Working.{stateFrom, Columns};
+ghost use Rattle.serial.specs.Replay.{placeIn, headAgain, Words, DecidedAs, Readable, Replayable, ReplayedAs};
+use log::head_at;
+use semantics::Verdict;
+use state::State;
+use step::moves::applied;
+use step::moves::form_ok;
+use step::moves::no_rule;
+use step::moves::rule_of;
+use step::moves::verdict;
+use table::decode::Rule;
+use table::decode::consumes_at;
+use table::parts::sizes_of;
+
+// The words of a move.
+struct Again {
+    head: u32,
+    picks: [u32; 4],
+}
+
+// Whether a move is made, and then the rule of a reaction.
+struct Decision {
+    ok: bool,
+    rule: Rule,
+}
+
+// The place of the first entry of that origin, n if there is none.
+fn place_of(origins: &[u32; 1024], n: usize, origin: u32) -> usize
+    requires { ⌜ (n ≤ 1024) × (length (now origins) ≡ 1024) ⌝ }
+    ensures { λ r. ⌜ ((os ws : List ℕ) → r ≡ placeIn (rows (rowOf os ws (now (origins .entry))) 0 n) origin) × (r ≤ n) ⌝ }
+{
+    let mut i = 0;
+    while i < n {
+        if origins[i] == origin {
+            return i;
+        }
+        i += 1;
+    }
+    n
+}
+
+// The places of the first k origins wanted, then 0.
+fn places_of(origins: &[u32; 1024], n: usize, wanted: [u32; 4], k: usize) -> [u32; 4]
+    requires { ⌜ (n ≤ 1024) × (length (now origins) ≡ 1024) × (k ≤ 4) ⌝ }
+    ensures { λ r. ⌜ ((os ws : List ℕ) → r ≡ padded 4 0 (map (placeIn (rows (rowOf os ws (now (origins .entry))) 0 n)) (take k wanted))) ⌝ }
+{
+    let mut places = [0u32; 4];
+    let mut i = 0;
+    while i < k {
+        let place = place_of(origins, n, wanted[i]);
+        places[i] = place as u32;
+        i += 1;
+    }
+    places
+}
+
+// The origins recorded for the picks of the move at place p.
+fn wanted_at(origins: &[u32; 4096], p: usize) -> [u32; 4]
+    requires { ⌜ (p < 1024) × (length (now origins) ≡ 4096) ⌝ }
+    ensures { λ r. ⌜ r ≡ take 4 (drop (4 * p) (now (origins .entry))) ⌝ }
+{
+    let at = 4 * p;
+    [
+        origins[at],
+        origins[at + 1],
+        origins[at + 2],
+        origins[at + 3],
+    ]
+}
+
+// How many picks a head uses.
+fn picks_used<'a>(table: &'a [u32], starts: &'a [u32; 65], head: u32) -> usize
+    requires { ⌜ (tableVerdict (now table) ≡ Allowed) × Starts (numbersOf (now table)) (sizesOf (now table) .rules) (now starts) ⌝ }
+    ensures { λ r. ⌜ (r ≡ picksUsed (tableOf (now (table .entry))) head) × (r ≤ 4) ⌝ }
+{
+    if head / 16777216 != 0 {
+        return 0;
+    }
+    let number = head % 16777216;
+    let sizes = sizes_of(table);
+    if sizes.rules <= number {
+        return 0;
+    }
+    consumes_at(table, starts, number)
+}
+
+// The owner of the entry at a place, 0 past the last.
+fn owner_at(owners: &[u32; 1024], n: usize, place: usize) -> u32
+    requires { ⌜ (n ≤ 1024) × (length (now owners) ≡ 1024) ⌝ }
+    ensures { λ r. ⌜ ((ws gs : List ℕ) → r ≡ entryAt (rows (rowOf (now (owners .entry)) ws gs) 0 n) place .owner) ⌝ }
+{
+    if place < n { owners[place] } else { 0 }
+}
+
+// A head now: a reaction's is as it was, an end has the id that owns the mark of its member.
+fn head_again<'a>(
+    owners: &'a [u32; 1024],
+    origins: &'a [u32; 1024],
+    n: usize,
+    head: u32,
+    member: u32,
+) -> u32
+    requires { ⌜ Columns (now owners) (now origins) n ⌝ }
+    ensures { λ r. ⌜ ((ws : List ℕ) → r ≡ headAgain (rows (rowOf (now (owners .entry)) ws (now (origins .entry))) 0 n) head member) ⌝ }
+{
+    let kind = head / 16777216;
+    if kind == 0 {
+        return head;
+    }
+    let id = owner_at(owners, n, place_of(origins, n, member)) % 16777216;
+    if kind == 1 {
+        16777216 + id
+    } else {
+        33554432 + id
+    }
+}
+
+// The words of the recorded move at place p among these entries.
+fn again_at<'a>(
+    table: &'a [u32],
+    starts: &'a [u32; 65],
+    owners: &'a [u32; 1024],
+    origins: &'a [u32; 1024],
+    n: usize,
+    log: &'a [u32],
+    wanted: &'a [u32; 4096],
+    members: &'a [u32; 1024],
+    p: usize,
+) -> Again
+    requires { ⌜ Readable (now table) (now starts) (now log) (now wanted) (now members) × Columns (now owners) (now origins) n × (p < moveCount (now log)) ⌝ }
+    ensures { λ r. ⌜ ((ws : List ℕ) → Words (tableOf (now (table .entry))) (rows (rowOf (now (owners .entry)) ws (now (origins .entry))) 0 n) (now (log .entry)) (now (wanted .entry)) (now (members .entry)) p (r .head) (r .picks)) ⌝ }
+{
+    let was = head_at(log, p);
+    let head = head_again(owners, origins, n, was, members[p]);
+    let k = picks_used(table, starts, was);
+    let picked = wanted_at(wanted, p);
+    let picks = places_of(origins, n, picked, k);
+    Again { head, picks }
+}
+
+// 5, then 7 to 12.
+fn decided<'a>(
+    table: &'a [u32],
+    starts: &'a [u32; 65],
+    owners: &'a [u32; 1024],
+    items: &'a [u32; 1024],
+    n: usize,
+    next: u32,
+    head: u32,
+    picks: [u32; 4],
+    ceiling: usize,
+) -> Decision
+    requires { ⌜ (tableVerdict (now table) ≡ Allowed) × Starts (numbersOf (now table)) (sizesOf (now table) .rules) (now starts) × Columns (now owners) (now items) n × (n ≤ ceiling) ⌝ }
+    ensures { λ d. ⌜ ((gs : List ℕ) → DecidedAs d ceiling (tableOf (now (table .entry))) (stateFrom (now (owners .entry)) (now (items .entry)) gs n next) head picks) ⌝ }
+{
+    if !form_ok(table, starts, head, picks) {
+        let rule = no_rule();
+        return Decision { ok: false, rule };
+    }
+    let rule = rule_of(table, starts, head);
+    let sizes = sizes_of(table);
+    let v = verdict(
+        owners,
+        items,
+        n,
+        next,
+        sizes.globals,
+        rule,
+        head,
+        picks,
+        ceiling,
+    );
+    if let Verdict::Denied(refusal) = v {
+        return Decision { ok: false, rule };
+    }
+    Decision { ok: true, rule }
+}
+
+fn put_picks(out: &mut [u32], at: usize, picks: [u32; 4])
+    requires { ⌜ at + 4 ≤ length (now out) ⌝ }
+    ensures { λ _. ⌜ Pasted (now (out .entry)) at picks 4 (now (out .exit)) ⌝ }
+{
+    let mut i = 0;
+    while i < 4 {
+        out[at + i] = picks[i];
+        i += 1;
+    }
+}
+
+// The move at place j of a log of k moves.
+fn put_move(out: &mut [u32], k: usize, j: usize, head: u32, picks: [u32; 4])
+    requires { ⌜ (j < k) × (k ≤ 1024) × (1 + 5 * k ≤ length (now out)) ⌝ }
+    ensures { λ _. ⌜ Pasted (set (now (out .entry)) (1 + j) head) (1 + k + 4 * j) picks 4 (now (out .exit)) ⌝ }
+{
+    out[1 + j] = head;
+    put_picks(out, 1 + k + 4 * j, picks);
+}
+
+// The log of the recorded moves in this order, over the target's beginning; whether every state on
+// the way has at most so many entries. The move at place p is the maker p + 1, as in the first log.
+pub fn replay<'a>(
+    table: &'a [u32],
+    starts: &'a [u32; 65],
+    mut s: State,
+    log: &'a [u32],
+    order: &'a [u32; 1024],
+    origins: &'a [u32; 4096],
+    members: &'a [u32; 1024],
+    ceiling: usize,
+    out: &mut [u32],
+) -> bool
+    requires { ⌜ Replayable (now table) (now starts) s (now log) (now order) (now origins) (now members) ceiling (now out) ⌝ }
+    ensures { λ r. ⌜ ReplayedAs r ceiling (tableOf (now (table .entry))) (stateIn s) (now (log .entry)) (now (order .entry)) (now (origins .entry)) (now (members .entry)) (now (out .entry)) (now (out .exit)) ⌝ }
+{
+    let k = log[0] as usize;
+    out[0] = log[0];
+    let mut j = 0;
+    while j < k {
+        let p = order[j] as usize;
+        let n = s.len;
+        let next = s.next;
+        let m = again_at(
+            table,
+            starts,
+            &s.owners,
+            &s.origins,
+            n,
+            log,
+            origins,
+            members,
+            p,
+        );
+        let head = m.head;
+        let picks = m.picks;
+        let d = decided(
+            table,
+            starts,
+            &s.owners,
+            &s.items,
+            n,
+            next,
+            head,
+            picks,
+            ceiling,
+        );
+        if !d.ok {
+            return false;
+        }
+        put_move(out, k, j, head, picks);
+        let rule = d.rule;
+        s = applied(s, rule, head, picks, (p + 1) as u32);
+        j += 1;
+    }
+    true
+}

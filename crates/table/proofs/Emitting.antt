@@ -1,0 +1,86 @@
+-- The rules of a well-formed table, tried one by one: whether one begins a transaction and emits.
+use Prim.Native.Nat.{ℕ, _+_, _≤_, _<_}
+use mathlib.Core.Bool.{Bool, true, false, _&&_}
+use mathlib.Core.List.{List, map}
+use mathlib.Core.Path.{_≡_, refl, sym, ap, _∙_}
+use native.Mathlib.Omega.{arith}
+use lib.Dec.{leb}
+use lib.ListN.{length, drop}
+use Rattle.lists.specs.Lists.{any, count}
+use Rattle.lists.specs.Tests.{or-true, or-false}
+use Rattle.lists.specs.Counting.{count-map, any-count}
+use Rattle.lists.specs.Ahead.{Tails, slice-tails, Ahead, ahead-start, ahead-here, ahead-next, ahead-done}
+use Rattle.semantics.specs.Table.{sizesOf, numbersOf, atomWordsOf, atomOf, isRole, hasRole, begins, emits, Rule, ruleOf, tableOf, ruleAt, noRule}
+use Rattle.semantics.specs.TableLaws.{rule-begins, table-rules}
+use Rattle.semantics.specs.Serial.{beginsEmit}
+use Rattle.semantics.specs.Answers.{tableVerdict}
+use Rattle.semantics.specs.declared.Sizes.{Sizes}
+use Rattle.semantics.specs.declared.Verdict.the-variants.{Allowed}
+use Rattle.table.specs.Index.{Starts, Cut, cut}
+use Rattle.table.proofs.Decoding.{rule-within, cut-rule}
+
+-- the rule begins a transaction and emits
+abbrev pub both : Rule → Bool
+both x = begins x && emits x
+
+module _ (z : Sizes) (ws : List ℕ) where
+  rule-emits : emits (ruleOf z ws) ≡ leb 1 (count (isRole 1) ws)
+  unfolding ruleOf
+  rule-emits = any-count (hasRole 1) (map atomOf ws) ∙ ap (leb 1) (count-map atomOf (hasRole 1) ws)
+
+  pub both-counts : leb 1 (count (isRole 2) ws) && leb 1 (count (isRole 1) ws) ≡ both (ruleOf z ws)
+  both-counts = rw (rule-begins z ws, rule-emits)
+
+-- r rules are tried
+pub record Trying (t starts : List ℕ) (rules : ℕ) (words : List ℕ) (r : ℕ) : Type 0 where
+  pub verdict : tableVerdict t ≡ Allowed
+  pub index : Starts (numbersOf t) (sizesOf t .rules) starts
+  pub bound : rules ≡ sizesOf t .rules
+  pub parts : words ≡ atomWordsOf t
+  pub ahead : Ahead (λ k. drop k (tableOf t .rules)) (sizesOf t .rules) (any both) r (beginsEmit (tableOf t))
+
+pub trying-start :
+    (t starts : List ℕ) {z : Sizes} {words : List ℕ}
+    → tableVerdict t ≡ Allowed
+    → Starts (numbersOf t) (sizesOf t .rules) starts
+    → z ≡ sizesOf t
+    → words ≡ atomWordsOf t
+    → Trying t starts (z .rules) words 0
+trying-start t starts v s ez ew = record {
+  verdict = v;
+  index = s;
+  bound = ap (λ (z : Sizes). z .rules) ez;
+  parts = ew;
+  ahead = ahead-start (λ k. drop k (tableOf t .rules)) (sizesOf t .rules) (any both);
+}
+
+rule-tails : (t : List ℕ) → Tails (λ k. ruleAt (tableOf t) k) (λ k. drop k (tableOf t .rules)) (sizesOf t .rules)
+rule-tails t = rw (table-rules t) at (slice-tails noRule (tableOf t .rules))
+
+module _ {t starts : List ℕ} {rules : ℕ} {words : List ℕ} {r : ℕ} (a : Trying t starts rules words r) where
+  pub trying-done : rules ≤ r → false ≡ beginsEmit (tableOf t)
+  trying-done h = ahead-done (rule-tails t) (a .ahead) (omega (arith, a .bound))
+
+  module _ (h : r < rules) where
+    under : r < sizesOf t .rules
+    under = omega (arith, a .bound)
+
+    pub trying-within : Cut starts r (length words)
+    trying-within = rule-within t starts r (a .verdict) under (a .index) (a .parts)
+
+    -- b: the answer for the words of rule r
+    module _ {xs : List ℕ} {b : Bool} (ex : xs ≡ cut starts r words) (eb : (z : Sizes) → b ≡ both (ruleOf z xs)) where
+      answer : both (ruleAt (tableOf t) r) ≡ b
+      answer = sym (eb (sizesOf t) ∙ ap both (cut-rule t starts r (a .verdict) under (a .index) (a .parts) refl ex))
+
+      pub trying-here : b ≡ true → true ≡ beginsEmit (tableOf t)
+      trying-here e = ahead-here (rule-tails t) (a .ahead) under true (λ xs. or-true (any both xs) (answer ∙ e))
+
+      pub trying-next : b ≡ false → Trying t starts rules words (r + 1)
+      trying-next e = record {
+        verdict = a .verdict;
+        index = a .index;
+        bound = a .bound;
+        parts = a .parts;
+        ahead = ahead-next (rule-tails t) (a .ahead) under (any both) (λ xs. or-false (any both xs) (answer ∙ e));
+      }
