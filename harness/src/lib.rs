@@ -3,13 +3,14 @@
 pub mod answer;
 pub mod examples;
 pub mod generate;
-#[cfg(feature = "library")]
 pub mod library;
 pub mod model;
 pub mod plain;
 pub mod program;
 pub mod random;
-#[cfg(target_os = "linux")]
 pub mod stack;
 pub mod two_lot;
 pub mod words;
+
+/// The repository.
+pub const ROOT: &str = concat!(env!("CARGO_MANIFEST_DIR"), "/..");

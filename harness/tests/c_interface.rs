@@ -1,25 +1,21 @@
 //! The header and the archive as a C compiler sees them.
-#![cfg(feature = "library")]
-
 use std::collections::BTreeMap;
 use std::env;
 use std::fs;
-use std::path::PathBuf;
+use std::path::{Path, PathBuf};
 use std::process::Command;
 
 use coordinator::Refusal;
-
-const MANIFEST: &str = env!("CARGO_MANIFEST_DIR");
+use harness::ROOT;
 
 fn archive() -> PathBuf {
-    let dir =
-        env::var_os("COORDINATOR_LIB_DIR").map_or(PathBuf::from(MANIFEST).join("../target/staticlib"), PathBuf::from);
+    let dir = env::var_os("COORDINATOR_LIB_DIR").map_or(Path::new(ROOT).join("target/staticlib"), PathBuf::from);
     dir.join("libcoordinator.a")
 }
 
 fn compiler() -> Command {
     let mut compiler = Command::new(env::var_os("CC").unwrap_or("cc".into()));
-    compiler.arg("-I").arg(PathBuf::from(MANIFEST).join("../include"));
+    compiler.arg("-I").arg(Path::new(ROOT).join("include"));
     compiler
 }
 
@@ -35,13 +31,7 @@ fn cases(name: &str, flags: &[&str]) {
     let program = PathBuf::from(env!("CARGO_TARGET_TMPDIR")).join(name);
     let mut compile = compiler();
     compile.args(["-std=c11", "-Wall", "-Wextra", "-Wpedantic", "-Werror"]).args(flags);
-    let calls = [
-        ("-DWITH_MOVE", cfg!(feature = "move")),
-        ("-DWITH_RUN", cfg!(feature = "run")),
-        ("-DWITH_SERIALIZE", cfg!(feature = "serialize")),
-    ];
-    compile.args(calls.into_iter().filter(|call| call.1).map(|call| call.0));
-    compile.arg(PathBuf::from(MANIFEST).join("tests/c/cases.c")).arg(archive()).arg("-o").arg(&program);
+    compile.arg(Path::new(ROOT).join("harness/tests/c/cases.c")).arg(archive()).arg("-o").arg(&program);
     assert_eq!(succeeds(compile), "");
     assert_eq!(succeeds(Command::new(program)), "0 failed\n");
 }
@@ -57,7 +47,7 @@ fn cases_a_to_h_through_c() {
 // Catches a header that C++ does not take, or that needs another one before it.
 #[test]
 fn the_header_stands_alone() {
-    let header = PathBuf::from(MANIFEST).join("../include/coordinator.h");
+    let header = Path::new(ROOT).join("include/coordinator.h");
     for language in [["-xc", "-std=c99"], ["-xc", "-std=c11"], ["-xc++", "-std=c++11"]] {
         let mut compile = compiler();
         compile.args(["-Wall", "-Wextra", "-Wpedantic", "-Werror", "-fsyntax-only"]).args(language).arg(&header);
@@ -67,7 +57,7 @@ fn the_header_stands_alone() {
 
 /// The header's constants.
 fn constants() -> BTreeMap<String, u64> {
-    let text = fs::read_to_string(PathBuf::from(MANIFEST).join("../include/coordinator.h")).unwrap();
+    let text = fs::read_to_string(Path::new(ROOT).join("include/coordinator.h")).unwrap();
     let constant = |line: &str| {
         let mut parts = line.strip_prefix("#define COORDINATOR_")?.split_whitespace();
         let name = parts.next()?;

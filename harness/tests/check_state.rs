@@ -1,13 +1,14 @@
 //! The state check: library, model and plain code on right, damaged and random words.
 mod common;
 
-use common::{check_state, two_lot_start, two_lot_table};
+use common::check_state;
 use harness::answer::Answer;
 use harness::generate::state_faults::StateFault;
 use harness::generate::states::state;
 use harness::generate::table_faults::TableFault;
 use harness::generate::tables::{table, Shape};
 use harness::random::Random;
+use harness::two_lot;
 use harness::words::{kind, Entry, State, Table};
 
 const SHAPES: [Shape; 2] = [Shape::Any, Shape::Small];
@@ -146,7 +147,7 @@ fn changed_words_get_one_answer() {
 // Catches a read past the end and a count that wraps: short lists of small and huge words.
 #[test]
 fn short_lists_get_one_answer() {
-    let tables = [two_lot_table(), vec![0, 0, 0, 0, 0], vec![1, 0, 255, 0, 0]];
+    let tables = [two_lot::table(), vec![0, 0, 0, 0, 0], vec![1, 0, 255, 0, 0]];
     let mut random = Random::new(206);
     for length in 0..=12 {
         for round in 0..8_000 {
@@ -169,7 +170,7 @@ fn short_lists_get_one_answer() {
 // Catches a trap or a slow path on long noise, with counts of any kind.
 #[test]
 fn noise_gets_one_answer() {
-    let table = two_lot_table();
+    let table = two_lot::table();
     let mut random = Random::new(207);
     for length in [13, 100, 2_050, 2_051, 2_052, 100_000] {
         for _ in 0..40 {
@@ -186,9 +187,9 @@ fn noise_gets_one_answer() {
 // Catches limits that are off by one, and a state type whose empty value is refused.
 #[test]
 fn limits_of_a_state() {
-    let table = two_lot_table();
+    let table = two_lot::table();
     accepts(&table, &State::empty().words());
-    accepts(&table, &two_lot_start());
+    accepts(&table, &two_lot::start());
     accepts(&table, &[0, 65_536]);
     refuses(&table, &[0, 65_537], 3);
     refuses(&table, &[0, 0], 3);
@@ -210,7 +211,7 @@ fn limits_of_a_state() {
 // Catches a half-made merge that passes: a member's mark moved, its messages left behind.
 #[test]
 fn a_half_made_merge_is_refused() {
-    let table = two_lot_table();
+    let table = two_lot::table();
     let whole = [Entry::new(1, 3, 0, 1), Entry::new(1, 3, 0, 2), Entry::new(1, 0, 3, 9)];
     accepts(&table, &State { next: 3, entries: whole.to_vec() }.words());
     let half = [Entry::new(1, 3, 0, 1), Entry::new(1, 3, 0, 2), Entry::new(2, 0, 3, 9)];

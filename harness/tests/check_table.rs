@@ -1,11 +1,12 @@
 //! The table check: library, model and plain code on right, damaged and random words.
 mod common;
 
-use common::{check_table, two_lot_table};
+use common::check_table;
 use harness::answer::Answer;
 use harness::generate::table_faults::TableFault;
 use harness::generate::tables::{table, Shape};
 use harness::random::Random;
+use harness::two_lot;
 use harness::words::{Atom, Table};
 
 const SHAPES: [Shape; 3] = [Shape::Any, Shape::Small, Shape::Closable];
@@ -157,7 +158,7 @@ fn limits_of_a_table() {
 // Catches a refusal of 01's own example, and a cut table with bad atoms that is called 2.
 #[test]
 fn the_two_lot_plant() {
-    let words = two_lot_table();
+    let words = two_lot::table();
     accepts(&words);
     for cut in 0..words.len() {
         refuses(&words[..cut], 1);

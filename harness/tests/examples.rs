@@ -2,15 +2,19 @@
 mod common;
 
 use std::fs;
+use std::path::{Path, PathBuf};
 
 use harness::examples::files;
 use harness::program::{output, MODEL};
 use harness::words::{log_from_words, log_words, Move};
+use harness::ROOT;
 
-const DIR: &str = concat!(env!("CARGO_MANIFEST_DIR"), "/../examples/two-lot");
+fn dir() -> PathBuf {
+    Path::new(ROOT).join("examples/two-lot")
+}
 
 fn file(name: &str) -> Vec<u8> {
-    fs::read(format!("{DIR}/{name}")).unwrap()
+    fs::read(dir().join(name)).unwrap()
 }
 
 /// The words of bytes, put together by hand.
@@ -24,7 +28,7 @@ fn words(bytes: &[u8]) -> Vec<u32> {
 #[test]
 fn files_are_what_the_command_makes() {
     let mut names: Vec<String> =
-        fs::read_dir(DIR).unwrap().map(|entry| entry.unwrap().file_name().into_string().unwrap()).collect();
+        fs::read_dir(dir()).unwrap().map(|entry| entry.unwrap().file_name().into_string().unwrap()).collect();
     names.sort_unstable();
     let mut made = files();
     made.sort_unstable();

@@ -1,8 +1,7 @@
 //! The single move: all implementations on right, damaged and random input.
-//! The library takes part with the feature `move`.
 mod common;
 
-use common::{check_state, gives, make_move, on_target, refused, two_lot_start, two_lot_table, MAKE_MOVE};
+use common::{check_state, gives, make_move, on_target, refused, MAKE_MOVE};
 use harness::answer::Answer;
 use harness::generate::moves::{allowed, changed, consumes};
 use harness::generate::states::state;
@@ -17,8 +16,8 @@ fn react(rule: u32, picks: &[u32]) -> Vec<u32> {
 
 /// The state of the two-lot plant after these moves.
 fn after(moves: &[Vec<u32>]) -> Vec<u32> {
-    moves.iter().fold(two_lot_start(), |state, mv| {
-        let (answer, words) = make_move(&two_lot_table(), &state, mv);
+    moves.iter().fold(two_lot::start(), |state, mv| {
+        let (answer, words) = make_move(&two_lot::table(), &state, mv);
         assert_eq!(answer.number(), 0);
         words
     })
@@ -49,7 +48,7 @@ fn case_a_and_c_by_single_moves() {
 // abort mark (f), and an id that is not open (g).
 #[test]
 fn cases_b_e_f_g() {
-    let table = two_lot_table();
+    let table = two_lot::table();
     let four = after(&case_a()[..4]);
     refused(make_move(&table, &four, &Move::commit(1).words()), 10);
     refused(make_move(&table, &four, &react(2, &[4, 4])), 7);
@@ -60,7 +59,7 @@ fn cases_b_e_f_g() {
 // Catches a merge that relabels only what was picked, and one that keeps the larger id.
 #[test]
 fn a_merge_takes_everything_of_each_transaction() {
-    let table = two_lot_table();
+    let table = two_lot::table();
     let state = State {
         next: 9,
         entries: vec![
@@ -108,7 +107,7 @@ fn a_merge_takes_everything_of_each_transaction() {
 // Catches a commit that drops or moves messages, keeps compensations, or looks at the wrong class.
 #[test]
 fn a_commit_frees_messages_in_their_places() {
-    let table = two_lot_table();
+    let table = two_lot::table();
     let mut state = State {
         next: 4,
         entries: vec![
@@ -270,7 +269,7 @@ fn random_changed_moves() {
 // Catches a wrong range of kinds, rules or ids, a used "unused" pick, and a wrong length.
 #[test]
 fn words_of_a_move() {
-    let (table, state) = (two_lot_table(), after(&case_a()[..2]));
+    let (table, state) = (two_lot::table(), after(&case_a()[..2]));
     let head = |head: u32| make_move(&table, &state, &[head, 0, 0, 0, 0]);
     for head_word in
         [0x0000_0004, 0x0001_0000, 0x00FF_FFFF, 0x0100_0000, 0x0200_0000, 0x0101_0000, 0x0201_0000, 0x01FF_FFFF]
@@ -324,7 +323,7 @@ fn limits_of_a_move() {
     refused(make_move(&grow(9), &full(1_020), &mv), 12);
     assert_eq!(make_move(&grow(8), &full(1_020), &mv).0, Answer::Accepted(2_050));
 
-    let table = two_lot_table();
+    let table = two_lot::table();
     let at = |next: u32| vec![1, next, 0, 7];
     let (answer, words) = make_move(&table, &at(65_535), &react(0, &[0]));
     assert_eq!(answer, Answer::Accepted(8));
@@ -338,7 +337,7 @@ fn limits_of_a_move() {
 // Catches a target that is asked for too much or too little, and one that is written on 6.
 #[test]
 fn targets_of_a_move() {
-    let (table, state) = (two_lot_table(), two_lot_start());
+    let (table, state) = (two_lot::table(), two_lot::start());
     for room in (0..12).chain(2_040..2_060).chain([5_000]) {
         let (answer, _) = on_target(MAKE_MOVE, [&table, &state, &react(0, &[0])], room);
         assert_eq!(answer, if room < 2_050 { Answer::Refused(6) } else { Answer::Accepted(10) });
@@ -411,7 +410,7 @@ fn the_first_fault_counts() {
 #[test]
 fn noise_gets_one_answer() {
     let mut random = Random::new(304);
-    let (table, state) = (two_lot_table(), after(&case_a()[..4]));
+    let (table, state) = (two_lot::table(), after(&case_a()[..4]));
     for _ in 0..3_000 {
         let mut parts = [table.clone(), state.clone(), react(1, &[1])];
         let part = random.index(3);

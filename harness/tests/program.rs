@@ -1,16 +1,14 @@
 //! The program of 01: standard input to standard output. What it has to print comes from 01's text
-//! or from the model (`harness::program`), never from a program. The reference program, made of
-//! the plain code, always takes part; the proved one does with the feature `program`.
-mod common;
-
+//! or from the model (`harness::program`), never from a program. The proved program and the
+//! reference program, made of the plain code, are both asked.
+use std::env;
 use std::fs;
 use std::io::{ErrorKind, Read, Write};
-use std::path::PathBuf;
+use std::path::{Path, PathBuf};
 use std::process::{Command, Stdio};
 use std::thread;
 use std::time::Duration;
 
-use common::{two_lot_start, two_lot_table};
 use harness::generate::logs::{accepted, closed};
 use harness::generate::moves::changed;
 use harness::generate::state_faults::StateFault;
@@ -19,21 +17,16 @@ use harness::generate::table_faults::TableFault;
 use harness::generate::tables::{table, Shape};
 use harness::program::{input, output, MODEL};
 use harness::random::Random;
-use harness::two_lot::{case_a, case_c};
+use harness::two_lot::{self, case_a, case_c};
 use harness::words::{log_words, Entry, Move, State};
+use harness::ROOT;
 
 /// 01's seven lines for case (a).
 const CASE_A: &str = "moves 6 entries 2 next 1\n0 0 4 2\n1 0 6 3\n2 0 6 3\n3 0 6 3\n4 0 6 3\n5 0 2 3\n";
 
-fn programs() -> Vec<PathBuf> {
-    #[allow(unused_mut)]
-    let mut programs = vec![PathBuf::from(env!("CARGO_BIN_EXE_reference"))];
-    #[cfg(feature = "program")]
-    programs.push(std::env::var_os("COORDINATE_BIN").map_or_else(
-        || PathBuf::from(concat!(env!("CARGO_MANIFEST_DIR"), "/../target/bin/coordinate")),
-        PathBuf::from,
-    ));
-    programs
+fn programs() -> [PathBuf; 2] {
+    let proved = env::var_os("COORDINATE_BIN").map_or(Path::new(ROOT).join("target/bin/coordinate"), PathBuf::from);
+    [PathBuf::from(env!("CARGO_BIN_EXE_reference")), proved]
 }
 
 /// How the input arrives.
@@ -105,27 +98,27 @@ fn as_the_model(bytes: &[u8]) -> String {
 }
 
 /// The input of the two-lot plant with this log.
-fn two_lot(log: &[Move]) -> Vec<u8> {
-    input(&two_lot_table(), &two_lot_start(), &log_words(log))
+fn plant(log: &[Move]) -> Vec<u8> {
+    input(&two_lot::table(), &two_lot::start(), &log_words(log))
 }
 
 // Catches a wrong figure, a lost or added line or newline: 01 gives this output whole.
 #[test]
 fn case_a_prints_the_seven_lines() {
-    prints(&two_lot(&case_a()), CASE_A);
-    assert_eq!(output(MODEL, &two_lot(&case_a())), CASE_A, "the model");
+    prints(&plant(&case_a()), CASE_A);
+    assert_eq!(output(MODEL, &plant(&case_a())), CASE_A, "the model");
 }
 
 // Catches example files that the program does not take, by the shell command of `examples/README.md`.
 #[test]
 fn the_example_files() {
-    let lines = fs::read_to_string(concat!(env!("CARGO_MANIFEST_DIR"), "/../examples/README.md")).unwrap();
+    let lines = fs::read_to_string(Path::new(ROOT).join("examples/README.md")).unwrap();
     let cat = lines.lines().find(|line| line.starts_with("cat ")).unwrap();
     let (cat, _) = cat.split_once('|').unwrap();
     for program in programs() {
         let mut shell = Command::new("bash");
         shell.args(["-c", &format!(r#"{cat} | "$0""#)]).arg(&program);
-        let run = shell.current_dir(concat!(env!("CARGO_MANIFEST_DIR"), "/..")).output().unwrap();
+        let run = shell.current_dir(ROOT).output().unwrap();
         assert_eq!(String::from_utf8_lossy(&run.stdout), CASE_A, "{}", program.display());
     }
 }
@@ -134,7 +127,7 @@ fn the_example_files() {
 // 6 the start, 31 the log.
 #[test]
 fn every_cut_of_case_a() {
-    let bytes = two_lot(&case_a());
+    let bytes = plant(&case_a());
     assert_eq!(bytes.len(), 4 * (29 + 6 + 31));
     for cut in 0..bytes.len() {
         let number = match cut / 4 {
@@ -153,13 +146,13 @@ fn bytes_left_over() {
     for left in 1..=5 {
         for byte in [0, 10, 255] {
             for log in [case_a(), vec![]] {
-                let mut bytes = two_lot(&log);
+                let mut bytes = plant(&log);
                 bytes.extend(vec![byte; left]);
                 refuses(&bytes, 13);
             }
         }
     }
-    let bytes = two_lot(&case_a());
+    let bytes = plant(&case_a());
     refuses(&[&bytes[..], &bytes[..]].concat(), 13);
 }
 
@@ -181,7 +174,7 @@ fn no_input() {
 // limit and as large as a word, with the rest there and not there.
 #[test]
 fn sizes_over_their_limits() {
-    let (table, start, log) = (two_lot_table(), two_lot_start(), log_words(&case_a()));
+    let (table, start, log) = (two_lot::table(), two_lot::start(), log_words(&case_a()));
     let with = |words: &[u32], at: usize, word: u32| {
         let mut words = words.to_vec();
         words[at] = word;
@@ -219,7 +212,7 @@ fn sizes_over_their_limits() {
 fn the_first_fault_counts() {
     for set in 0..1u32 << 6 {
         let has = |bit: u32| set >> bit & 1 == 1;
-        let (mut table, mut start, mut log) = (two_lot_table(), two_lot_start(), log_words(&case_a()));
+        let (mut table, mut start, mut log) = (two_lot::table(), two_lot::start(), log_words(&case_a()));
         if has(1) {
             table[28] ^= 0x0F00_0000;
         }
@@ -244,7 +237,7 @@ fn the_first_fault_counts() {
             None => prints(&bytes, CASE_A),
         }
     }
-    let (table, start) = (two_lot_table(), two_lot_start());
+    let (table, start) = (two_lot::table(), two_lot::start());
     let mut bad = table.clone();
     bad[28] ^= 0x0F00_0000;
     // A table cut short with a bad atom is 1; a bad table before a cut state is 2.
@@ -270,7 +263,7 @@ fn five_megabytes() {
     let zeros = vec![0; 5_000_000];
     // Five zero sizes are a table; n = 0, N = 0 is no state.
     refuses(&zeros, 3);
-    let right = two_lot(&case_a());
+    let right = plant(&case_a());
     for (front, number) in [(5 * 4, 1), (29 * 4, 3), (35 * 4, 13), (right.len(), 13)] {
         let mut bytes = right[..front].to_vec();
         if front == 5 * 4 {
@@ -285,7 +278,7 @@ fn five_megabytes() {
 // Catches a read that takes a short one for the end of the input.
 #[test]
 fn a_slow_pipe() {
-    let bytes = two_lot(&case_a());
+    let bytes = plant(&case_a());
     prints_through(&bytes, Pipe::Slow, CASE_A);
     prints_through(&bytes[..bytes.len() - 1], Pipe::Slow, "refused 13\n");
     for pieces in [3, 4, 5, 100] {
@@ -296,7 +289,7 @@ fn a_slow_pipe() {
 // Catches lines for moves that are not there: k = 0 prints only the first line.
 #[test]
 fn an_empty_log() {
-    prints(&two_lot(&[]), "moves 0 entries 2 next 1\n");
+    prints(&plant(&[]), "moves 0 entries 2 next 1\n");
     prints(&input(&[0, 0, 0, 0, 0], &[0, 65_536], &[0]), "moves 0 entries 0 next 65536\n");
 }
 
@@ -314,7 +307,7 @@ fn a_refused_move_is_the_last_line() {
         (Move::abort(65_535), 9),
         (Move::commit(65_536), 5),
     ] {
-        prints(&two_lot(&[mv, Move::react(0, &[0])]), &format!("{first}0 {own} 2 1\n"));
+        prints(&plant(&[mv, Move::react(0, &[0])]), &format!("{first}0 {own} 2 1\n"));
     }
     let a = case_a();
     for (accepted, mv, last) in [
@@ -327,10 +320,10 @@ fn a_refused_move_is_the_last_line() {
         log.extend([mv, a[0]]);
         let lines: Vec<&str> = CASE_A.split_inclusive('\n').collect();
         let expected = format!("moves {} entries 2 next 1\n{}{last}", log.len(), lines[1..=accepted].concat());
-        prints(&two_lot(&log), &expected);
+        prints(&plant(&log), &expected);
     }
     // A message still inside a transaction: 8. N = 65,536: 11. A full state: 12.
-    let table = two_lot_table();
+    let table = two_lot::table();
     let inside = [2, 2, 1, 1, 0x0300_0001, 7];
     prints(&input(&table, &inside, &log_words(&[Move::react(0, &[1])])), "moves 1 entries 2 next 2\n0 8 2 2\n");
     prints(&input(&table, &[1, 65_536, 0, 7], &log_words(&a[..1])), "moves 1 entries 1 next 65536\n0 11 1 65536\n");
@@ -341,7 +334,7 @@ fn a_refused_move_is_the_last_line() {
 // Catches n and N that are not those after the move: case (c) ends with a transaction open.
 #[test]
 fn case_c_line_by_line() {
-    prints(&two_lot(&case_c()), "moves 5 entries 2 next 1\n0 0 4 2\n1 0 6 3\n2 0 6 3\n3 0 6 3\n4 0 4 3\n");
+    prints(&plant(&case_c()), "moves 5 entries 2 next 1\n0 0 4 2\n1 0 6 3\n2 0 6 3\n3 0 6 3\n4 0 4 3\n");
 }
 
 // Catches figures that only the largest input shows: 512 atoms, 1,024 entries, 1,024 moves.

@@ -1,16 +1,15 @@
 //! README.md says how to run the program and what it then prints: both are tried as they stand.
-#![cfg(feature = "program")]
-
 use std::fs;
 use std::process::Command;
 
-const ROOT: &str = concat!(env!("CARGO_MANIFEST_DIR"), "/..");
+use harness::ROOT;
 
 /// The first block of this kind after a heading.
 fn block<'a>(text: &'a str, heading: &str, kind: &str) -> &'a str {
     let (_, section) = text.split_once(&format!("\n## {heading}\n")).unwrap_or_else(|| panic!("no section {heading}"));
     let (section, _) = section.split_once("\n## ").unwrap_or((section, ""));
-    let (_, rest) = section.split_once(&format!("\n```{kind}\n")).unwrap_or_else(|| panic!("{heading}: no {kind} block"));
+    let (_, rest) =
+        section.split_once(&format!("\n```{kind}\n")).unwrap_or_else(|| panic!("{heading}: no {kind} block"));
     let (block, _) = rest.split_once("```\n").unwrap_or_else(|| panic!("{heading}: the {kind} block has no end"));
     block
 }

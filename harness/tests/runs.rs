@@ -1,20 +1,20 @@
-//! The run of a log. The library takes part with the feature `run`.
+//! The run of a log: all implementations on right, damaged and random input.
 mod common;
 
-use common::{check_state, gives, make_move, on_target, refused, run, two_lot_start, two_lot_table, RUN};
+use common::{check_state, gives, make_move, on_target, refused, run, RUN};
 use harness::answer::Answer;
 use harness::generate::logs::accepted;
 use harness::generate::moves::changed;
 use harness::generate::states::{messages, state};
 use harness::generate::tables::{table, Shape};
 use harness::random::Random;
-use harness::two_lot::{case_a, case_c};
+use harness::two_lot::{self, case_a, case_c};
 use harness::words::{log_words, Atom, Entry, Move, State, Table};
 
 // Catches a run that makes only its first move, gives the start back, or has one fixed end.
 #[test]
 fn cases_a_b_c() {
-    let (table, start) = (two_lot_table(), two_lot_start());
+    let (table, start) = (two_lot::table(), two_lot::start());
     gives(run(&table, &start, &log_words(&case_a())), &[2, 3, 0, 0, 0x0001_0007, 0x0001_0009]);
     let mut b = case_a()[..4].to_vec();
     b.push(Move::commit(1));
@@ -108,7 +108,7 @@ fn a_changed_move_is_named() {
 // Catches a wrong count or length that passes, a read past the end, and a trap on noise.
 #[test]
 fn words_of_a_log() {
-    let (table, start) = (two_lot_table(), two_lot_start());
+    let (table, start) = (two_lot::table(), two_lot::start());
     let words = log_words(&case_a());
     for cut in 0..words.len() {
         refused(run(&table, &start, &words[..cut]), 13);
@@ -149,7 +149,7 @@ fn limits_of_a_log() {
 // Catches a target that is asked for too much or too little, and one written on 6.
 #[test]
 fn targets_of_a_run() {
-    let (table, start, log) = (two_lot_table(), two_lot_start(), log_words(&case_a()));
+    let (table, start, log) = (two_lot::table(), two_lot::start(), log_words(&case_a()));
     for room in (0..12).chain(2_040..2_060).chain([5_000]) {
         let (answer, _) = on_target(RUN, [&table, &start, &log], room);
         assert_eq!(answer, if room < 2_050 { Answer::Refused(6) } else { Answer::Accepted(6) });
@@ -163,7 +163,7 @@ fn the_first_fault_counts() {
     for set in 0..1u32 << 7 {
         let faults: Vec<u32> = (0..7).filter(|bit| set >> bit & 1 == 1).map(|bit| ORDER[bit]).collect();
         let has = |number| faults.contains(&number);
-        let (mut table, mut start) = (two_lot_table(), two_lot_start());
+        let (mut table, mut start) = (two_lot::table(), two_lot::start());
         let mut moves = case_a();
         if has(16) {
             moves[2] = Move::commit(3);

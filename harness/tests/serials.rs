@@ -1,20 +1,20 @@
-//! The serial log and demand 3. The library takes part with the feature `serialize`.
+//! The serial log: all implementations, and demand 3 on what they write.
 mod common;
 
 use common::demand3::Demand3;
-use common::{gives, on_target, refused, run, serialize, two_lot_start, two_lot_table, SERIALIZE};
+use common::{gives, on_target, refused, run, serialize, SERIALIZE};
 use harness::answer::Answer;
 use harness::generate::logs::{accepted, closed, Walk};
 use harness::generate::states::{messages, state};
 use harness::generate::tables::{table, Shape};
 use harness::random::Random;
-use harness::two_lot::case_d;
+use harness::two_lot::{self, case_d};
 use harness::words::{act, kind, log_from_words, log_words, role, Atom, Entry, Move, State, Table};
 
 // Catches a copied log called serial, and blocks in the order of begins instead of ends.
 #[test]
 fn cases_d_and_h() {
-    let (table, start) = (two_lot_table(), two_lot_start());
+    let (table, start) = (two_lot::table(), two_lot::start());
     let serial = [
         Move::react(0, &[1]),
         Move::react(3, &[2]),
@@ -41,14 +41,14 @@ fn a_serial_log_stays() {
         Move::react(2, &[4, 5]),
         Move::commit(1),
     ];
-    gives(serialize(&two_lot_table(), &two_lot_start(), &log_words(&log)), &log_words(&log));
+    gives(serialize(&two_lot::table(), &two_lot::start(), &log_words(&log)), &log_words(&log));
 }
 
 // Catches a checker of demand 3 that lets wrong logs pass.
 #[test]
 fn wrong_serial_logs_break_a_clause() {
-    let table = Table::from_words(&two_lot_table()).unwrap();
-    let start = State::from_words(&two_lot_start()).unwrap();
+    let table = Table::from_words(&two_lot::table()).unwrap();
+    let start = State::from_words(&two_lot::start()).unwrap();
     let log = case_d();
     let demand = Demand3::new(&table, &start, &log);
     assert_eq!(demand.check(&log), Err("a block stands before its end"));
@@ -294,7 +294,7 @@ fn a_block_that_outgrows() {
 // Catches origins taken for values, or for places: equal messages, consumed in another order.
 #[test]
 fn equal_messages_are_told_apart() {
-    let table = two_lot_table();
+    let table = two_lot::table();
     let start = [3, 1, 0, 0, 0, 7, 7, 7];
     let log = [
         Move::react(0, &[1]),
@@ -319,7 +319,7 @@ fn equal_messages_are_told_apart() {
 // Catches 14 that looks at the log's rules only, or at every rule with an emit.
 #[test]
 fn an_emitting_begin_is_refused() {
-    let (mut table, start) = (Table::from_words(&two_lot_table()).unwrap(), two_lot_start());
+    let (mut table, start) = (Table::from_words(&two_lot::table()).unwrap(), two_lot::start());
     gives(serialize(&table.words(), &start, &[0]), &[0]);
     table.rules.push(vec![Atom::new(0, 0, 1, 0), Atom::new(1, 0, 1, 4)]);
     gives(serialize(&table.words(), &start, &[0]), &[0]);
@@ -331,16 +331,16 @@ fn an_emitting_begin_is_refused() {
 // Catches a missing 15 at the start or the end, also for logs without moves.
 #[test]
 fn an_open_transaction_is_refused() {
-    let table = two_lot_table();
+    let table = two_lot::table();
     let open = [1, 2, 1, 0x0300_0001];
     refused(serialize(&table, &open, &[0]), 15);
     refused(serialize(&table, &open, &log_words(&[Move::commit(1)])), 15);
     refused(serialize(&table, &open, &log_words(&[Move::commit(2)])), 15);
     for moves in 1..6 {
-        refused(serialize(&table, &two_lot_start(), &log_words(&case_d()[..moves])), 15);
+        refused(serialize(&table, &two_lot::start(), &log_words(&case_d()[..moves])), 15);
     }
     assert_eq!(
-        serialize(&table, &two_lot_start(), &log_words(&[Move::react(0, &[0]), Move::abort(1)])).0,
+        serialize(&table, &two_lot::start(), &log_words(&[Move::react(0, &[0]), Move::abort(1)])).0,
         Answer::MoveRefused { place: 1, own: 10 }
     );
 }
@@ -369,7 +369,7 @@ fn random_open_logs() {
 // Catches a target that is asked for a state's size, or for one word too many or too few.
 #[test]
 fn targets_of_a_serial_log() {
-    let (table, start, log) = (two_lot_table(), two_lot_start(), log_words(&case_d()));
+    let (table, start, log) = (two_lot::table(), two_lot::start(), log_words(&case_d()));
     for room in (0..40).chain(2_040..2_060) {
         let (answer, _) = on_target(SERIALIZE, [&table, &start, &log], room);
         assert_eq!(answer, if room < 31 { Answer::Refused(6) } else { Answer::Accepted(31) });
@@ -437,7 +437,7 @@ fn the_first_fault_counts() {
 #[test]
 fn noise_gets_one_answer() {
     let mut random = Random::new(505);
-    let (table, start, log) = (two_lot_table(), two_lot_start(), log_words(&case_d()));
+    let (table, start, log) = (two_lot::table(), two_lot::start(), log_words(&case_d()));
     for cut in 0..log.len() {
         refused(serialize(&table, &start, &log[..cut]), 13);
     }

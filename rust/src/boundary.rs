@@ -24,6 +24,18 @@ impl Answer {
     }
 }
 
+/// The calls that write to a target have one shape: table, state, move or log, target.
+type OnTarget = unsafe extern "C" fn(
+    table: *const u32,
+    table_len: usize,
+    state: *const u32,
+    state_len: usize,
+    third: *const u32,
+    third_len: usize,
+    target: *mut u32,
+    target_len: usize,
+) -> Answer;
+
 mod c {
     use super::Answer;
 
@@ -35,30 +47,37 @@ mod c {
             state: *const u32,
             state_len: usize,
         ) -> Answer;
+        pub fn coordinator_move(
+            table: *const u32,
+            table_len: usize,
+            state: *const u32,
+            state_len: usize,
+            mv: *const u32,
+            mv_len: usize,
+            target: *mut u32,
+            target_len: usize,
+        ) -> Answer;
+        pub fn coordinator_run(
+            table: *const u32,
+            table_len: usize,
+            state: *const u32,
+            state_len: usize,
+            log: *const u32,
+            log_len: usize,
+            target: *mut u32,
+            target_len: usize,
+        ) -> Answer;
+        pub fn coordinator_serialize(
+            table: *const u32,
+            table_len: usize,
+            state: *const u32,
+            state_len: usize,
+            log: *const u32,
+            log_len: usize,
+            target: *mut u32,
+            target_len: usize,
+        ) -> Answer;
     }
-
-    /// The calls that write to a target have one shape.
-    macro_rules! on_target {
-        ($feature:literal, $name:ident) => {
-            #[cfg(feature = $feature)]
-            extern "C" {
-                pub fn $name(
-                    table: *const u32,
-                    table_len: usize,
-                    state: *const u32,
-                    state_len: usize,
-                    third: *const u32,
-                    third_len: usize,
-                    target: *mut u32,
-                    target_len: usize,
-                ) -> Answer;
-            }
-        };
-    }
-
-    on_target!("move", coordinator_move);
-    on_target!("run", coordinator_run);
-    on_target!("serialize", coordinator_serialize);
 }
 
 // SAFETY, of every call below: a slice is valid for its length in words, the target is borrowed
@@ -72,26 +91,29 @@ pub fn check_state(table: &[u32], state: &[u32]) -> Answer {
     unsafe { c::coordinator_check_state(table.as_ptr(), table.len(), state.as_ptr(), state.len()) }
 }
 
-macro_rules! on_target {
-    ($feature:literal, $name:ident, $call:ident) => {
-        #[cfg(feature = $feature)]
-        pub fn $name(table: &[u32], state: &[u32], third: &[u32], target: &mut [u32]) -> Answer {
-            unsafe {
-                c::$call(
-                    table.as_ptr(),
-                    table.len(),
-                    state.as_ptr(),
-                    state.len(),
-                    third.as_ptr(),
-                    third.len(),
-                    target.as_mut_ptr(),
-                    target.len(),
-                )
-            }
-        }
-    };
+fn on_target(call: OnTarget, table: &[u32], state: &[u32], third: &[u32], target: &mut [u32]) -> Answer {
+    unsafe {
+        call(
+            table.as_ptr(),
+            table.len(),
+            state.as_ptr(),
+            state.len(),
+            third.as_ptr(),
+            third.len(),
+            target.as_mut_ptr(),
+            target.len(),
+        )
+    }
 }
 
-on_target!("move", make_move, coordinator_move);
-on_target!("run", run, coordinator_run);
-on_target!("serialize", serialize, coordinator_serialize);
+pub fn make_move(table: &[u32], state: &[u32], mv: &[u32], target: &mut [u32]) -> Answer {
+    on_target(c::coordinator_move, table, state, mv, target)
+}
+
+pub fn run(table: &[u32], state: &[u32], log: &[u32], target: &mut [u32]) -> Answer {
+    on_target(c::coordinator_run, table, state, log, target)
+}
+
+pub fn serialize(table: &[u32], state: &[u32], log: &[u32], target: &mut [u32]) -> Answer {
+    on_target(c::coordinator_serialize, table, state, log, target)
+}

@@ -11,7 +11,7 @@
 //! thread with 256 KB of stack.
 //!
 //! ```
-//! use coordinator::{check_state, check_table, Atom, Refusal, State, StateBuilder, Table, TableBuilder, Value};
+//! use coordinator::*;
 //!
 //! // Port 0 is global, port 1 local. A message on port 0 begins a transaction with it inside.
 //! let received = Value::Received(0);
@@ -23,14 +23,11 @@
 //! let start = StateBuilder::new(1).message(0, 0, 7).words();
 //! check_state(Table::new(&table), State::new(&start))?;
 //!
-//! # #[cfg(feature = "move")] {
 //! // The message at place 0 begins transaction 1.
-//! let mut target = [0; coordinator::STATE_TARGET_WORDS];
-//! let mv = coordinator::react(0, &[0]);
-//! let after =
-//!     coordinator::make_move(Table::new(&table), State::new(&start), coordinator::Move::new(&mv), &mut target)?;
+//! let mut target = [0; STATE_TARGET_WORDS];
+//! let mv = react(0, &[0]);
+//! let after = make_move(Table::new(&table), State::new(&start), Move::new(&mv), &mut target)?;
 //! assert_eq!(after.next(), Some(2));
-//! # }
 //! # Ok::<(), Refusal>(())
 //! ```
 #![warn(missing_docs)]
@@ -82,7 +79,6 @@ pub fn check_state(table: Table<'_>, state: State<'_>) -> Result<(), Refusal> {
 }
 
 /// The state after one move, written to the front of the target. Refusals: 1 to 12, in that order.
-#[cfg(feature = "move")]
 pub fn make_move<'t>(
     table: Table<'_>,
     state: State<'_>,
@@ -95,7 +91,6 @@ pub fn make_move<'t>(
 
 /// The state after a log's moves one after another, written to the front of the target.
 /// Refusals: 1 to 4, 13, 6, and 16 with the place and own number of the move refused.
-#[cfg(feature = "run")]
 pub fn run<'t>(table: Table<'_>, state: State<'_>, log: Log<'_>, target: &'t mut [u32]) -> Result<State<'t>, Refusal> {
     let words = boundary::run(table.words(), state.words(), log.words(), target).result()?;
     Ok(State::new(&target[..words]))
@@ -103,7 +98,6 @@ pub fn run<'t>(table: Table<'_>, state: State<'_>, log: Log<'_>, target: &'t mut
 
 /// The serial log: the same moves, each transaction's together and right before its end, written
 /// to the front of the target. Refusals: 1 to 4, 13, 6, 14, 15 (start), 16, 15 (end), 17.
-#[cfg(feature = "serialize")]
 pub fn serialize<'t>(
     table: Table<'_>,
     state: State<'_>,

@@ -107,13 +107,11 @@ fn checks() {
     assert_eq!(check_state(Table::new(&table), State::new(&[1, 1, 1, 7])), Err(Refusal::StateContents));
 }
 
-#[cfg(any(feature = "run", feature = "serialize"))]
 fn log(moves: &[[u32; MOVE_WORDS]]) -> Vec<u32> {
     moves.iter().fold(LogBuilder::new(), |log, &mv| log.push(mv)).words()
 }
 
 // Catches a move that gives more or fewer words than were written.
-#[cfg(feature = "move")]
 #[test]
 fn a_move() {
     let (table, start) = (table(), start());
@@ -128,7 +126,6 @@ fn a_move() {
 }
 
 // Catches a run whose answer or end state is not 01's: cases (a) and (b).
-#[cfg(feature = "run")]
 #[test]
 fn a_run() {
     let (table, start) = (table(), start());
@@ -142,7 +139,6 @@ fn a_run() {
 }
 
 // Catches a serial log that is the first log, and an empty one taken for refusal 1: (d) and (h).
-#[cfg(feature = "serialize")]
 #[test]
 fn a_serial_log() {
     let (table, start) = (table(), start());

@@ -2,8 +2,6 @@
 //!
 //! `--smoke` makes one round on small sizes, so that the benchmark cannot rot. Names of calls, if
 //! any are given, choose those to measure.
-// Until the archive has all calls some parts are not used.
-#![cfg_attr(not(all(feature = "move", feature = "run", feature = "serialize")), allow(dead_code, unused_imports))]
 use std::env::args;
 use std::hint::black_box;
 use std::time::Instant;
@@ -32,11 +30,8 @@ const CHECK_STATE: Pair = Pair {
     ours: |table, state, _, _| library::check_state(table, state),
     rust: |table, state, _, _| plain::check_state(table, state),
 };
-#[cfg(feature = "move")]
 const MAKE_MOVE: Pair = Pair { name: "move", ours: library::make_move, rust: plain::make_move };
-#[cfg(feature = "run")]
 const RUN: Pair = Pair { name: "run", ours: library::run, rust: plain::run };
-#[cfg(feature = "serialize")]
 const SERIALIZE: Pair = Pair { name: "serialize", ours: library::serialize, rust: plain::serialize };
 
 /// How long to measure.
@@ -236,7 +231,6 @@ impl Bench {
         }
     }
 
-    #[cfg(feature = "move")]
     fn make_move(&mut self) {
         for Named(name, table) in [self.small.clone(), self.full.clone()] {
             for (kind, &(act, ..)) in single_moves(&table, 16).iter().enumerate() {
@@ -276,15 +270,11 @@ impl Bench {
 
 type Measure = fn(&mut Bench);
 
-/// The calls that the archive has.
 const CALLS: &[(&str, Measure)] = &[
     (CHECK_TABLE.name, Bench::check_table),
     (CHECK_STATE.name, Bench::check_state),
-    #[cfg(feature = "move")]
     (MAKE_MOVE.name, Bench::make_move),
-    #[cfg(feature = "run")]
     (RUN.name, |bench| bench.logs(&RUN)),
-    #[cfg(feature = "serialize")]
     (SERIALIZE.name, |bench| bench.logs(&SERIALIZE)),
 ];
 

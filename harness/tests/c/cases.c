@@ -1,6 +1,5 @@
 /*
- * 01's cases (a) to (h) on the two-lot plant, through the header. WITH_MOVE, WITH_RUN and
- * WITH_SERIALIZE tell which calls the archive has. Prints what fails; the exit status is their number.
+ * 01's cases (a) to (h) on the two-lot plant, through the header. Prints what fails, and how many.
  */
 #include "coordinator.h"
 
@@ -51,8 +50,6 @@ static void checks(void)
     }
 }
 
-#if defined WITH_MOVE || defined WITH_RUN || defined WITH_SERIALIZE
-
 /* A word that no call writes here. */
 #define UNTOUCHED 0xA5A5A5A5u
 
@@ -79,14 +76,14 @@ static void expect_target(const char *what, const uint32_t *words, size_t count)
     }
 }
 
-#define RELEASE(ticket) (0x01000000u + (ticket))
-#define CALL_OFF(ticket) (0x02000000u + (ticket))
+#define COMMIT(id) (0x01000000u + (id))
+#define ABORT(id) (0x02000000u + (id))
 
 /* Moves as 01 writes them: a head and its picks. */
 typedef uint32_t mv[COORDINATOR_MOVE_WORDS];
 
-static const mv case_a[] = {{0, 0}, {0, 0}, {1, 1}, {1, 3}, {2, 4, 5}, {RELEASE(1)}};
-static const mv case_c[] = {{0, 0}, {0, 0}, {1, 1}, {3, 3}, {CALL_OFF(2)}};
+static const mv case_a[] = {{0, 0}, {0, 0}, {1, 1}, {1, 3}, {2, 4, 5}, {COMMIT(1)}};
+static const mv case_c[] = {{0, 0}, {0, 0}, {1, 1}, {3, 3}, {ABORT(2)}};
 static const uint32_t end_a[] = {2, 3, 0, 0, 0x00010007, 0x00010009};
 static const uint32_t end_c[] = {4, 3, 1, 1, 0, 1, 0x03000001, 0x01000007, 0x00000009, 0x00030007};
 
@@ -97,15 +94,11 @@ static const struct {
     mv last;
     uint32_t number;
 } refused[] = {
-    {"(b)", 4, {RELEASE(1)}, COORDINATOR_END_NOT_ALLOWED},
+    {"(b)", 4, {COMMIT(1)}, COORDINATOR_END_NOT_ALLOWED},
     {"(e)", 4, {2, 4, 4}, COORDINATOR_WRONG_PICK},
-    {"(f)", 1, {CALL_OFF(1)}, COORDINATOR_END_NOT_ALLOWED},
-    {"(g)", 2, {RELEASE(3)}, COORDINATOR_NO_TRANSACTION},
+    {"(f)", 1, {ABORT(1)}, COORDINATOR_END_NOT_ALLOWED},
+    {"(g)", 2, {COMMIT(3)}, COORDINATOR_NO_TRANSACTION},
 };
-
-#endif
-
-#ifdef WITH_MOVE
 
 /* Makes moves one by one; the state's length. */
 static size_t moves(const char *what, const mv *list, size_t count, uint32_t *state)
@@ -158,10 +151,6 @@ static void by_moves(void)
            COORDINATOR_MOVE_FORM, 0, 0, 0);
 }
 
-#endif
-
-#if defined WITH_RUN || defined WITH_SERIALIZE
-
 static uint32_t log_words[COORDINATOR_LOG_WORDS(16)];
 
 /* The words of a log; their number. */
@@ -175,10 +164,6 @@ static size_t log_of(const mv *list, size_t count)
     }
     return COORDINATOR_LOG_WORDS(count);
 }
-
-#endif
-
-#ifdef WITH_RUN
 
 static coordinator_answer run(size_t log_len, size_t room)
 {
@@ -209,10 +194,6 @@ static void by_runs(void)
            COORDINATOR_TARGET_TOO_SHORT, 0, 0, 0);
 }
 
-#endif
-
-#ifdef WITH_SERIALIZE
-
 static coordinator_answer serialize(size_t log_len, size_t room)
 {
     clear();
@@ -221,10 +202,10 @@ static coordinator_answer serialize(size_t log_len, size_t room)
 
 static void by_serial_logs(void)
 {
-    static const mv case_d[] = {{0, 0}, {0, 0}, {3, 1}, {3, 3}, {CALL_OFF(2)}, {CALL_OFF(1)}};
+    static const mv case_d[] = {{0, 0}, {0, 0}, {3, 1}, {3, 3}, {ABORT(2)}, {ABORT(1)}};
     static const uint32_t serial[] = {
         6,
-        0, 3, CALL_OFF(1), 0, 3, CALL_OFF(2),
+        0, 3, ABORT(1), 0, 3, ABORT(2),
         1, 0, 0, 0, 2, 0, 0, 0, 0, 0, 0, 0,
         0, 0, 0, 0, 2, 0, 0, 0, 0, 0, 0, 0,
     };
@@ -236,24 +217,16 @@ static void by_serial_logs(void)
     expect_target("a short target", NULL, 0);
     expect("(h)", serialize(log_of(NULL, 0), 1), COORDINATOR_ACCEPTED, LENGTH(empty), 0, 0);
     expect_target("(h)", empty, LENGTH(empty));
-    expect("(c) ends with a batch open", serialize(log_of(case_c, LENGTH(case_c)), LENGTH(target)),
+    expect("(c) ends with a transaction open", serialize(log_of(case_c, LENGTH(case_c)), LENGTH(target)),
            COORDINATOR_TRANSACTION_OPEN, 0, 0, 0);
 }
-
-#endif
 
 int main(void)
 {
     checks();
-#ifdef WITH_MOVE
     by_moves();
-#endif
-#ifdef WITH_RUN
     by_runs();
-#endif
-#ifdef WITH_SERIALIZE
     by_serial_logs();
-#endif
     printf("%u failed\n", failures);
     return failures != 0;
 }
