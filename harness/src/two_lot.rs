@@ -1,4 +1,4 @@
-//! 01's two-lot plant, digit by digit.
+//! 01's two-lot plant and its cases, digit by digit. Tests cite these and write none of them again.
 use crate::words::Move;
 
 pub fn table() -> Vec<u32> {
@@ -15,7 +15,6 @@ pub fn start() -> Vec<u32> {
     vec![2, 1, 0, 0, 7, 9]
 }
 
-/// The log of case (a).
 pub fn case_a() -> Vec<Move> {
     vec![
         Move::react(0, &[0]),
@@ -27,14 +26,27 @@ pub fn case_a() -> Vec<Move> {
     ]
 }
 
-/// The log of case (c).
+pub const END_A: [u32; 6] = [2, 3, 0, 0, 0x0001_0007, 0x0001_0009];
+
+/// What the program prints for case (a), whole.
+pub const LINES_A: &str = "\
+moves 6 entries 2 next 1
+0 0 4 2
+1 0 6 3
+2 0 6 3
+3 0 6 3
+4 0 6 3
+5 0 2 3
+";
+
 pub fn case_c() -> Vec<Move> {
     let mut log = case_a()[..3].to_vec();
     log.extend([Move::react(3, &[3]), Move::abort(2)]);
     log
 }
 
-/// The log of case (d).
+pub const END_C: [u32; 10] = [4, 3, 1, 1, 0, 1, 0x0300_0001, 0x0100_0007, 0x0000_0009, 0x0003_0007];
+
 pub fn case_d() -> Vec<Move> {
     vec![
         Move::react(0, &[0]),
@@ -43,5 +55,49 @@ pub fn case_d() -> Vec<Move> {
         Move::react(3, &[3]),
         Move::abort(2),
         Move::abort(1),
+    ]
+}
+
+/// The serial log of case (d).
+pub fn serial_d() -> Vec<Move> {
+    vec![
+        Move::react(0, &[1]),
+        Move::react(3, &[2]),
+        Move::abort(1),
+        Move::react(0, &[0]),
+        Move::react(3, &[2]),
+        Move::abort(2),
+    ]
+}
+
+pub const END_D: [u32; 6] = [2, 3, 0, 0, 7, 9];
+/// The serial log's end: the same messages in another order.
+pub const SERIAL_END_D: [u32; 6] = [2, 3, 0, 0, 9, 7];
+
+/// A case that is refused: so many moves of (a), then this move, refused with this number.
+#[derive(Clone, Copy, Debug)]
+pub struct Refused {
+    pub case: char,
+    pub after: usize,
+    pub mv: Move,
+    pub number: u32,
+}
+
+impl Refused {
+    /// The moves of (a) and the one that is refused.
+    pub fn log(self) -> Vec<Move> {
+        let mut log = case_a()[..self.after].to_vec();
+        log.push(self.mv);
+        log
+    }
+}
+
+/// Cases (b), (e), (f) and (g).
+pub fn refused() -> [Refused; 4] {
+    [
+        Refused { case: 'b', after: 4, mv: Move::commit(1), number: 10 },
+        Refused { case: 'e', after: 4, mv: Move::react(2, &[4, 4]), number: 7 },
+        Refused { case: 'f', after: 1, mv: Move::abort(1), number: 10 },
+        Refused { case: 'g', after: 2, mv: Move::commit(3), number: 9 },
     ]
 }

@@ -5,8 +5,8 @@ use std::fs;
 use std::path::{Path, PathBuf};
 
 use harness::examples::files;
-use harness::program::{output, MODEL};
-use harness::words::{log_from_words, log_words, Move};
+use harness::two_lot;
+use harness::words::log_words;
 use harness::ROOT;
 
 fn dir() -> PathBuf {
@@ -48,20 +48,7 @@ fn files_are_the_plant_of_01() {
     let log = |name: &str| words(&file(name));
     let a = [6, 0, 0, 1, 1, 2, 0x0100_0001, 0, 0, 0, 0, 0, 0, 0, 0, 1, 0, 0, 0, 3, 0, 0, 0, 4, 5, 0, 0, 0, 0, 0, 0];
     assert_eq!(log("log-a.bin"), a);
-    common::gives(common::run(&table, &start, &log("log-a.bin")), &[2, 3, 0, 0, 0x0001_0007, 0x0001_0009]);
-    let end = [4, 3, 1, 1, 0, 1, 0x0300_0001, 0x0100_0007, 0x0000_0009, 0x0003_0007];
-    common::gives(common::run(&table, &start, &log("log-c.bin")), &end);
-    let serial = [
-        Move::react(0, &[1]),
-        Move::react(3, &[2]),
-        Move::abort(1),
-        Move::react(0, &[0]),
-        Move::react(3, &[2]),
-        Move::abort(2),
-    ];
-    common::gives(common::serialize(&table, &start, &log("log-d.bin")), &log_words(&serial));
-    assert_eq!(log_from_words(&log("log-d.bin")).unwrap().len(), 6);
-    // The files one after another are an input of the program.
-    let input = ["table.bin", "start.bin", "log-a.bin"].map(file).concat();
-    assert_eq!(output(MODEL, &input).lines().next(), Some("moves 6 entries 2 next 1"));
+    common::gives(common::run(&table, &start, &a), &two_lot::END_A);
+    common::gives(common::run(&table, &start, &log("log-c.bin")), &two_lot::END_C);
+    common::gives(common::serialize(&table, &start, &log("log-d.bin")), &log_words(&two_lot::serial_d()));
 }

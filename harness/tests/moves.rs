@@ -7,7 +7,7 @@ use harness::generate::moves::{allowed, changed, consumes};
 use harness::generate::states::state;
 use harness::generate::tables::{table, Shape};
 use harness::random::Random;
-use harness::two_lot;
+use harness::two_lot::{self, case_a};
 use harness::words::{act, kind, mode, role, Atom, Entry, Move, State, Table};
 
 fn react(rule: u32, picks: &[u32]) -> Vec<u32> {
@@ -15,45 +15,30 @@ fn react(rule: u32, picks: &[u32]) -> Vec<u32> {
 }
 
 /// The state of the two-lot plant after these moves.
-fn after(moves: &[Vec<u32>]) -> Vec<u32> {
+fn after(moves: &[Move]) -> Vec<u32> {
     moves.iter().fold(two_lot::start(), |state, mv| {
-        let (answer, words) = make_move(&two_lot::table(), &state, mv);
+        let (answer, words) = make_move(&two_lot::table(), &state, &mv.words());
         assert_eq!(answer.number(), 0);
         words
     })
 }
 
-/// The moves' words.
-fn words(log: &[Move]) -> Vec<Vec<u32>> {
-    log.iter().map(|mv| mv.words()).collect()
-}
-
-fn case_a() -> Vec<Vec<u32>> {
-    words(&two_lot::case_a())
-}
-
 // Catches a coordinator that refuses all, gives the start back or has one fixed end state.
 #[test]
-fn case_a_and_c_by_single_moves() {
-    assert_eq!(after(&case_a()), [2, 3, 0, 0, 0x0001_0007, 0x0001_0009]);
-    // After the first move: n = 4, N = 2, as the program's second line shows.
+fn cases_a_and_c_by_single_moves() {
+    assert_eq!(after(&case_a()), two_lot::END_A);
+    // n and N as the program's second line shows them.
     assert_eq!(after(&case_a()[..1])[..2], [4, 2]);
-    assert_eq!(
-        after(&words(&two_lot::case_c())),
-        [4, 3, 1, 1, 0, 1, 0x0300_0001, 0x0100_0007, 0x0000_0009, 0x0003_0007]
-    );
+    assert_eq!(after(&two_lot::case_c()), two_lot::END_C);
 }
 
 // Catches a commit with a merge message inside (b), a pick used twice (e), an abort without an
 // abort mark (f), and an id that is not open (g).
 #[test]
 fn cases_b_e_f_g() {
-    let table = two_lot::table();
-    let four = after(&case_a()[..4]);
-    refused(make_move(&table, &four, &Move::commit(1).words()), 10);
-    refused(make_move(&table, &four, &react(2, &[4, 4])), 7);
-    refused(make_move(&table, &after(&case_a()[..1]), &Move::abort(1).words()), 10);
-    refused(make_move(&table, &after(&case_a()[..2]), &Move::commit(3).words()), 9);
+    for case in two_lot::refused() {
+        refused(make_move(&two_lot::table(), &after(&case_a()[..case.after]), &case.mv.words()), case.number);
+    }
 }
 
 // Catches a merge that relabels only what was picked, and one that keeps the larger id.

@@ -17,12 +17,9 @@ use harness::generate::table_faults::TableFault;
 use harness::generate::tables::{table, Shape};
 use harness::program::{input, output, MODEL};
 use harness::random::Random;
-use harness::two_lot::{self, case_a, case_c};
+use harness::two_lot::{self, case_a, LINES_A};
 use harness::words::{log_words, Entry, Move, State};
 use harness::ROOT;
-
-/// 01's seven lines for case (a).
-const CASE_A: &str = "moves 6 entries 2 next 1\n0 0 4 2\n1 0 6 3\n2 0 6 3\n3 0 6 3\n4 0 6 3\n5 0 2 3\n";
 
 fn programs() -> [PathBuf; 2] {
     let proved = env::var_os("COORDINATE_BIN").map_or(Path::new(ROOT).join("target/bin/coordinate"), PathBuf::from);
@@ -105,8 +102,8 @@ fn plant(log: &[Move]) -> Vec<u8> {
 // Catches a wrong figure, a lost or added line or newline: 01 gives this output whole.
 #[test]
 fn case_a_prints_the_seven_lines() {
-    prints(&plant(&case_a()), CASE_A);
-    assert_eq!(output(MODEL, &plant(&case_a())), CASE_A, "the model");
+    prints(&plant(&case_a()), LINES_A);
+    assert_eq!(output(MODEL, &plant(&case_a())), LINES_A, "the model");
 }
 
 // Catches example files that the program does not take, by the shell command of `examples/README.md`.
@@ -119,7 +116,7 @@ fn the_example_files() {
         let mut shell = Command::new("bash");
         shell.args(["-c", &format!(r#"{cat} | "$0""#)]).arg(&program);
         let run = shell.current_dir(ROOT).output().unwrap();
-        assert_eq!(String::from_utf8_lossy(&run.stdout), CASE_A, "{}", program.display());
+        assert_eq!(String::from_utf8_lossy(&run.stdout), LINES_A, "{}", program.display());
     }
 }
 
@@ -234,7 +231,7 @@ fn the_first_fault_counts() {
         }
         match [1, 2, 3, 4, 13, 13].into_iter().enumerate().find(|&(bit, _)| has(bit as u32)) {
             Some((_, number)) => refuses(&bytes, number),
-            None => prints(&bytes, CASE_A),
+            None => prints(&bytes, LINES_A),
         }
     }
     let (table, start) = (two_lot::table(), two_lot::start());
@@ -279,10 +276,10 @@ fn five_megabytes() {
 #[test]
 fn a_slow_pipe() {
     let bytes = plant(&case_a());
-    prints_through(&bytes, Pipe::Slow, CASE_A);
+    prints_through(&bytes, Pipe::Slow, LINES_A);
     prints_through(&bytes[..bytes.len() - 1], Pipe::Slow, "refused 13\n");
     for pieces in [3, 4, 5, 100] {
-        prints_through(&bytes, Pipe::Pieces(pieces), CASE_A);
+        prints_through(&bytes, Pipe::Pieces(pieces), LINES_A);
     }
 }
 
@@ -309,32 +306,29 @@ fn a_refused_move_is_the_last_line() {
     ] {
         prints(&plant(&[mv, Move::react(0, &[0])]), &format!("{first}0 {own} 2 1\n"));
     }
-    let a = case_a();
-    for (accepted, mv, last) in [
-        (4, Move::commit(1), "4 10 6 3\n"),
-        (4, Move::react(2, &[4, 4]), "4 7 6 3\n"),
-        (1, Move::abort(1), "1 10 4 2\n"),
-        (2, Move::commit(3), "2 9 6 3\n"),
-    ] {
-        let mut log = a[..accepted].to_vec();
-        log.extend([mv, a[0]]);
-        let lines: Vec<&str> = CASE_A.split_inclusive('\n').collect();
-        let expected = format!("moves {} entries 2 next 1\n{}{last}", log.len(), lines[1..=accepted].concat());
-        prints(&plant(&log), &expected);
+    for (case, last) in two_lot::refused().into_iter().zip(["4 10 6 3", "4 7 6 3", "1 10 4 2", "2 9 6 3"]) {
+        let mut log = case.log();
+        log.push(case_a()[0]);
+        let lines: Vec<&str> = LINES_A.split_inclusive('\n').collect();
+        let before = lines[1..=case.after].concat();
+        prints(&plant(&log), &format!("moves {} entries 2 next 1\n{before}{last}\n", log.len()));
     }
     // A message still inside a transaction: 8. N = 65,536: 11. A full state: 12.
     let table = two_lot::table();
     let inside = [2, 2, 1, 1, 0x0300_0001, 7];
     prints(&input(&table, &inside, &log_words(&[Move::react(0, &[1])])), "moves 1 entries 2 next 2\n0 8 2 2\n");
-    prints(&input(&table, &[1, 65_536, 0, 7], &log_words(&a[..1])), "moves 1 entries 1 next 65536\n0 11 1 65536\n");
+    prints(
+        &input(&table, &[1, 65_536, 0, 7], &log_words(&case_a()[..1])),
+        "moves 1 entries 1 next 65536\n0 11 1 65536\n",
+    );
     let full = State { next: 1, entries: vec![Entry::new(0, 0, 0, 7); 1_024] };
-    prints(&input(&table, &full.words(), &log_words(&a[..1])), "moves 1 entries 1024 next 1\n0 12 1024 1\n");
+    prints(&input(&table, &full.words(), &log_words(&case_a()[..1])), "moves 1 entries 1024 next 1\n0 12 1024 1\n");
 }
 
 // Catches n and N that are not those after the move: case (c) ends with a transaction open.
 #[test]
 fn case_c_line_by_line() {
-    prints(&plant(&case_c()), "moves 5 entries 2 next 1\n0 0 4 2\n1 0 6 3\n2 0 6 3\n3 0 6 3\n4 0 4 3\n");
+    prints(&plant(&two_lot::case_c()), "moves 5 entries 2 next 1\n0 0 4 2\n1 0 6 3\n2 0 6 3\n3 0 6 3\n4 0 4 3\n");
 }
 
 // Catches figures that only the largest input shows: 512 atoms, 1,024 entries, 1,024 moves.

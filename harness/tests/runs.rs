@@ -8,20 +8,23 @@ use harness::generate::moves::changed;
 use harness::generate::states::{messages, state};
 use harness::generate::tables::{table, Shape};
 use harness::random::Random;
-use harness::two_lot::{self, case_a, case_c};
+use harness::two_lot::{self, case_a};
 use harness::words::{log_words, Atom, Entry, Move, State, Table};
 
-// Catches a run that makes only its first move, gives the start back, or has one fixed end.
+// Catches a run that makes only its first move, gives the start back, has one fixed end, or goes on
+// after a refused move.
 #[test]
-fn cases_a_b_c() {
+fn cases_a_to_g() {
     let (table, start) = (two_lot::table(), two_lot::start());
-    gives(run(&table, &start, &log_words(&case_a())), &[2, 3, 0, 0, 0x0001_0007, 0x0001_0009]);
-    let mut b = case_a()[..4].to_vec();
-    b.push(Move::commit(1));
-    b.push(Move::commit(9));
-    assert_eq!(run(&table, &start, &log_words(&b)).0, Answer::MoveRefused { place: 4, own: 10 });
-    let end = [4, 3, 1, 1, 0, 1, 0x0300_0001, 0x0100_0007, 0x0000_0009, 0x0003_0007];
-    gives(run(&table, &start, &log_words(&case_c())), &end);
+    gives(run(&table, &start, &log_words(&case_a())), &two_lot::END_A);
+    gives(run(&table, &start, &log_words(&two_lot::case_c())), &two_lot::END_C);
+    gives(run(&table, &start, &log_words(&two_lot::case_d())), &two_lot::END_D);
+    for case in two_lot::refused() {
+        let mut log = case.log();
+        log.push(Move::commit(9));
+        let refused = Answer::MoveRefused { place: case.after as u32, own: case.number };
+        assert_eq!(run(&table, &start, &log_words(&log)).0, refused, "({})", case.case);
+    }
     // The empty log gives the start.
     gives(run(&table, &start, &[0]), &start);
     gives(run(&table, &[0, 65_536], &[0]), &[0, 65_536]);

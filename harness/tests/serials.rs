@@ -15,17 +15,9 @@ use harness::words::{act, kind, log_from_words, log_words, role, Atom, Entry, Mo
 #[test]
 fn cases_d_and_h() {
     let (table, start) = (two_lot::table(), two_lot::start());
-    let serial = [
-        Move::react(0, &[1]),
-        Move::react(3, &[2]),
-        Move::abort(1),
-        Move::react(0, &[0]),
-        Move::react(3, &[2]),
-        Move::abort(2),
-    ];
-    gives(serialize(&table, &start, &log_words(&case_d())), &log_words(&serial));
-    gives(run(&table, &start, &log_words(&case_d())), &[2, 3, 0, 0, 7, 9]);
-    gives(run(&table, &start, &log_words(&serial)), &[2, 3, 0, 0, 9, 7]);
+    let serial = log_words(&two_lot::serial_d());
+    gives(serialize(&table, &start, &log_words(&case_d())), &serial);
+    gives(run(&table, &start, &serial), &two_lot::SERIAL_END_D);
     // The empty log: one word, which is no refusal with 1.
     gives(serialize(&table, &start, &[0]), &[0]);
 }
@@ -33,15 +25,8 @@ fn cases_d_and_h() {
 // Catches a renumbering of a log that is serial already: case (a) is one block.
 #[test]
 fn a_serial_log_stays() {
-    let log = [
-        Move::react(0, &[0]),
-        Move::react(0, &[0]),
-        Move::react(1, &[1]),
-        Move::react(1, &[3]),
-        Move::react(2, &[4, 5]),
-        Move::commit(1),
-    ];
-    gives(serialize(&two_lot::table(), &two_lot::start(), &log_words(&log)), &log_words(&log));
+    let log = log_words(&two_lot::case_a());
+    gives(serialize(&two_lot::table(), &two_lot::start(), &log), &log);
 }
 
 // Catches a checker of demand 3 that lets wrong logs pass.
