@@ -37,3 +37,14 @@ impl Answer {
 
 /// A call on a table, a state, a move or log, and a target.
 pub type OnTarget = fn(&[u32], &[u32], &[u32], &mut [u32]) -> Answer;
+
+/// 01's order of faults for each call: the first one that an input has counts. 15 comes twice, for
+/// the log's start and its end.
+pub mod order {
+    pub const CHECK_TABLE: [u32; 2] = [1, 2];
+    pub const CHECK_STATE: [u32; 4] = [1, 2, 3, 4];
+    pub const MOVE: [u32; 12] = [1, 2, 3, 4, 5, 6, 7, 8, 9, 10, 11, 12];
+    pub const RUN: [u32; 7] = [1, 2, 3, 4, 13, 6, 16];
+    pub const SERIALIZE: [u32; 11] = [1, 2, 3, 4, 13, 6, 14, 15, 16, 15, 17];
+    pub const PROGRAM: [u32; 5] = [1, 2, 3, 4, 13];
+}

@@ -2,13 +2,13 @@
 //! or from the model (`harness::program`), never from a program. The proved program and the
 //! reference program, made of the plain code, are both asked.
 use std::env;
-use std::fs;
 use std::io::{ErrorKind, Read, Write};
 use std::path::{Path, PathBuf};
 use std::process::{Command, Stdio};
 use std::thread;
 use std::time::Duration;
 
+use harness::answer::order;
 use harness::generate::logs::{accepted, closed};
 use harness::generate::moves::changed;
 use harness::generate::state_faults::StateFault;
@@ -104,20 +104,6 @@ fn plant(log: &[Move]) -> Vec<u8> {
 fn case_a_prints_the_seven_lines() {
     prints(&plant(&case_a()), LINES_A);
     assert_eq!(output(MODEL, &plant(&case_a())), LINES_A, "the model");
-}
-
-// Catches example files that the program does not take, by the shell command of `examples/README.md`.
-#[test]
-fn the_example_files() {
-    let lines = fs::read_to_string(Path::new(ROOT).join("examples/README.md")).unwrap();
-    let cat = lines.lines().find(|line| line.starts_with("cat ")).unwrap();
-    let (cat, _) = cat.split_once('|').unwrap();
-    for program in programs() {
-        let mut shell = Command::new("bash");
-        shell.args(["-c", &format!(r#"{cat} | "$0""#)]).arg(&program);
-        let run = shell.current_dir(ROOT).output().unwrap();
-        assert_eq!(String::from_utf8_lossy(&run.stdout), LINES_A, "{}", program.display());
-    }
 }
 
 // Catches a cut part that is read as whole, or has another part's number: 29 words are the table,
@@ -229,7 +215,8 @@ fn the_first_fault_counts() {
         if has(5) {
             bytes.push(0);
         }
-        match [1, 2, 3, 4, 13, 13].into_iter().enumerate().find(|&(bit, _)| has(bit as u32)) {
+        // Bytes left over come last and have the log's number.
+        match order::PROGRAM.into_iter().chain([13]).enumerate().find(|&(bit, _)| has(bit as u32)) {
             Some((_, number)) => refuses(&bytes, number),
             None => prints(&bytes, LINES_A),
         }

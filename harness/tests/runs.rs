@@ -2,7 +2,7 @@
 mod common;
 
 use common::{check_state, gives, make_move, on_target, refused, run, RUN};
-use harness::answer::Answer;
+use harness::answer::{order, Answer};
 use harness::generate::logs::accepted;
 use harness::generate::moves::changed;
 use harness::generate::states::{messages, state};
@@ -159,12 +159,12 @@ fn targets_of_a_run() {
     }
 }
 
-// Catches refusals in another order than 01's: 1, 2, 3, 4, 13, 6, 16, every set of them.
+// Catches refusals in another order than 01's: every set of faults.
 #[test]
 fn the_first_fault_counts() {
-    const ORDER: [u32; 7] = [1, 2, 3, 4, 13, 6, 16];
-    for set in 0..1u32 << 7 {
-        let faults: Vec<u32> = (0..7).filter(|bit| set >> bit & 1 == 1).map(|bit| ORDER[bit]).collect();
+    for set in 0..1u32 << order::RUN.len() {
+        let faults: Vec<u32> =
+            (0..order::RUN.len()).filter(|bit| set >> bit & 1 == 1).map(|bit| order::RUN[bit]).collect();
         let has = |number| faults.contains(&number);
         let (mut table, mut start) = (two_lot::table(), two_lot::start());
         let mut moves = case_a();

@@ -2,8 +2,8 @@
 mod common;
 
 use common::demand3::Demand3;
-use common::{gives, on_target, refused, run, serialize, SERIALIZE};
-use harness::answer::Answer;
+use common::{gives, on_target, refused, run, serialize, shrinking, SERIALIZE};
+use harness::answer::{order, Answer};
 use harness::generate::logs::{accepted, closed, Walk};
 use harness::generate::states::{messages, state};
 use harness::generate::tables::{table, Shape};
@@ -197,19 +197,6 @@ fn random_logs_near_the_limit() {
     assert!(outgrown > 10 && outgrown < 140, "{outgrown}");
 }
 
-/// Rule 0 begins with four messages of port 0 and nothing inside; rule 1 makes one of port 1 two.
-fn shrinking() -> Table {
-    Table {
-        global: 2,
-        local: 0,
-        merge: 0,
-        rules: vec![
-            vec![Atom::new(role::CONSUME, 0, 0, 0); 4].into_iter().chain([Atom::new(role::BEGIN, 0, 0, 0)]).collect(),
-            vec![Atom::new(role::CONSUME, 0, 1, 0), Atom::new(role::EMIT, 1, 1, 0), Atom::new(role::EMIT, 1, 1, 0)],
-        ],
-    }
-}
-
 // Catches a limit of 17 that is off by one: in serial order the begin, which shrinks the state,
 // comes after the growth.
 #[test]
@@ -365,12 +352,13 @@ fn targets_of_a_serial_log() {
     }
 }
 
-// Catches refusals in another order than 01's: 1, 2, 3, 4, 13, 6, 14, 15 (start), 16, 15 (end),
-// 17, every set of them.
+// Catches refusals in another order than 01's: every set of faults.
 #[test]
 fn the_first_fault_counts() {
     // 150 stands for 15 at the start, 151 for 15 at the end.
     const ORDER: [u32; 11] = [1, 2, 3, 4, 13, 6, 14, 150, 16, 151, 17];
+    let number = |fault: u32| if fault >= 150 { 15 } else { fault };
+    assert_eq!(ORDER.map(number), order::SERIALIZE);
     for set in 0..1u32 << ORDER.len() {
         let faults: Vec<u32> = (0..ORDER.len()).filter(|bit| set >> bit & 1 == 1).map(|bit| ORDER[bit]).collect();
         let has = |number| faults.contains(&number);
@@ -410,7 +398,7 @@ fn the_first_fault_counts() {
         }
         let room = if has(6) { 5 * moves.len() } else { 1 + 5 * moves.len() };
         let (answer, _) = on_target(SERIALIZE, [&table, &start, &log], room);
-        let first = faults.first().map_or(0, |&fault| if fault >= 150 { 15 } else { fault });
+        let first = faults.first().copied().map_or(0, number);
         assert_eq!(answer.number(), first, "{faults:?}");
         if first == 16 {
             assert_eq!(answer, Answer::MoveRefused { place: moves.len() as u32 - 1, own: 9 });

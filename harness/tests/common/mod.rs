@@ -3,8 +3,12 @@
 #![allow(dead_code)]
 pub mod demand3;
 
+use std::fs;
+use std::path::Path;
+
 use harness::answer::{Answer, OnTarget};
-use harness::{library, model, plain};
+use harness::words::{role, Atom, Table};
+use harness::{library, model, plain, ROOT};
 
 const NAMES: [&str; 3] = ["model", "plain", "library"];
 
@@ -96,4 +100,36 @@ pub fn gives(result: (Answer, Vec<u32>), words: &[u32]) {
 #[track_caller]
 pub fn refused(result: (Answer, Vec<u32>), number: u32) {
     assert_eq!(result.0, Answer::Refused(number));
+}
+
+/// Rule 0 begins with four messages of port 0 and nothing inside; rule 1 makes one of port 1 two.
+pub fn shrinking() -> Table {
+    Table {
+        global: 2,
+        local: 0,
+        merge: 0,
+        rules: vec![
+            vec![Atom::new(role::CONSUME, 0, 0, 0); 4].into_iter().chain([Atom::new(role::BEGIN, 0, 0, 0)]).collect(),
+            vec![Atom::new(role::CONSUME, 0, 1, 0), Atom::new(role::EMIT, 1, 1, 0), Atom::new(role::EMIT, 1, 1, 0)],
+        ],
+    }
+}
+
+/// What the header says above a call, on one line.
+pub fn header_comment(call: &str) -> String {
+    let header = fs::read_to_string(Path::new(ROOT).join("include/coordinator.h")).unwrap();
+    let (before, _) = header.split_once(&format!("*/\ncoordinator_answer coordinator_{call}(")).expect(call);
+    let (_, comment) = before.rsplit_once("/* ").unwrap();
+    comment.lines().map(|line| line.trim_start_matches(" * ").trim()).collect::<Vec<_>>().join(" ")
+}
+
+/// An order of faults as the pages and the header write it.
+pub fn listed(order: &[u32]) -> String {
+    let at_start = order.iter().position(|&number| number == 15);
+    let shown = |(place, number): (usize, &u32)| match number {
+        15 if Some(place) == at_start => "15 (start)".into(),
+        15 => "15 (end)".into(),
+        number => number.to_string(),
+    };
+    order.iter().enumerate().map(shown).collect::<Vec<String>>().join(", ")
 }
