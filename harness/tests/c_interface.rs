@@ -1,11 +1,15 @@
 //! The header and the archive as a C compiler sees them.
+mod common;
+
 use std::collections::BTreeMap;
 use std::env;
 use std::fs;
 use std::path::{Path, PathBuf};
 use std::process::Command;
 
+use common::{header_comment, listed};
 use coordinator::Refusal;
+use harness::answer::order;
 use harness::ROOT;
 
 fn archive() -> PathBuf {
@@ -76,6 +80,22 @@ fn upper(name: &str) -> String {
         }
     };
     name.char_indices().map(|(at, letter)| word(at, letter)).collect::<String>().to_uppercase()
+}
+
+// Catches an order of refusals in the header that is not 01's.
+#[test]
+fn the_header_gives_the_order_of_refusals() {
+    let calls: [(&str, &[u32]); 5] = [
+        ("check_table", &order::CHECK_TABLE),
+        ("check_state", &order::CHECK_STATE),
+        ("move", &order::MOVE),
+        ("run", &order::RUN),
+        ("serialize", &order::SERIALIZE),
+    ];
+    for (name, order) in calls {
+        let comment = header_comment(name);
+        assert!(comment.contains(&format!("Refusals: {}. ", listed(order))), "{name}: {comment}");
+    }
 }
 
 // Catches a number, limit or name that the header and the Rust crate give differently.
