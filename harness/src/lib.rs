@@ -1,9 +1,11 @@
 //! Tests of the proved coordinator against two independent opinions: `model`, written from the
 //! calculus of the source paper, and `plain`, written from document 01 as ordinary fast Rust.
 pub mod answer;
+pub mod apart;
 pub mod examples;
 pub mod generate;
 pub mod library;
+pub mod markdown;
 pub mod model;
 pub mod plain;
 pub mod program;

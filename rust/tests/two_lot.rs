@@ -1,30 +1,12 @@
 //! The crate as a buyer uses it, on document 01's two-lot plant.
 use coordinator::*;
 
-const RECEIVED: Value = Value::Received(0);
+// The plant is the example's, so that its words are held to 01's digits too.
+#[allow(dead_code)]
+#[path = "../examples/two_lot.rs"]
+mod example;
 
-fn table() -> Vec<u32> {
-    TableBuilder::new(2, 1, 1)
-        .rule([
-            Atom::Consume { port: 0 },
-            Atom::Begin,
-            Atom::Body { port: 2, value: RECEIVED },
-            Atom::Compensate { port: 0, value: RECEIVED },
-        ])
-        .rule([Atom::Consume { port: 2 }, Atom::Emit { port: 3, value: RECEIVED }])
-        .rule([
-            Atom::Consume { port: 3 },
-            Atom::Consume { port: 3 },
-            Atom::Emit { port: 1, value: RECEIVED },
-            Atom::Emit { port: 1, value: Value::Received(1) },
-        ])
-        .rule([Atom::Consume { port: 2 }, Atom::Abort])
-        .words()
-}
-
-fn start() -> Vec<u32> {
-    StateBuilder::new(1).message(0, 0, 7).message(0, 0, 9).words()
-}
+use example::{log, start, table};
 
 // Catches a builder that puts a field or a column in the wrong place: the digits are 01's.
 #[test]
@@ -47,7 +29,7 @@ fn builders_write_the_words_of_01() {
     assert_eq!(table(), [&[2, 1, 1, 4, 12][..], &numbers, &atoms].concat());
     assert_eq!(start(), [2, 1, 0, 0, 7, 9]);
     assert_eq!(Atom::Emit { port: 255, value: Value::Constant(0xABCD) }.word(), 0x10FF_ABCD);
-    let log = LogBuilder::new().push(react(2, &[4, 5])).push(commit(1)).push(abort(2)).words();
+    let log = log(&[react(2, &[4, 5]), commit(1), abort(2)]);
     assert_eq!(log, [3, 2, 0x0100_0001, 0x0200_0002, 4, 5, 0, 0, 0, 0, 0, 0, 0, 0, 0, 0]);
 }
 
@@ -67,7 +49,7 @@ fn words_are_read_back() {
     assert_eq!(read, items.map(|item| Entry { owner: 5, item }));
     assert_eq!(State::new(&words).next(), Some(6));
     let moves = [react(1, &[1, 2, 3, 4]), commit(9)];
-    let log = moves.iter().fold(LogBuilder::new(), |log, &mv| log.push(mv)).words();
+    let log = log(&moves);
     assert_eq!(Log::new(&log).moves().unwrap().collect::<Vec<_>>(), moves);
     for wrong in [&[][..], &[1], &[1, 1, 0], &[u32::MAX, 1], &[0x8000_0000, 1], &[0x3333_3334, 0]] {
         assert!(State::new(wrong).entries().is_none() && Log::new(wrong).moves().is_none(), "{wrong:?}");
@@ -105,10 +87,6 @@ fn checks() {
     wrong[28] = 0x6000_0000;
     assert_eq!(check_table(Table::new(&wrong)), Err(Refusal::TableContents));
     assert_eq!(check_state(Table::new(&table), State::new(&[1, 1, 1, 7])), Err(Refusal::StateContents));
-}
-
-fn log(moves: &[[u32; MOVE_WORDS]]) -> Vec<u32> {
-    moves.iter().fold(LogBuilder::new(), |log, &mv| log.push(mv)).words()
 }
 
 // Catches a move that gives more or fewer words than were written.

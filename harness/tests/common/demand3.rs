@@ -186,7 +186,7 @@ impl<'a> Demand3<'a> {
 
     /// The clause that the serial log breaks, if it breaks one.
     pub fn check(&self, serial: &[Move]) -> Result<(), &'static str> {
-        let places = self.identify(serial)?;
+        let places = self.places(serial)?;
         let mut sorted = places.clone();
         sorted.sort_unstable();
         ensure(sorted.into_iter().eq(0..self.log.len()), "each move once")?;
@@ -208,7 +208,7 @@ impl<'a> Demand3<'a> {
 
     /// Which move of the first log each serial move is, by rule and origins or by members ended;
     /// checks ids and the end on the way.
-    fn identify(&self, serial: &[Move]) -> Result<Vec<usize>, &'static str> {
+    pub fn places(&self, serial: &[Move]) -> Result<Vec<usize>, &'static str> {
         let mut tracker = Tracker::new(self.table, self.start);
         let mut ids: BTreeMap<usize, u32> = BTreeMap::new();
         let mut places = Vec::new();

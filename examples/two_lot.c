@@ -1,0 +1,54 @@
+/*
+ * Log (a) of document 01's two-lot plant, and case (b): its commit one move too early.
+ */
+#include "coordinator.h"
+
+#include <inttypes.h>
+#include <stdio.h>
+
+#define LENGTH(list) (sizeof(list) / sizeof((list)[0]))
+
+static const uint32_t table[] = {
+    2, 1, 1, 4, 12,
+    0, 0, 0, 0, 1, 1, 2, 2, 2, 2, 3, 3,
+    0x00000000, 0x20000000, 0x31020000, 0x41000000,
+    0x00020000, 0x11030000,
+    0x00030000, 0x00030000, 0x11010000, 0x11010001,
+    0x00020000, 0x50000000,
+};
+static const uint32_t start[] = {2, 1, 0, 0, 7, 9};
+static const uint32_t log_a[] = {
+    6,
+    0, 0, 1, 1, 2, 0x01000001,
+    0, 0, 0, 0, 0, 0, 0, 0, 1, 0, 0, 0, 3, 0, 0, 0, 4, 5, 0, 0, 0, 0, 0, 0,
+};
+static const uint32_t log_b[] = {
+    5,
+    0, 0, 1, 1, 0x01000001,
+    0, 0, 0, 0, 0, 0, 0, 0, 1, 0, 0, 0, 3, 0, 0, 0, 0, 0, 0, 0,
+};
+
+static void run(const char *name, const uint32_t *log, size_t log_len)
+{
+    uint32_t target[COORDINATOR_STATE_TARGET_WORDS], at;
+    coordinator_answer answer =
+        coordinator_run(table, LENGTH(table), start, LENGTH(start), log, log_len, target, LENGTH(target));
+    if (answer.number == COORDINATOR_MOVE_REFUSED) {
+        printf("%s: move %" PRIu32 " is refused with %" PRIu32 "\n", name, answer.place, answer.own);
+    } else if (answer.number != COORDINATOR_ACCEPTED) {
+        printf("%s: refused with %" PRIu32 "\n", name, answer.number);
+    } else {
+        printf("%s:", name);
+        for (at = 0; at < answer.words; at++) {
+            printf(" 0x%08" PRIx32, target[at]);
+        }
+        printf("\n");
+    }
+}
+
+int main(void)
+{
+    run("(a)", log_a, LENGTH(log_a));
+    run("(b)", log_b, LENGTH(log_b));
+    return 0;
+}

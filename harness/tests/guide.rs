@@ -1,0 +1,274 @@
+//! The pages say what to run and what it prints, and show words, figures and programs: all of it is
+//! tried and compared as it stands. A page's blocks are of these kinds, and no others:
+//!
+//! - `sh`: run from the repository's folder; the `text` block that follows is what it prints.
+//! - `sh not-run`: takes minutes or changes files, so only what it names is looked for.
+//! - `text LABEL`: what `generated` makes under this label.
+//! - `c PATH`, `rust PATH`: the file at this path.
+mod common;
+
+use std::collections::BTreeMap;
+use std::fs;
+use std::os::unix::fs::PermissionsExt;
+use std::path::Path;
+use std::process::Command;
+
+use common::demand3::Demand3;
+use common::{check_state, check_table, gives, make_move, on_target, run, serialize, shrinking, MAKE_MOVE};
+use harness::answer::{order, Answer};
+use harness::markdown::{blocks, links, prose, rows};
+use harness::two_lot::{self, case_a, case_c, case_d, serial_d};
+use harness::words::{log_words, Atom, Entry, Move, State, Table};
+use harness::{apart, ROOT};
+
+const GUIDE: &str = "docs/GUIDE.md";
+const PAGES: [&str; 5] = ["README.md", GUIDE, "examples/README.md", "harness/README.md", "rust/README.md"];
+
+fn file(path: &str) -> String {
+    fs::read_to_string(Path::new(ROOT).join(path)).unwrap_or_else(|error| panic!("{path}: {error}"))
+}
+
+// Catches a command that does not run, or that prints something else than the page says. In one
+// test, so that two commands never build the same thing at once.
+#[test]
+fn commands_print_what_follows_them() {
+    for page in PAGES {
+        let text = file(page);
+        let blocks = blocks(&text);
+        for (place, block) in blocks.iter().enumerate().filter(|(_, block)| (block.language, block.label) == ("sh", ""))
+        {
+            let shown = blocks[place + 1].text;
+            let mut shell = Command::new("bash");
+            let run = shell.args(["-euo", "pipefail", "-c", block.text]).current_dir(ROOT).output().unwrap();
+            let said = String::from_utf8_lossy(&run.stderr);
+            assert!(run.status.success(), "{page}:{}: {}{said}", block.line, block.text);
+            assert_eq!(String::from_utf8_lossy(&run.stdout), shown, "{page}:{}: {}{said}", block.line, block.text);
+        }
+    }
+}
+
+/// The files that a command names: its first word if that is a path, a manifest, and a binary of it.
+fn named(command: &str) -> Vec<String> {
+    let words: Vec<&str> = command.split_whitespace().collect();
+    let after = |option: &str| words.iter().position(|word| *word == option).map(|place| words[place + 1]);
+    let manifest = after("--manifest-path").unwrap_or("harness/Cargo.toml");
+    let mut named = vec![if words[0] == "cargo" { manifest.into() } else { words[0].into() }];
+    named.extend(after("--bin").map(|bin| manifest.replace("Cargo.toml", &format!("src/bin/{bin}.rs"))));
+    named
+}
+
+// Catches a command that is only shown and whose file is gone or cannot be run.
+#[test]
+fn commands_not_run_are_there() {
+    for page in PAGES {
+        for block in blocks(&file(page)).iter().filter(|block| (block.language, block.label) == ("sh", "not-run")) {
+            for path in block.text.lines().flat_map(named) {
+                let found = fs::metadata(Path::new(ROOT).join(&path)).unwrap_or_else(|error| panic!("{path}: {error}"));
+                let runs = path.ends_with(".toml") || path.ends_with(".rs") || found.permissions().mode() & 0o111 != 0;
+                assert!(found.is_file() && runs, "{page}:{}: {path}", block.line);
+            }
+        }
+    }
+}
+
+// Catches a block that no test holds to anything, and a program in a page that is not the file's.
+#[test]
+fn every_block_is_held_to_something() {
+    let generated = generated();
+    for page in PAGES {
+        let text = file(page);
+        let blocks = blocks(&text);
+        let kind = |place: usize| blocks.get(place).map(|block| (block.language, block.label));
+        for (place, block) in blocks.iter().enumerate() {
+            let at = format!("{page}:{}", block.line);
+            match (block.language, block.label) {
+                ("sh", "") => assert_eq!(kind(place + 1), Some(("text", "")), "{at}: a command without what it prints"),
+                ("sh", "not-run") => {}
+                ("text", "") => assert_eq!(kind(place.wrapping_sub(1)), Some(("sh", "")), "{at}: printed by nothing"),
+                ("text", label) => assert!(generated.contains_key(label), "{at}: nothing makes {label:?}"),
+                ("c" | "rust", path) if !path.is_empty() => assert_eq!(block.text, file(path), "{at}"),
+                kind => panic!("{at}: a block of kind {kind:?}"),
+            }
+        }
+    }
+}
+
+// Catches words, fields or figures in the guide that are not what all implementations say, and a
+// step of the plant that the guide leaves out.
+#[test]
+fn the_guide_shows_true_words() {
+    let guide = file(GUIDE);
+    let shown = blocks(&guide);
+    for (label, text) in generated() {
+        let shown: Vec<_> = shown.iter().filter(|block| (block.language, block.label) == ("text", &label)).collect();
+        assert_eq!(shown.len(), 1, "{label:?} is not shown once");
+        assert_eq!(shown[0].text, text, "{GUIDE}:{}: {label}", shown[0].line);
+    }
+}
+
+// Catches a word in the guide's running text that no block shows.
+#[test]
+fn words_between_the_blocks_are_shown_in_one() {
+    let guide = file(GUIDE);
+    let generated: String = generated().into_values().collect();
+    for line in prose(&guide) {
+        for word in line.split(|sign: char| !sign.is_ascii_alphanumeric()).filter(|word| word.starts_with("0x")) {
+            assert!(generated.contains(word), "{word} in {line:?}");
+        }
+    }
+}
+
+/// What the guide's blocks show, by their labels.
+fn generated() -> BTreeMap<String, String> {
+    let (table, start) = (two_lot::table(), two_lot::start());
+    let mut all = BTreeMap::from([
+        ("table".into(), apart::table(&table)),
+        ("start".into(), apart::state(&start)),
+        ("log a".into(), apart::log(&log_words(&case_a()), None)),
+        ("log d".into(), apart::log(&log_words(&case_d()), None)),
+        ("refusals".into(), refusals()),
+        ("order".into(), orders()),
+    ]);
+    for (name, log, from) in [("a", case_a(), 0), ("c", case_c(), 3)] {
+        let mut state = start.clone();
+        for (place, mv) in log.iter().enumerate() {
+            let (answer, after) = make_move(&table, &state, &mv.words());
+            assert_eq!(answer, Answer::Accepted(after.len() as u32));
+            state = after;
+            if place >= from {
+                all.insert(format!("{name} {place}"), apart::one_move(*mv) + &apart::state(&state));
+            }
+        }
+    }
+    // Which move each move of the serial log was is found by the origins of its picks.
+    let (_, serial) = serialize(&table, &start, &log_words(&case_d()));
+    let (table_read, start_read) = (Table::from_words(&table).unwrap(), State::from_words(&start).unwrap());
+    let was = Demand3::new(&table_read, &start_read, &case_d()).places(&serial_d()).unwrap();
+    all.insert("serial d".into(), apart::log(&serial, Some(&was)));
+    for (name, log, end) in [("end d", case_d(), two_lot::END_D), ("end serial d", serial_d(), two_lot::SERIAL_END_D)] {
+        let ran = run(&table, &start, &log_words(&log));
+        gives(ran, &end);
+        all.insert(name.into(), apart::state(&end));
+    }
+    all
+}
+
+fn orders() -> String {
+    let calls: [(&str, &[u32]); 6] = [
+        ("check_table", &order::CHECK_TABLE),
+        ("check_state", &order::CHECK_STATE),
+        ("move", &order::MOVE),
+        ("run", &order::RUN),
+        ("serialize", &order::SERIALIZE),
+        ("program", &order::PROGRAM),
+    ];
+    calls.map(|(name, order)| format!("{name:<11}  {}\n", common::listed(order))).concat()
+}
+
+/// A call of each number, made and answered so. They are on the two-lot plant but for 14 and 17.
+fn refusals() -> String {
+    let (table, start) = (two_lot::table(), two_lot::start());
+    let after = |moves: usize| run(&table, &start, &log_words(&case_a()[..moves])).1;
+    let with = |words: &[u32], at: usize, word: u32| {
+        let mut words = words.to_vec();
+        words[at] = word;
+        words
+    };
+    let moved = |state: &[u32], mv: Move| make_move(&table, state, &mv.words()).0;
+    let log_a = log_words(&case_a());
+    let [b, e, _, g] = two_lot::refused();
+    let case = |case: two_lot::Refused| moved(&after(case.after), case.mv);
+    let full = State { next: 1, entries: vec![Entry::new(0, 0, 0, 7); 1_024] }.words();
+    let mut begin_emits = Table::from_words(&table).unwrap();
+    begin_emits.rules.push(vec![Atom::new(0, 0, 1, 0), Atom::new(1, 0, 1, 4), Atom::new(2, 0, 0, 0)]);
+    let mut growing = vec![Entry::new(0, 0, 1, 5); 1_024];
+    growing[..4].fill(Entry::new(0, 0, 0, 5));
+    let growing = State { next: 1, entries: growing }.words();
+    let grows = log_words(&[Move::react(0, &[0, 1, 2, 3]), Move::react(1, &[0]), Move::commit(1)]);
+    let begin = Move::react(0, &[0]);
+    let calls = [
+        ("check_table", "the table", check_table(&table)),
+        ("check_table", "the table without its last word", check_table(&table[..28])),
+        ("check_table", "role 6 in the last atom", check_table(&with(&table, 28, 0x6000_0000))),
+        ("check_state", "N = 0", check_state(&table, &with(&start, 1, 0))),
+        ("check_state", "an entry owned by 1, and no member mark of 1", check_state(&table, &[1, 2, 1, 7])),
+        ("move", "react by rule 4, where R = 4", moved(&start, Move::react(4, &[0]))),
+        ("move", "a target of 2049 words", on_target(MAKE_MOVE, [&table, &start, &begin.words()], 2_049).0),
+        ("move", "(e): rule 2 with picks 4 4, after 4 moves of (a)", case(e)),
+        (
+            "move",
+            "rule 0 on a message inside transaction 1",
+            moved(&[2, 2, 1, 1, 0x0300_0001, 7], Move::react(0, &[1])),
+        ),
+        ("move", "(g): commit 3, after 2 moves of (a)", case(g)),
+        ("move", "(b): commit 1, after 4 moves of (a)", case(b)),
+        ("move", "a begin with N = 65536", moved(&[1, 65_536, 0, 7], begin)),
+        ("move", "a begin on 1024 entries", moved(&full, begin)),
+        ("run", "log (a) without its last word", run(&table, &start, &log_a[..30]).0),
+        ("serialize", "a fifth rule that begins and emits", serialize(&begin_emits.words(), &start, &log_a).0),
+        ("serialize", "log (c), which leaves transaction 1 open", serialize(&table, &start, &log_words(&case_c())).0),
+        ("run", "(b) as a log", run(&table, &start, &log_words(&b.log())).0),
+        (
+            "serialize",
+            "on 1024 entries: a begin that takes 4, a move that adds 1, the commit",
+            serialize(&shrinking().words(), &growing, &grows).0,
+        ),
+    ];
+    let line = |(number, (call, what, answer)): (usize, (&str, &str, Answer))| {
+        assert_eq!(answer.number() as usize, number, "{call}: {what}");
+        let more = match answer {
+            Answer::MoveRefused { place, own } => format!(": place {place}, own number {own}"),
+            _ => String::new(),
+        };
+        format!("{number:>2}  {call:<11}  {what}{more}\n")
+    };
+    calls.into_iter().enumerate().map(line).collect()
+}
+
+// Catches a number that the guide leaves out or calls by another name than the header.
+#[test]
+fn the_guide_has_every_number() {
+    let (guide, header) = (file(GUIDE), file("include/coordinator.h"));
+    let rows = rows(&prose(&guide), "| number | name | it means | look at |");
+    assert_eq!(rows.len(), 18);
+    for (number, row) in rows.iter().enumerate() {
+        let name = row[1].trim_matches('`');
+        assert_eq!(row[0], number.to_string());
+        assert!(header.contains(&format!("#define COORDINATOR_{name} {number}u ")), "{name}");
+        assert!(row[2..].iter().all(|cell| !cell.is_empty()) && row.len() == 4, "{row:?}");
+    }
+}
+
+/// The words of an array in a C program.
+fn c_array(program: &str, name: &str) -> Vec<u32> {
+    let (_, rest) = program.split_once(&format!("uint32_t {name}[] = {{")).unwrap_or_else(|| panic!("no array {name}"));
+    let (words, _) = rest.split_once('}').unwrap();
+    let word = |word: &str| match word.trim().strip_prefix("0x") {
+        Some(digits) => u32::from_str_radix(digits, 16).unwrap(),
+        None => word.trim().parse().unwrap(),
+    };
+    words.trim_end().trim_end_matches(',').split(',').map(word).collect()
+}
+
+// Catches a digit in the C program that is not 01's and that its output does not show.
+#[test]
+fn the_c_program_has_the_words_of_01() {
+    let program = file("examples/two_lot.c");
+    let [b, ..] = two_lot::refused();
+    assert_eq!(c_array(&program, "table"), two_lot::table());
+    assert_eq!(c_array(&program, "start"), two_lot::start());
+    assert_eq!(c_array(&program, "log_a"), log_words(&case_a()));
+    assert_eq!(c_array(&program, "log_b"), log_words(&b.log()));
+}
+
+// Catches a link to a file that is not there.
+#[test]
+fn links_lead_somewhere() {
+    for page in PAGES {
+        let text = file(page);
+        let folder = Path::new(ROOT).join(page).parent().unwrap().to_path_buf();
+        for link in prose(&text).into_iter().flat_map(links).filter(|link| !link.starts_with('#')) {
+            assert!(folder.join(link).exists(), "{page}: {link}");
+        }
+    }
+}
