@@ -64,8 +64,25 @@ pub struct Atom {
 }
 
 impl Atom {
-    pub fn new(role: u32, mode: u32, port: u32, value: u32) -> Atom {
+    pub const BEGIN: Atom = Atom::new(role::BEGIN, 0, 0, 0);
+    pub const ABORT: Atom = Atom::new(role::ABORT, 0, 0, 0);
+
+    pub const fn new(role: u32, mode: u32, port: u32, value: u32) -> Atom {
         Atom { role, mode, port, value }
+    }
+
+    pub fn consume(port: u32) -> Atom {
+        Atom::new(role::CONSUME, mode::CONSTANT, port, 0)
+    }
+
+    /// An emit, a body or a compensate of this value.
+    pub fn constant(role: u32, port: u32, value: u32) -> Atom {
+        Atom::new(role, mode::CONSTANT, port, value)
+    }
+
+    /// An emit, a body or a compensate of the value that a consume received.
+    pub fn received(role: u32, port: u32, consume: u32) -> Atom {
+        Atom::new(role, mode::RECEIVED, port, consume)
     }
 
     pub fn word(self) -> u32 {
@@ -134,6 +151,22 @@ pub struct Entry {
 impl Entry {
     pub fn new(owner: u32, kind: u32, port: u32, value: u32) -> Entry {
         Entry { owner, kind, port, value }
+    }
+
+    pub fn message(owner: u32, port: u32, value: u32) -> Entry {
+        Entry::new(owner, kind::MESSAGE, port, value)
+    }
+
+    pub fn compensation(owner: u32, port: u32, value: u32) -> Entry {
+        Entry::new(owner, kind::COMPENSATION, port, value)
+    }
+
+    pub fn abort_mark(owner: u32) -> Entry {
+        Entry::new(owner, kind::ABORT_MARK, 0, 0)
+    }
+
+    pub fn member_mark(owner: u32, id: u32) -> Entry {
+        Entry::new(owner, kind::MEMBER_MARK, 0, id)
     }
 
     pub fn item(self) -> u32 {

@@ -195,7 +195,7 @@ fn limits_of_a_state() {
     refuses(&table, &[0, 0], 3);
     refuses(&table, &[0], 3);
     refuses(&table, &[], 3);
-    let full = |n| State { next: 1, entries: vec![Entry::new(0, 0, 1, 65_535); n] }.words();
+    let full = |n| State { next: 1, entries: vec![Entry::message(0, 1, 65_535); n] }.words();
     accepts(&table, &full(1_024));
     refuses(&table, &full(1_025), 3);
     // The largest id, alone in its transaction; and the same with a next id that does not pass it.
@@ -203,7 +203,7 @@ fn limits_of_a_state() {
     refuses(&table, &[1, 65_535, 65_535, 0x0300_FFFF], 4);
     refuses(&table, &[1, 65_536, 65_536, 0x0300_0000], 4);
     // Full of transactions, one member each.
-    let members: Vec<Entry> = (1..=1_024).map(|id| Entry::new(id, 3, 0, id)).collect();
+    let members: Vec<Entry> = (1..=1_024).map(|id| Entry::member_mark(id, id)).collect();
     accepts(&table, &State { next: 1_025, entries: members.clone() }.words());
     refuses(&table, &State { next: 1_024, entries: members }.words(), 4);
 }
@@ -212,9 +212,9 @@ fn limits_of_a_state() {
 #[test]
 fn a_half_made_merge_is_refused() {
     let table = two_lot::table();
-    let whole = [Entry::new(1, 3, 0, 1), Entry::new(1, 3, 0, 2), Entry::new(1, 0, 3, 9)];
+    let whole = [Entry::member_mark(1, 1), Entry::member_mark(1, 2), Entry::message(1, 3, 9)];
     accepts(&table, &State { next: 3, entries: whole.to_vec() }.words());
-    let half = [Entry::new(1, 3, 0, 1), Entry::new(1, 3, 0, 2), Entry::new(2, 0, 3, 9)];
+    let half = [Entry::member_mark(1, 1), Entry::member_mark(1, 2), Entry::message(2, 3, 9)];
     refuses(&table, &State { next: 3, entries: half.to_vec() }.words(), 4);
 }
 

@@ -7,7 +7,7 @@ use harness::generate::table_faults::TableFault;
 use harness::generate::tables::{table, Shape};
 use harness::random::Random;
 use harness::two_lot;
-use harness::words::{Atom, Table};
+use harness::words::{role, Atom, Table};
 
 const SHAPES: [Shape; 3] = [Shape::Any, Shape::Small, Shape::Closable];
 
@@ -138,8 +138,8 @@ fn limits_of_a_table() {
     refuses(&[0, 0, 0, 65, 0], 1);
     refuses(&[], 1);
 
-    let consume = Atom::new(0, 0, 0, 0);
-    let emit = Atom::new(1, 1, 0, 0);
+    let consume = Atom::consume(0);
+    let emit = Atom::received(role::EMIT, 0, 0);
     let full = |rules: usize, atoms: usize| {
         let mut rule = vec![emit; atoms];
         rule[0] = consume;
@@ -151,8 +151,8 @@ fn limits_of_a_table() {
     refuses(&full(57, 9), 1);
     refuses(&full(1, 17), 2);
     // The last port of 256 is usable.
-    accepts(&Table { global: 256, local: 0, merge: 0, rules: vec![vec![Atom::new(0, 0, 255, 0)]] }.words());
-    accepts(&Table { global: 0, local: 0, merge: 256, rules: vec![vec![Atom::new(0, 0, 255, 0); 4]] }.words());
+    accepts(&Table { global: 256, local: 0, merge: 0, rules: vec![vec![Atom::consume(255)]] }.words());
+    accepts(&Table { global: 0, local: 0, merge: 256, rules: vec![vec![Atom::consume(255); 4]] }.words());
 }
 
 // Catches a refusal of 01's own example, and a cut table with bad atoms that is called 2.

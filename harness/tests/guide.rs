@@ -18,7 +18,7 @@ use common::{check_state, check_table, gives, make_move, on_target, run, seriali
 use harness::answer::{order, Answer};
 use harness::markdown::{blocks, links, prose, rows};
 use harness::two_lot::{self, case_a, case_c, case_d, serial_d};
-use harness::words::{log_words, Atom, Entry, Move, State, Table};
+use harness::words::{log_words, role, Atom, Entry, Move, State, Table};
 use harness::{apart, ROOT};
 
 const GUIDE: &str = "docs/GUIDE.md";
@@ -178,11 +178,11 @@ fn refusals() -> String {
     let log_a = log_words(&case_a());
     let [b, e, _, g] = two_lot::refused();
     let case = |case: two_lot::Refused| moved(&after(case.after), case.mv);
-    let full = State { next: 1, entries: vec![Entry::new(0, 0, 0, 7); 1_024] }.words();
+    let full = State { next: 1, entries: vec![Entry::message(0, 0, 7); 1_024] }.words();
     let mut begin_emits = Table::from_words(&table).unwrap();
-    begin_emits.rules.push(vec![Atom::new(0, 0, 1, 0), Atom::new(1, 0, 1, 4), Atom::new(2, 0, 0, 0)]);
-    let mut growing = vec![Entry::new(0, 0, 1, 5); 1_024];
-    growing[..4].fill(Entry::new(0, 0, 0, 5));
+    begin_emits.rules.push(vec![Atom::consume(1), Atom::constant(role::EMIT, 1, 4), Atom::BEGIN]);
+    let mut growing = vec![Entry::message(0, 1, 5); 1_024];
+    growing[..4].fill(Entry::message(0, 0, 5));
     let growing = State { next: 1, entries: growing }.words();
     let grows = log_words(&[Move::react(0, &[0, 1, 2, 3]), Move::react(1, &[0]), Move::commit(1)]);
     let begin = Move::react(0, &[0]);

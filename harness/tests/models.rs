@@ -26,15 +26,14 @@ const B: u32 = 5;
 fn example_8() -> Definitions {
     let begin = |from: u32, inside: u32| {
         vec![
-            Atom::new(role::CONSUME, 0, from, 0),
-            Atom::new(role::BEGIN, 0, 0, 0),
-            Atom::new(role::BODY, 1, inside, 0),
-            Atom::new(role::COMPENSATE, 1, Q, 0),
+            Atom::consume(from),
+            Atom::BEGIN,
+            Atom::received(role::BODY, inside, 0),
+            Atom::received(role::COMPENSATE, Q, 0),
         ]
     };
-    let join = |product: Atom| vec![Atom::new(role::CONSUME, 0, A, 0), Atom::new(role::CONSUME, 0, B, 0), product];
-    let rules =
-        vec![begin(C1, A), begin(C2, B), join(Atom::new(role::EMIT, 0, OK, 0)), join(Atom::new(role::ABORT, 0, 0, 0))];
+    let join = |product: Atom| vec![Atom::consume(A), Atom::consume(B), product];
+    let rules = vec![begin(C1, A), begin(C2, B), join(Atom::constant(role::EMIT, OK, 0)), join(Atom::ABORT)];
     Definitions::read(&Table { global: 4, local: 0, merge: 2, rules }.words()).unwrap()
 }
 
@@ -95,19 +94,18 @@ fn example_8_aborts() {
 #[test]
 fn example_8_has_one_colour() {
     let definitions = example_8();
-    let entries = vec![Entry::new(0, 0, C1, 1), Entry::new(0, 0, C2, 2), Entry::new(0, 0, C1, 3)];
+    let entries = vec![Entry::message(0, C1, 1), Entry::message(0, C2, 2), Entry::message(0, C1, 3)];
     let mut ordered = Ordered::read(&definitions, &State { next: 1, entries }.words()).unwrap();
     let moves =
         [Move::react(0, &[0]), Move::react(0, &[1]), Move::react(1, &[0]), Move::react(3, &[4, 7]), Move::abort(2)];
-    let history: Vec<Made> = moves
+    let mut history: Vec<Made> = moves
         .iter()
         .enumerate()
         .map(|(place, mv)| ordered.make_words(&definitions, &mv.words(), place, 1_024).unwrap())
         .collect();
-    // The first transaction is still open, so it is ended here by hand for the colouring.
-    let mut history_closed = history;
-    history_closed.push(Made::Ended { kind: act::ABORT, id: 1 });
-    assert_eq!(colours::colours(&history_closed), [Some(5), Some(4), Some(4), Some(4), Some(4), Some(5)]);
+    // Every scope needs a colour, and the first transaction is still open: it is ended by hand.
+    history.push(Made::Ended { kind: act::ABORT, id: 1 });
+    assert_eq!(colours::colours(&history), [Some(5), Some(4), Some(4), Some(4), Some(4), Some(5)]);
 }
 
 /// The molecules of a solution as entries, without any order.
@@ -117,8 +115,8 @@ fn molecules(solution: &Solution) -> Vec<Entry> {
     for (&id, transaction) in &solution.transactions {
         entries.extend(transaction.messages.values().map(message(id, kind::MESSAGE)));
         entries.extend(transaction.compensation.values().map(message(id, kind::COMPENSATION)));
-        entries.extend(transaction.aborts.iter().map(|_| Entry::new(id, kind::ABORT_MARK, 0, 0)));
-        entries.extend(transaction.members.values().map(|&member| Entry::new(id, kind::MEMBER_MARK, 0, member)));
+        entries.extend(transaction.aborts.iter().map(|_| Entry::abort_mark(id)));
+        entries.extend(transaction.members.values().map(|&member| Entry::member_mark(id, member)));
     }
     entries.sort_unstable();
     entries

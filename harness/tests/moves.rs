@@ -8,7 +8,7 @@ use harness::generate::states::state;
 use harness::generate::tables::{table, Shape};
 use harness::random::Random;
 use harness::two_lot::{self, case_a};
-use harness::words::{act, kind, mode, role, Atom, Entry, Move, State, Table};
+use harness::words::{act, role, Atom, Entry, Move, State, Table};
 
 fn react(rule: u32, picks: &[u32]) -> Vec<u32> {
     Move::react(rule, picks).words()
@@ -48,44 +48,38 @@ fn a_merge_takes_everything_of_each_transaction() {
     let state = State {
         next: 9,
         entries: vec![
-            Entry::new(7, kind::MESSAGE, 3, 70),
-            Entry::new(4, kind::MEMBER_MARK, 0, 4),
-            Entry::new(0, kind::MESSAGE, 1, 1),
-            Entry::new(7, kind::ABORT_MARK, 0, 0),
-            Entry::new(7, kind::MEMBER_MARK, 0, 7),
-            Entry::new(4, kind::MESSAGE, 3, 40),
-            Entry::new(7, kind::MEMBER_MARK, 0, 8),
-            Entry::new(7, kind::COMPENSATION, 0, 5),
-            Entry::new(7, kind::MESSAGE, 2, 6),
-            Entry::new(2, kind::MEMBER_MARK, 0, 2),
+            Entry::message(7, 3, 70),
+            Entry::member_mark(4, 4),
+            Entry::message(0, 1, 1),
+            Entry::abort_mark(7),
+            Entry::member_mark(7, 7),
+            Entry::message(4, 3, 40),
+            Entry::member_mark(7, 8),
+            Entry::compensation(7, 0, 5),
+            Entry::message(7, 2, 6),
+            Entry::member_mark(2, 2),
         ],
     };
     let expected = State {
         next: 9,
         entries: vec![
-            Entry::new(4, kind::MEMBER_MARK, 0, 4),
-            Entry::new(0, kind::MESSAGE, 1, 1),
-            Entry::new(4, kind::ABORT_MARK, 0, 0),
-            Entry::new(4, kind::MEMBER_MARK, 0, 7),
-            Entry::new(4, kind::MEMBER_MARK, 0, 8),
-            Entry::new(4, kind::COMPENSATION, 0, 5),
-            Entry::new(4, kind::MESSAGE, 2, 6),
-            Entry::new(2, kind::MEMBER_MARK, 0, 2),
-            Entry::new(4, kind::MESSAGE, 1, 70),
-            Entry::new(4, kind::MESSAGE, 1, 40),
+            Entry::member_mark(4, 4),
+            Entry::message(0, 1, 1),
+            Entry::abort_mark(4),
+            Entry::member_mark(4, 7),
+            Entry::member_mark(4, 8),
+            Entry::compensation(4, 0, 5),
+            Entry::message(4, 2, 6),
+            Entry::member_mark(2, 2),
+            Entry::message(4, 1, 70),
+            Entry::message(4, 1, 40),
         ],
     };
     gives(make_move(&table, &state.words(), &react(2, &[0, 5])), &expected.words());
     // An aborting transaction may still react and merge; after it only the smallest id names it.
     refused(make_move(&table, &expected.words(), &Move::abort(7).words()), 9);
-    let ended = State {
-        next: 9,
-        entries: vec![
-            Entry::new(0, kind::MESSAGE, 1, 1),
-            Entry::new(0, kind::MESSAGE, 0, 5),
-            Entry::new(2, kind::MEMBER_MARK, 0, 2),
-        ],
-    };
+    let ended =
+        State { next: 9, entries: vec![Entry::message(0, 1, 1), Entry::message(0, 0, 5), Entry::member_mark(2, 2)] };
     gives(make_move(&table, &expected.words(), &Move::abort(4).words()), &ended.words());
 }
 
@@ -96,21 +90,21 @@ fn a_commit_frees_messages_in_their_places() {
     let mut state = State {
         next: 4,
         entries: vec![
-            Entry::new(3, kind::COMPENSATION, 0, 1),
-            Entry::new(3, kind::MESSAGE, 1, 2),
-            Entry::new(0, kind::MESSAGE, 0, 3),
-            Entry::new(3, kind::MEMBER_MARK, 0, 3),
-            Entry::new(3, kind::MESSAGE, 0, 4),
+            Entry::compensation(3, 0, 1),
+            Entry::message(3, 1, 2),
+            Entry::message(0, 0, 3),
+            Entry::member_mark(3, 3),
+            Entry::message(3, 0, 4),
         ],
     };
-    let freed = [Entry::new(0, 0, 1, 2), Entry::new(0, 0, 0, 3), Entry::new(0, 0, 0, 4)];
+    let freed = [Entry::message(0, 1, 2), Entry::message(0, 0, 3), Entry::message(0, 0, 4)];
     let end = State { next: 4, entries: freed.to_vec() };
     gives(make_move(&table, &state.words(), &Move::commit(3).words()), &end.words());
     for port in [2, 3] {
         state.entries[4].port = port;
         refused(make_move(&table, &state.words(), &Move::commit(3).words()), 10);
     }
-    state.entries[4] = Entry::new(3, kind::ABORT_MARK, 0, 0);
+    state.entries[4] = Entry::abort_mark(3);
     refused(make_move(&table, &state.words(), &Move::commit(3).words()), 10);
 }
 
@@ -122,17 +116,17 @@ fn owners_and_kinds_of_picks() {
         global: 1,
         local: 1,
         merge: 0,
-        rules: vec![vec![Atom::new(0, 0, 0, 0)], vec![Atom::new(0, 0, 1, 0), Atom::new(0, 0, 1, 0)]],
+        rules: vec![vec![Atom::consume(0)], vec![Atom::consume(1), Atom::consume(1)]],
     };
     let entries = vec![
-        Entry::new(1, kind::MEMBER_MARK, 0, 1),
-        Entry::new(2, kind::MEMBER_MARK, 0, 2),
-        Entry::new(1, kind::MESSAGE, 0, 5),
-        Entry::new(1, kind::COMPENSATION, 0, 5),
-        Entry::new(1, kind::MESSAGE, 1, 5),
-        Entry::new(2, kind::MESSAGE, 1, 5),
-        Entry::new(1, kind::MESSAGE, 1, 6),
-        Entry::new(1, kind::ABORT_MARK, 0, 0),
+        Entry::member_mark(1, 1),
+        Entry::member_mark(2, 2),
+        Entry::message(1, 0, 5),
+        Entry::compensation(1, 0, 5),
+        Entry::message(1, 1, 5),
+        Entry::message(2, 1, 5),
+        Entry::message(1, 1, 6),
+        Entry::abort_mark(1),
     ];
     let (table, state) = (table.words(), State { next: 3, entries }.words());
     refused(make_move(&table, &state, &react(0, &[2])), 8);
@@ -147,28 +141,28 @@ fn owners_and_kinds_of_picks() {
 #[test]
 fn products_of_a_begin() {
     let rule = vec![
-        Atom::new(role::CONSUME, 0, 0, 0),
-        Atom::new(role::CONSUME, 0, 1, 0),
-        Atom::new(role::EMIT, mode::RECEIVED, 1, 1),
-        Atom::new(role::BEGIN, 0, 0, 0),
-        Atom::new(role::BODY, mode::RECEIVED, 2, 0),
-        Atom::new(role::BODY, mode::CONSTANT, 0, 65_535),
-        Atom::new(role::COMPENSATE, mode::RECEIVED, 0, 1),
-        Atom::new(role::ABORT, 0, 0, 0),
+        Atom::consume(0),
+        Atom::consume(1),
+        Atom::received(role::EMIT, 1, 1),
+        Atom::BEGIN,
+        Atom::received(role::BODY, 2, 0),
+        Atom::constant(role::BODY, 0, 65_535),
+        Atom::received(role::COMPENSATE, 0, 1),
+        Atom::ABORT,
     ];
     let table = Table { global: 2, local: 1, merge: 0, rules: vec![rule] };
     let state =
-        State { next: 40, entries: vec![Entry::new(0, 0, 1, 11), Entry::new(0, 0, 0, 3), Entry::new(0, 0, 0, 22)] };
+        State { next: 40, entries: vec![Entry::message(0, 1, 11), Entry::message(0, 0, 3), Entry::message(0, 0, 22)] };
     let end = State {
         next: 41,
         entries: vec![
-            Entry::new(0, 0, 0, 3),
-            Entry::new(0, 0, 1, 11),
-            Entry::new(40, kind::MEMBER_MARK, 0, 40),
-            Entry::new(40, kind::MESSAGE, 2, 22),
-            Entry::new(40, kind::MESSAGE, 0, 65_535),
-            Entry::new(40, kind::COMPENSATION, 0, 11),
-            Entry::new(40, kind::ABORT_MARK, 0, 0),
+            Entry::message(0, 0, 3),
+            Entry::message(0, 1, 11),
+            Entry::member_mark(40, 40),
+            Entry::message(40, 2, 22),
+            Entry::message(40, 0, 65_535),
+            Entry::compensation(40, 0, 11),
+            Entry::abort_mark(40),
         ],
     };
     gives(make_move(&table.words(), &state.words(), &react(0, &[2, 0])), &end.words());
@@ -241,7 +235,7 @@ fn random_changed_moves() {
         let most = random.pick(&[6, 20, 60, 1_024]);
         let mut state = state(&mut random, &table, most, true);
         if round % 8 == 0 && table.global > 0 {
-            state.entries.resize(1_024, Entry::new(0, 0, 0, 1));
+            state.entries.resize(1_024, Entry::message(0, 0, 1));
         }
         let mv = changed(&mut random, &table, &state);
         answers[make_move(&table.words(), &state.words(), &mv).0.number() as usize] += 1;
@@ -294,11 +288,11 @@ fn words_of_a_move() {
 #[test]
 fn limits_of_a_move() {
     let grow = |gives: usize| {
-        let mut rule = vec![Atom::new(0, 0, 0, 0); 4];
-        rule.extend(vec![Atom::new(1, 0, 0, 1); gives]);
+        let mut rule = vec![Atom::consume(0); 4];
+        rule.extend(vec![Atom::constant(role::EMIT, 0, 1); gives]);
         Table { global: 1, local: 0, merge: 0, rules: vec![rule] }.words()
     };
-    let full = |n: usize| State { next: 1, entries: vec![Entry::new(0, 0, 0, 1); n] }.words();
+    let full = |n: usize| State { next: 1, entries: vec![Entry::message(0, 0, 1); n] }.words();
     let mv = react(0, &[1_019, 3, 0, 700]);
     // Four go and four come in a full state; one more is too many.
     assert_eq!(make_move(&grow(4), &full(1_024), &mv).0, Answer::Accepted(2_050));
@@ -333,11 +327,11 @@ fn targets_of_a_move() {
 fn faulty(faults: &[u32], reaction: bool) -> ([Vec<u32>; 3], usize) {
     let has = |number| faults.contains(&number);
     let begin = vec![
-        Atom::new(role::CONSUME, 0, 0, 0),
-        Atom::new(role::CONSUME, 0, 0, 0),
-        Atom::new(role::BEGIN, 0, 0, 0),
-        Atom::new(role::BODY, 0, 1, 0),
-        Atom::new(role::BODY, 0, 1, 0),
+        Atom::consume(0),
+        Atom::consume(0),
+        Atom::BEGIN,
+        Atom::constant(role::BODY, 1, 0),
+        Atom::constant(role::BODY, 1, 0),
     ];
     let other = vec![Atom::new(role::CONSUME, if has(2) { 1 } else { 0 }, 0, 0)];
     let mut table = Table { global: 1, local: 1, merge: 0, rules: vec![begin, other] }.words();
@@ -345,13 +339,13 @@ fn faulty(faults: &[u32], reaction: bool) -> ([Vec<u32>; 3], usize) {
         table.push(0);
     }
     let mut entries = vec![
-        Entry::new(0, kind::MESSAGE, 0, 1),
-        Entry::new(if has(8) { 3 } else { 0 }, kind::MESSAGE, 0, 2),
-        Entry::new(3, kind::MEMBER_MARK, 0, 3),
-        Entry::new(3, kind::MESSAGE, if has(10) { 1 } else { 0 }, 2),
+        Entry::message(0, 0, 1),
+        Entry::message(if has(8) { 3 } else { 0 }, 0, 2),
+        Entry::member_mark(3, 3),
+        Entry::message(3, if has(10) { 1 } else { 0 }, 2),
     ];
     let n = if has(12) { 1_024 } else { 900 };
-    entries.resize(n, Entry::new(0, kind::MESSAGE, 0, 9));
+    entries.resize(n, Entry::message(0, 0, 9));
     if has(4) {
         entries[n - 1].kind = 4;
     }

@@ -308,7 +308,7 @@ fn a_refused_move_is_the_last_line() {
         &input(&table, &[1, 65_536, 0, 7], &log_words(&case_a()[..1])),
         "moves 1 entries 1 next 65536\n0 11 1 65536\n",
     );
-    let full = State { next: 1, entries: vec![Entry::new(0, 0, 0, 7); 1_024] };
+    let full = State { next: 1, entries: vec![Entry::message(0, 0, 7); 1_024] };
     prints(&input(&table, &full.words(), &log_words(&case_a()[..1])), "moves 1 entries 1024 next 1\n0 12 1024 1\n");
 }
 

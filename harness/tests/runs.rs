@@ -9,7 +9,7 @@ use harness::generate::states::{messages, state};
 use harness::generate::tables::{table, Shape};
 use harness::random::Random;
 use harness::two_lot::{self, case_a};
-use harness::words::{log_words, Atom, Entry, Move, State, Table};
+use harness::words::{log_words, role, Atom, Entry, Move, State, Table};
 
 // Catches a run that makes only its first move, gives the start back, has one fixed end, or goes on
 // after a refused move.
@@ -81,7 +81,7 @@ fn a_changed_move_is_named() {
         let table = table(&mut random, if round % 2 == 0 { Shape::Small } else { Shape::Closable });
         let mut start = state(&mut random, &table, 30, true);
         if round % 4 == 0 {
-            start.entries.resize(random.pick(&[1_015, 1_024]), Entry::new(0, 0, 0, 1));
+            start.entries.resize(random.pick(&[1_015, 1_024]), Entry::message(0, 0, 1));
         }
         if round % 6 == 1 {
             start.next = random.pick(&[65_534, 65_535, 65_536]);
@@ -140,9 +140,9 @@ fn words_of_a_log() {
 #[test]
 fn limits_of_a_log() {
     let table =
-        Table { global: 1, local: 0, merge: 0, rules: vec![vec![Atom::new(0, 0, 0, 0), Atom::new(1, 1, 0, 0)]] }
+        Table { global: 1, local: 0, merge: 0, rules: vec![vec![Atom::consume(0), Atom::received(role::EMIT, 0, 0)]] }
             .words();
-    let start = State { next: 1, entries: vec![Entry::new(0, 0, 0, 3), Entry::new(0, 0, 0, 4)] }.words();
+    let start = State { next: 1, entries: vec![Entry::message(0, 0, 3), Entry::message(0, 0, 4)] }.words();
     let log = |k: usize| log_words(&vec![Move::react(0, &[0]); k]);
     gives(run(&table, &start, &log(1_024)), &start);
     gives(run(&table, &start, &log(1_023)), &[2, 1, 0, 0, 4, 3]);

@@ -9,7 +9,7 @@ use harness::generate::states::{messages, state};
 use harness::generate::tables::{table, Shape};
 use harness::random::Random;
 use harness::two_lot::{self, case_d};
-use harness::words::{act, kind, log_from_words, log_words, role, Atom, Entry, Move, State, Table};
+use harness::words::{act, log_from_words, log_words, role, Atom, Entry, Move, State, Table};
 
 // Catches a copied log called serial, and blocks in the order of begins instead of ends.
 #[test]
@@ -96,7 +96,7 @@ fn random_closed_logs() {
 
 /// The place of the transaction's message on the merge port 1.
 fn offer(walk: &Walk, id: u32) -> u32 {
-    let offers = |entry: &Entry| *entry == Entry::new(id, kind::MESSAGE, 1, entry.value);
+    let offers = |entry: &Entry| *entry == Entry::message(id, 1, entry.value);
     walk.state.entries.iter().position(offers).expect("an offer") as u32
 }
 
@@ -104,22 +104,22 @@ fn offer(walk: &Walk, id: u32) -> u32 {
 // order, by twos or all at once, and end by a commit or an abort.
 #[test]
 fn merges_in_every_order() {
-    let consume = |port, count: usize| vec![Atom::new(role::CONSUME, 0, port, 0); count];
+    let consume = |port, count: usize| vec![Atom::consume(port); count];
     let with = |mut rule: Vec<Atom>, more: &[Atom]| {
         rule.extend(more);
         rule
     };
-    let offer_again = Atom::new(role::EMIT, 1, 1, 0);
-    let begin = [Atom::new(role::BEGIN, 0, 0, 0), Atom::new(role::BODY, 1, 1, 0), Atom::new(role::COMPENSATE, 1, 0, 0)];
+    let offer_again = Atom::received(role::EMIT, 1, 0);
+    let begin = [Atom::BEGIN, Atom::received(role::BODY, 1, 0), Atom::received(role::COMPENSATE, 0, 0)];
     let rules = vec![
         with(consume(0, 1), &begin),
         with(consume(1, 2), &[offer_again]),
         with(consume(1, 4), &[offer_again]),
-        with(consume(1, 1), &[Atom::new(role::EMIT, 1, 0, 0)]),
-        with(consume(1, 1), &[Atom::new(role::ABORT, 0, 0, 0)]),
+        with(consume(1, 1), &[Atom::received(role::EMIT, 0, 0)]),
+        with(consume(1, 1), &[Atom::ABORT]),
     ];
     let table = Table { global: 1, local: 0, merge: 1, rules };
-    let start = State { next: 1, entries: (10..15).map(|value| Entry::new(0, 0, 0, value)).collect() };
+    let start = State { next: 1, entries: (10..15).map(|value| Entry::message(0, 0, value)).collect() };
     for number in 0..4u32.pow(4) {
         let order: Vec<u32> = (0..4).map(|digit| 1 + number / 4u32.pow(digit) % 4).collect();
         if (1..=4).any(|id| !order.contains(&id)) {
@@ -204,8 +204,8 @@ fn the_limit_of_a_serial_order() {
     let table = shrinking();
     let log = [Move::react(0, &[0, 1, 2, 3]), Move::react(1, &[0]), Move::commit(1)];
     let start = |n: usize| {
-        let mut entries = vec![Entry::new(0, 0, 1, 5); n];
-        entries[..4].fill(Entry::new(0, 0, 0, 5));
+        let mut entries = vec![Entry::message(0, 1, 5); n];
+        entries[..4].fill(Entry::message(0, 0, 5));
         State { next: 1, entries }
     };
     for (n, number) in [(1_022, 0), (1_023, 0), (1_024, 17)] {
@@ -219,8 +219,8 @@ fn the_limit_of_a_serial_order() {
 // Catches 17 for a log that itself outgrows the limit: its own refusal counts.
 #[test]
 fn an_outgrown_log_is_refused_first() {
-    let mut entries = vec![Entry::new(0, 0, 1, 5); 1_024];
-    entries[..4].fill(Entry::new(0, 0, 0, 5));
+    let mut entries = vec![Entry::message(0, 1, 5); 1_024];
+    entries[..4].fill(Entry::message(0, 0, 5));
     let log = [Move::react(1, &[4]), Move::react(0, &[0, 1, 2, 3]), Move::commit(1)];
     let (answer, _) = serialize(&shrinking().words(), &State { next: 1, entries }.words(), &log_words(&log));
     assert_eq!(answer, Answer::MoveRefused { place: 0, own: 12 });
@@ -230,9 +230,9 @@ fn an_outgrown_log_is_refused_first() {
 // open at once, in 1,024 entries, and end in the opposite order.
 #[test]
 fn the_longest_log() {
-    let rule = vec![Atom::new(role::CONSUME, 0, 0, 0), Atom::new(role::BEGIN, 0, 0, 0), Atom::new(role::BODY, 1, 0, 0)];
+    let rule = vec![Atom::consume(0), Atom::BEGIN, Atom::received(role::BODY, 0, 0)];
     let table = Table { global: 1, local: 0, merge: 0, rules: vec![rule] };
-    let start = State { next: 65_024, entries: (0..512).map(|value| Entry::new(0, 0, 0, value)).collect() };
+    let start = State { next: 65_024, entries: (0..512).map(|value| Entry::message(0, 0, value)).collect() };
     let begins = (0..512).map(|_| Move::react(0, &[0]));
     let ends = (0..512).rev().map(|number| Move::commit(65_024 + number));
     let log: Vec<Move> = begins.chain(ends).collect();
@@ -248,14 +248,14 @@ fn the_longest_log() {
 // it, because the growth outside now comes before the begin and not after the work inside.
 #[test]
 fn a_block_that_outgrows() {
-    let mut begin = vec![Atom::new(role::CONSUME, 0, 0, 0), Atom::new(role::BEGIN, 0, 0, 0)];
-    begin.extend(vec![Atom::new(role::BODY, 0, 1, 0); 4]);
-    let mut grow = vec![Atom::new(role::CONSUME, 0, 0, 0)];
-    grow.extend(vec![Atom::new(role::EMIT, 0, 0, 0); 5]);
-    let shrink = vec![Atom::new(role::CONSUME, 0, 1, 0); 4];
+    let mut begin = vec![Atom::consume(0), Atom::BEGIN];
+    begin.extend(vec![Atom::constant(role::BODY, 1, 0); 4]);
+    let mut grow = vec![Atom::consume(0)];
+    grow.extend(vec![Atom::constant(role::EMIT, 0, 0); 5]);
+    let shrink = vec![Atom::consume(1); 4];
     let table = Table { global: 1, local: 1, merge: 0, rules: vec![begin, shrink, grow] };
     for (n, number) in [(1_015, 0), (1_016, 0), (1_017, 17), (1_020, 17)] {
-        let start = State { next: 1, entries: vec![Entry::new(0, 0, 0, 1); n as usize] };
+        let start = State { next: 1, entries: vec![Entry::message(0, 0, 1); n as usize] };
         let log =
             [Move::react(0, &[0]), Move::react(1, &[n, n + 1, n + 2, n + 3]), Move::react(2, &[0]), Move::commit(1)];
         assert_eq!(run(&table.words(), &start.words(), &log_words(&log)).0.number(), 0, "{n}");
@@ -293,9 +293,9 @@ fn equal_messages_are_told_apart() {
 fn an_emitting_begin_is_refused() {
     let (mut table, start) = (Table::from_words(&two_lot::table()).unwrap(), two_lot::start());
     gives(serialize(&table.words(), &start, &[0]), &[0]);
-    table.rules.push(vec![Atom::new(0, 0, 1, 0), Atom::new(1, 0, 1, 4)]);
+    table.rules.push(vec![Atom::consume(1), Atom::constant(role::EMIT, 1, 4)]);
     gives(serialize(&table.words(), &start, &[0]), &[0]);
-    table.rules.push(vec![Atom::new(0, 0, 1, 0), Atom::new(1, 0, 1, 4), Atom::new(2, 0, 0, 0)]);
+    table.rules.push(vec![Atom::consume(1), Atom::constant(role::EMIT, 1, 4), Atom::BEGIN]);
     refused(serialize(&table.words(), &start, &[0]), 14);
     refused(serialize(&table.words(), &start, &log_words(&case_d())), 14);
 }
@@ -364,7 +364,7 @@ fn the_first_fault_counts() {
         let has = |number| faults.contains(&number);
         let mut rules = shrinking();
         if has(14) {
-            rules.rules.push(vec![Atom::new(0, 0, 0, 0), Atom::new(1, 0, 0, 0), Atom::new(2, 0, 0, 0)]);
+            rules.rules.push(vec![Atom::consume(0), Atom::constant(role::EMIT, 0, 0), Atom::BEGIN]);
         }
         let mut table = rules.words();
         if has(2) {
@@ -373,10 +373,10 @@ fn the_first_fault_counts() {
         if has(1) {
             table.push(0);
         }
-        let mut entries = vec![Entry::new(0, 0, 1, 5); if has(17) { 1_024 } else { 1_000 }];
-        entries[..8].fill(Entry::new(0, 0, 0, 5));
+        let mut entries = vec![Entry::message(0, 1, 5); if has(17) { 1_024 } else { 1_000 }];
+        entries[..8].fill(Entry::message(0, 0, 5));
         if has(150) {
-            entries[9] = Entry::new(1, 3, 0, 1);
+            entries[9] = Entry::member_mark(1, 1);
         }
         if has(4) {
             entries[10].kind = 9;

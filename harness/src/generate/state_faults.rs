@@ -29,10 +29,7 @@ impl StateFault {
                 // The length fits and the entries are right.
                 (table.global > 0).then_some(())?;
                 let mut state = state.clone();
-                state.entries.resize(
-                    random.pick(&[MAX_ENTRIES + 1, MAX_ENTRIES + 2, 2_000]),
-                    Entry::new(0, kind::MESSAGE, 0, 1),
-                );
+                state.entries.resize(random.pick(&[MAX_ENTRIES + 1, MAX_ENTRIES + 2, 2_000]), Entry::message(0, 0, 1));
                 return Some(state.words());
             }
             CountHuge => words[0] = random.pick(&[1 << 31, (1 << 31) + state.entries.len() as u32, u32::MAX]),
@@ -90,13 +87,13 @@ impl StateFault {
             }
             GlobalOwnsAbortMark => {
                 let at = find(&free)?;
-                entries[at] = Entry::new(0, kind::ABORT_MARK, 0, 0);
+                entries[at] = Entry::abort_mark(0);
             }
             GlobalOwnsMemberMark => {
                 // The value is free, so that only the owner is wrong.
                 let at = find(&free)?;
                 let value = (1..next.min(65_536)).find(|value| entries.iter().all(|entry| entry.value != *value))?;
-                entries[at] = Entry::new(0, kind::MEMBER_MARK, 0, value);
+                entries[at] = Entry::member_mark(0, value);
             }
             MessagePortMissing => {
                 let at = find(&of(kind::MESSAGE))?;
@@ -149,7 +146,7 @@ impl StateFault {
                 let marks: Vec<u32> =
                     entries.iter().filter(|entry| entry.kind == kind::MEMBER_MARK).map(|entry| entry.value).collect();
                 let value = (1..owner).find(|value| !marks.contains(value))?;
-                entries.push(Entry::new(owner, kind::MEMBER_MARK, 0, value));
+                entries.push(Entry::member_mark(owner, value));
             }
             MemberNotBelowNext => {
                 // Highest member at, or one above, the next id.

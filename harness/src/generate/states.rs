@@ -17,7 +17,7 @@ pub fn state(random: &mut Random, table: &Table, most: usize, open: bool) -> Sta
         }
     }
     while entries.len() < wanted && table.global > 0 {
-        entries.push(Entry::new(0, kind::MESSAGE, random.below(table.global), value(random)));
+        entries.push(Entry::message(0, random.below(table.global), value(random)));
     }
     let highest =
         entries.iter().filter(|entry| entry.kind == kind::MEMBER_MARK).map(|entry| entry.value).max().unwrap_or(0);
@@ -52,18 +52,18 @@ fn value(random: &mut Random) -> u32 {
 
 fn transaction(random: &mut Random, table: &Table, free: &mut Vec<u32>, wanted: usize, entries: &mut Vec<Entry>) {
     let Some(id) = free.pop() else { return };
-    entries.push(Entry::new(id, kind::MEMBER_MARK, 0, id));
+    entries.push(Entry::member_mark(id, id));
     let more = random.pick(&[0, 1, 3, 6, 12]).min(wanted - entries.len());
     for _ in 0..more {
         let entry = match random.below(10) {
             0 | 1 => {
                 // A merged member has a larger id.
                 let Some(member) = (!free.is_empty()).then(|| free.remove(random.index(free.len()))) else { continue };
-                Entry::new(id, kind::MEMBER_MARK, 0, member)
+                Entry::member_mark(id, member)
             }
-            2 if random.chance(40) => Entry::new(id, kind::ABORT_MARK, 0, 0),
-            3 if table.global > 0 => Entry::new(id, kind::COMPENSATION, random.below(table.global), value(random)),
-            _ if table.ports() > 0 => Entry::new(id, kind::MESSAGE, random.below(table.ports()), value(random)),
+            2 if random.chance(40) => Entry::abort_mark(id),
+            3 if table.global > 0 => Entry::compensation(id, random.below(table.global), value(random)),
+            _ if table.ports() > 0 => Entry::message(id, random.below(table.ports()), value(random)),
             _ => continue,
         };
         entries.push(entry);
@@ -72,6 +72,6 @@ fn transaction(random: &mut Random, table: &Table, free: &mut Vec<u32>, wanted: 
 
 /// Exactly `n` global messages and nothing open; the table has a global port.
 pub fn messages(random: &mut Random, table: &Table, n: usize) -> State {
-    let message = |random: &mut Random| Entry::new(0, kind::MESSAGE, random.below(table.global), value(random));
+    let message = |random: &mut Random| Entry::message(0, random.below(table.global), value(random));
     State { next: random.pick(&[1, 1, 7, 65_000]), entries: (0..n).map(|_| message(random)).collect() }
 }

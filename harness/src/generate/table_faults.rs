@@ -162,22 +162,22 @@ impl TableFault {
             FiveConsumes => {
                 (rule.len() + 5 - consumes <= 16).then_some(())?;
                 for _ in consumes..5 {
-                    rule.insert(0, Atom::new(role::CONSUME, 0, first, 0));
+                    rule.insert(0, Atom::consume(first));
                 }
             }
             SeventeenAtoms => {
                 let port = if table.global > 0 { 0 } else { first };
                 while rule.len() < 17 {
-                    add(rule, Atom::new(role::EMIT, 0, port, 3));
+                    add(rule, Atom::constant(role::EMIT, port, 3));
                 }
             }
             TwoBegins => {
                 (begins && short).then_some(())?;
-                add(rule, Atom::new(role::BEGIN, 0, 0, 0));
+                add(rule, Atom::BEGIN);
             }
             TwoAborts => {
                 place(rule, role::ABORT).filter(|_| short)?;
-                add(rule, Atom::new(role::ABORT, 0, 0, 0));
+                add(rule, Atom::ABORT);
             }
             MixedConsumes => {
                 (consumes >= 2).then_some(())?;
@@ -193,24 +193,24 @@ impl TableFault {
             BodyWithoutBegin | CompensateWithoutBegin | AbortWithoutBegin => {
                 (global && short && !begins).then_some(())?;
                 let atom = match self {
-                    BodyWithoutBegin => Atom::new(role::BODY, 0, first, 0),
-                    CompensateWithoutBegin => Atom::new(role::COMPENSATE, 0, first, 0),
-                    _ => Atom::new(role::ABORT, 0, 0, 0),
+                    BodyWithoutBegin => Atom::constant(role::BODY, first, 0),
+                    CompensateWithoutBegin => Atom::constant(role::COMPENSATE, first, 0),
+                    _ => Atom::ABORT,
                 };
                 add(rule, atom);
             }
             LocalRuleBegins | MergeRuleBegins => {
                 ((if self == LocalRuleBegins { local } else { merge }) && short).then_some(())?;
-                add(rule, Atom::new(role::BEGIN, 0, 0, 0));
+                add(rule, Atom::BEGIN);
             }
             LocalRuleHasBody | MergeRuleHasBody => {
                 ((if self == LocalRuleHasBody { local } else { merge }) && short).then_some(())?;
-                add(rule, Atom::new(role::BODY, 0, first, 0));
+                add(rule, Atom::constant(role::BODY, first, 0));
             }
             LocalRuleCompensates | MergeRuleCompensates => {
                 ((if self == LocalRuleCompensates { local } else { merge }) && short && table.global > 0)
                     .then_some(())?;
-                add(rule, Atom::new(role::COMPENSATE, 0, 0, 0));
+                add(rule, Atom::constant(role::COMPENSATE, 0, 0));
             }
             CompensateOffGlobal => {
                 (table.ports() > table.global).then_some(())?;

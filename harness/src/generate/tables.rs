@@ -1,6 +1,6 @@
 //! Random well-formed tables.
 use crate::random::Random;
-use crate::words::{mode, role, Atom, Table, MAX_ATOMS, MAX_PORTS, MAX_RULES};
+use crate::words::{role, Atom, Table, MAX_ATOMS, MAX_PORTS, MAX_RULES};
 
 /// What a table is for.
 #[derive(Clone, Copy, Debug, PartialEq, Eq)]
@@ -92,23 +92,18 @@ fn port(random: &mut Random, table: &Table, class: Class) -> u32 {
     first + random.below(count)
 }
 
-fn consume(port: u32) -> Atom {
-    Atom::new(role::CONSUME, mode::CONSTANT, port, 0)
-}
-
 /// An atom that sends a value on a port.
 fn sending(random: &mut Random, role: u32, port: u32, consumes: usize) -> Atom {
     if random.chance(60) {
-        Atom::new(role, mode::RECEIVED, port, random.index(consumes) as u32)
+        Atom::received(role, port, random.index(consumes) as u32)
     } else {
-        let value = random.pick(&[0, 1, 2, 7, 65_535]);
-        Atom::new(role, mode::CONSTANT, port, value)
+        Atom::constant(role, port, random.pick(&[0, 1, 2, 7, 65_535]))
     }
 }
 
 fn rule(random: &mut Random, table: &Table, class: Class, longest: usize, begin_emits: bool) -> Vec<Atom> {
     let consumes = random.pick(&[1, 1, 1, 2, 2, 3, 4]).min(longest);
-    let mut rule: Vec<Atom> = (0..consumes).map(|_| consume(port(random, table, class))).collect();
+    let mut rule: Vec<Atom> = (0..consumes).map(|_| Atom::consume(port(random, table, class))).collect();
     let begins = class == Class::Global && rule.len() < longest && random.chance(60);
     let emits = if begins && !begin_emits { 0 } else { random.index(longest - rule.len() - usize::from(begins) + 1) };
     for _ in 0..emits {
@@ -116,7 +111,7 @@ fn rule(random: &mut Random, table: &Table, class: Class, longest: usize, begin_
         rule.push(sending(random, role::EMIT, port, consumes));
     }
     if begins {
-        rule.push(Atom::new(role::BEGIN, 0, 0, 0));
+        rule.push(Atom::BEGIN);
         let contents = random.index(longest - rule.len() + 1);
         let bodies = random.index(contents + 1);
         for place in 0..contents {
@@ -130,7 +125,7 @@ fn rule(random: &mut Random, table: &Table, class: Class, longest: usize, begin_
     }
     let may_abort = (class != Class::Global || begins) && rule.len() < longest;
     if may_abort && random.chance(25) {
-        rule.push(Atom::new(role::ABORT, 0, 0, 0));
+        rule.push(Atom::ABORT);
     }
     rule
 }
@@ -138,7 +133,7 @@ fn rule(random: &mut Random, table: &Table, class: Class, longest: usize, begin_
 /// For each local and merge port, a rule that takes one message away from it.
 fn drains(random: &mut Random, table: &mut Table) {
     for drained in table.global..table.ports() {
-        let mut rule = vec![consume(drained)];
+        let mut rule = vec![Atom::consume(drained)];
         if random.chance(50) {
             let global = random.below(table.global);
             rule.push(sending(random, role::EMIT, global, 1));
@@ -149,7 +144,7 @@ fn drains(random: &mut Random, table: &mut Table) {
 
 /// A begin with one message inside, so that transactions are there to work on.
 fn begins(random: &mut Random, table: &mut Table) {
-    let mut rule = vec![consume(random.below(table.global)), Atom::new(role::BEGIN, 0, 0, 0)];
+    let mut rule = vec![Atom::consume(random.below(table.global)), Atom::BEGIN];
     let inside = random.below(table.ports());
     rule.push(sending(random, role::BODY, inside, 1));
     if table.merge > 0 {

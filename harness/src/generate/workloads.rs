@@ -1,7 +1,7 @@
 //! Inputs of chosen sizes, every move accepted: for the benchmark and for tests at full size.
 use super::logs::Walk;
 use crate::random::Random;
-use crate::words::{kind, mode, role, Atom, Entry, Move, State, Table};
+use crate::words::{kind, role, Atom, Entry, Move, State, Table};
 
 /// The rules that the logs use; they come last in a table, behind rules that only fill it.
 const RULES: u32 = 7;
@@ -32,14 +32,6 @@ impl Rule {
     }
 }
 
-fn received(role: u32, port: u32, consume: u32) -> Atom {
-    Atom::new(role, mode::RECEIVED, port, consume)
-}
-
-fn consume(port: u32) -> Atom {
-    Atom::new(role::CONSUME, 0, port, 0)
-}
-
 /// A table of this many rules (7 to 64) and atoms (24 to 512).
 pub fn table(rules: u32, atoms: usize) -> Table {
     let (global, local, merge) = if rules == RULES { (2, 1, 1) } else { (128, 64, 64) };
@@ -48,27 +40,32 @@ pub fn table(rules: u32, atoms: usize) -> Table {
     let filler = |number: usize| {
         // As even as it goes; a rule of fewer than three atoms only consumes and begins.
         let length = (atoms - ATOMS) * (number + 1) / fillers - (atoms - ATOMS) * number / fillers;
-        let mut rule = vec![consume(number as u32 % global), Atom::new(role::BEGIN, 0, 0, 0)];
+        let mut rule = vec![Atom::consume(number as u32 % global), Atom::BEGIN];
         for place in 2..length {
             let role = if place < length / 2 + 1 { role::BODY } else { role::COMPENSATE };
-            rule.push(received(role, place as u32 % global, 0));
+            rule.push(Atom::received(role, place as u32 % global, 0));
         }
         rule
     };
     let mut all: Vec<Vec<Atom>> = (0..fillers).map(filler).collect();
     all.extend([
         vec![
-            consume(0),
-            Atom::new(role::BEGIN, 0, 0, 0),
-            received(role::BODY, inside, 0),
-            received(role::COMPENSATE, 0, 0),
+            Atom::consume(0),
+            Atom::BEGIN,
+            Atom::received(role::BODY, inside, 0),
+            Atom::received(role::COMPENSATE, 0, 0),
         ],
-        vec![consume(inside), received(role::EMIT, join, 0)],
-        vec![consume(join), consume(join), received(role::EMIT, 0, 0), received(role::EMIT, join, 1)],
-        vec![consume(join), received(role::EMIT, 0, 0)],
-        vec![consume(join), Atom::new(role::ABORT, 0, 0, 0)],
-        vec![consume(0), received(role::EMIT, 0, 0)],
-        [[consume(0); 4], [0, 1, 2, 3].map(|which| received(role::EMIT, 0, which))].concat(),
+        vec![Atom::consume(inside), Atom::received(role::EMIT, join, 0)],
+        vec![
+            Atom::consume(join),
+            Atom::consume(join),
+            Atom::received(role::EMIT, 0, 0),
+            Atom::received(role::EMIT, join, 1),
+        ],
+        vec![Atom::consume(join), Atom::received(role::EMIT, 0, 0)],
+        vec![Atom::consume(join), Atom::ABORT],
+        vec![Atom::consume(0), Atom::received(role::EMIT, 0, 0)],
+        [[Atom::consume(0); 4], [0, 1, 2, 3].map(|which| Atom::received(role::EMIT, 0, which))].concat(),
     ]);
     let table = Table { global, local, merge, rules: all };
     assert_eq!((table.rules.len() as u32, table.atoms()), (rules, atoms));
@@ -77,7 +74,7 @@ pub fn table(rules: u32, atoms: usize) -> Table {
 
 /// `n` messages on port 0 of the global solution.
 pub fn messages(n: usize) -> State {
-    State { next: 1, entries: (0..n as u32).map(|value| Entry::new(0, kind::MESSAGE, 0, value)).collect() }
+    State { next: 1, entries: (0..n as u32).map(|value| Entry::message(0, 0, value)).collect() }
 }
 
 /// A log of `k` reactions by global rules.
@@ -168,15 +165,15 @@ pub fn merge_log(random: &mut Random, table: &Table, n: usize, k: usize) -> (Sta
 
 /// `n` entries (16 or more) of two transactions and the global solution, these first.
 pub fn mixed(front: &[Entry], n: usize) -> State {
-    let marks = [Entry::new(1, kind::MEMBER_MARK, 0, 1), Entry::new(2, kind::MEMBER_MARK, 0, 2)];
+    let marks = [Entry::member_mark(1, 1), Entry::member_mark(2, 2)];
     let rest = [
-        Entry::new(0, kind::MESSAGE, 0, 3),
-        Entry::new(1, kind::MESSAGE, 1, 4),
-        Entry::new(0, kind::MESSAGE, 0, 5),
-        Entry::new(2, kind::COMPENSATION, 1, 6),
-        Entry::new(2, kind::MESSAGE, 0, 7),
-        Entry::new(0, kind::MESSAGE, 0, 8),
-        Entry::new(1, kind::COMPENSATION, 0, 9),
+        Entry::message(0, 0, 3),
+        Entry::message(1, 1, 4),
+        Entry::message(0, 0, 5),
+        Entry::compensation(2, 1, 6),
+        Entry::message(2, 0, 7),
+        Entry::message(0, 0, 8),
+        Entry::compensation(1, 0, 9),
     ];
     let entries = front.iter().copied().chain(marks).chain(rest.into_iter().cycle());
     State { next: 3, entries: entries.take(n).collect() }
@@ -184,7 +181,7 @@ pub fn mixed(front: &[Entry], n: usize) -> State {
 
 /// `n` entries, each the mark of a transaction of its own.
 pub fn members(n: usize) -> State {
-    let mark = |id| Entry::new(id, kind::MEMBER_MARK, 0, id);
+    let mark = |id| Entry::member_mark(id, id);
     State { next: n as u32 + 1, entries: (1..=n as u32).map(mark).collect() }
 }
 
@@ -194,13 +191,13 @@ pub fn single_moves(table: &Table, n: usize) -> Vec<(&'static str, State, Move)>
     let plain = mixed(&[], n);
     let free = places(&plain, |entry| entry.owner == 0);
     let spread = [free[free.len() - 1], free[0], free[free.len() / 2], free[1]];
-    let message = |owner, port| Entry::new(owner, kind::MESSAGE, port, 1);
+    let message = |owner, port| Entry::message(owner, port, 1);
     vec![
         ("global", plain.clone(), Move::react(Rule::Four.of(table), &spread)),
         ("begin", plain.clone(), Move::react(Rule::Begin.of(table), &[free[0]])),
         ("local", mixed(&[message(1, inside)], n), Move::react(Rule::Prepare.of(table), &[0])),
         ("merge", mixed(&[message(2, join), message(1, join)], n), Move::react(Rule::Merge.of(table), &[0, 1])),
         ("commit", plain, Move::commit(1)),
-        ("abort", mixed(&[Entry::new(1, kind::ABORT_MARK, 0, 0)], n), Move::abort(1)),
+        ("abort", mixed(&[Entry::abort_mark(1)], n), Move::abort(1)),
     ]
 }

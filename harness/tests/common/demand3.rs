@@ -106,11 +106,11 @@ impl<'a> Tracker<'a> {
                 role::BEGIN => {
                     owner = self.next;
                     self.next += 1;
-                    Entry::new(owner, kind::MEMBER_MARK, 0, owner)
+                    Entry::member_mark(owner, owner)
                 }
-                role::COMPENSATE => Entry::new(owner, kind::COMPENSATION, atom.port, value),
-                role::ABORT => Entry::new(owner, kind::ABORT_MARK, 0, 0),
-                _ => Entry::new(owner, kind::MESSAGE, atom.port, value),
+                role::COMPENSATE => Entry::compensation(owner, atom.port, value),
+                role::ABORT => Entry::abort_mark(owner),
+                _ => Entry::message(owner, atom.port, value),
             };
             self.entries.push(Tracked { entry, origin: (place + 1, number) });
         }

@@ -109,8 +109,8 @@ pub fn shrinking() -> Table {
         local: 0,
         merge: 0,
         rules: vec![
-            vec![Atom::new(role::CONSUME, 0, 0, 0); 4].into_iter().chain([Atom::new(role::BEGIN, 0, 0, 0)]).collect(),
-            vec![Atom::new(role::CONSUME, 0, 1, 0), Atom::new(role::EMIT, 1, 1, 0), Atom::new(role::EMIT, 1, 1, 0)],
+            vec![Atom::consume(0); 4].into_iter().chain([Atom::BEGIN]).collect(),
+            vec![Atom::consume(1), Atom::received(role::EMIT, 1, 0), Atom::received(role::EMIT, 1, 0)],
         ],
     }
 }
