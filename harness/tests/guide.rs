@@ -181,10 +181,7 @@ fn refusals() -> String {
     let full = State { next: 1, entries: vec![Entry::message(0, 0, 7); 1_024] }.words();
     let mut begin_emits = Table::from_words(&table).unwrap();
     begin_emits.rules.push(vec![Atom::consume(1), Atom::constant(role::EMIT, 1, 4), Atom::BEGIN]);
-    let mut growing = vec![Entry::message(0, 1, 5); 1_024];
-    growing[..4].fill(Entry::message(0, 0, 5));
-    let growing = State { next: 1, entries: growing }.words();
-    let grows = log_words(&[Move::react(0, &[0, 1, 2, 3]), Move::react(1, &[0]), Move::commit(1)]);
+    let (shrinking, large, outgrown) = shrinking(1_024);
     let begin = Move::react(0, &[0]);
     let calls = [
         ("check_table", "the table", check_table(&table)),
@@ -211,7 +208,7 @@ fn refusals() -> String {
         (
             "serialize",
             "on 1024 entries: a begin that takes 4, a move that adds 1, the commit",
-            serialize(&shrinking().words(), &growing, &grows).0,
+            serialize(&shrinking.words(), &large.words(), &log_words(&outgrown)).0,
         ),
     ];
     let line = |(number, (call, what, answer)): (usize, (&str, &str, Answer))| {

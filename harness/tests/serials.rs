@@ -197,32 +197,25 @@ fn random_logs_near_the_limit() {
     assert!(outgrown > 10 && outgrown < 140, "{outgrown}");
 }
 
-// Catches a limit of 17 that is off by one: in serial order the begin, which shrinks the state,
-// comes after the growth.
+// Catches a limit of 17 that is off by one.
 #[test]
 fn the_limit_of_a_serial_order() {
-    let table = shrinking();
-    let log = [Move::react(0, &[0, 1, 2, 3]), Move::react(1, &[0]), Move::commit(1)];
-    let start = |n: usize| {
-        let mut entries = vec![Entry::message(0, 1, 5); n];
-        entries[..4].fill(Entry::message(0, 0, 5));
-        State { next: 1, entries }
-    };
     for (n, number) in [(1_022, 0), (1_023, 0), (1_024, 17)] {
-        assert_eq!(run(&table.words(), &start(n).words(), &log_words(&log)).0.number(), 0);
-        assert_eq!(demand3(&table, &start(n), &log).number(), number, "{n}");
+        let (table, start, log) = shrinking(n);
+        assert_eq!(run(&table.words(), &start.words(), &log_words(&log)).0.number(), 0);
+        assert_eq!(demand3(&table, &start, &log).number(), number, "{n}");
     }
+    let (table, start, log) = shrinking(1_023);
     let serial = [Move::react(1, &[4]), Move::react(0, &[0, 1, 2, 3]), Move::commit(1)];
-    gives(serialize(&table.words(), &start(1_023).words(), &log_words(&log)), &log_words(&serial));
+    gives(serialize(&table.words(), &start.words(), &log_words(&log)), &log_words(&serial));
 }
 
 // Catches 17 for a log that itself outgrows the limit: its own refusal counts.
 #[test]
 fn an_outgrown_log_is_refused_first() {
-    let mut entries = vec![Entry::message(0, 1, 5); 1_024];
-    entries[..4].fill(Entry::message(0, 0, 5));
+    let (table, start, _) = shrinking(1_024);
     let log = [Move::react(1, &[4]), Move::react(0, &[0, 1, 2, 3]), Move::commit(1)];
-    let (answer, _) = serialize(&shrinking().words(), &State { next: 1, entries }.words(), &log_words(&log));
+    let (answer, _) = serialize(&table.words(), &start.words(), &log_words(&log));
     assert_eq!(answer, Answer::MoveRefused { place: 0, own: 12 });
 }
 
@@ -362,7 +355,7 @@ fn the_first_fault_counts() {
     for set in 0..1u32 << ORDER.len() {
         let faults: Vec<u32> = (0..ORDER.len()).filter(|bit| set >> bit & 1 == 1).map(|bit| ORDER[bit]).collect();
         let has = |number| faults.contains(&number);
-        let mut rules = shrinking();
+        let (mut rules, ..) = shrinking(8);
         if has(14) {
             rules.rules.push(vec![Atom::consume(0), Atom::constant(role::EMIT, 0, 0), Atom::BEGIN]);
         }

@@ -7,7 +7,7 @@ use std::fs;
 use std::path::Path;
 
 use harness::answer::{Answer, OnTarget};
-use harness::words::{role, Atom, Table};
+use harness::words::{role, Atom, Entry, Move, State, Table};
 use harness::{library, model, plain, ROOT};
 
 const NAMES: [&str; 3] = ["model", "plain", "library"];
@@ -102,17 +102,18 @@ pub fn refused(result: (Answer, Vec<u32>), number: u32) {
     assert_eq!(result.0, Answer::Refused(number));
 }
 
-/// Rule 0 begins with four messages of port 0 and nothing inside; rule 1 makes one of port 1 two.
-pub fn shrinking() -> Table {
-    Table {
-        global: 2,
-        local: 0,
-        merge: 0,
-        rules: vec![
-            vec![Atom::consume(0); 4].into_iter().chain([Atom::BEGIN]).collect(),
-            vec![Atom::consume(1), Atom::received(role::EMIT, 1, 0), Atom::received(role::EMIT, 1, 0)],
-        ],
-    }
+/// A table, a start of `n` entries and a log whose serial order wants one entry more than the log:
+/// the begin takes four messages and comes first, in serial order after the growth by one.
+pub fn shrinking(n: usize) -> (Table, State, Vec<Move>) {
+    let begin = vec![Atom::consume(0); 4].into_iter().chain([Atom::BEGIN]).collect();
+    let grow = vec![Atom::consume(1), Atom::received(role::EMIT, 1, 0), Atom::received(role::EMIT, 1, 0)];
+    let mut entries = vec![Entry::message(0, 1, 5); n];
+    entries[..4].fill(Entry::message(0, 0, 5));
+    (
+        Table { global: 2, local: 0, merge: 0, rules: vec![begin, grow] },
+        State { next: 1, entries },
+        vec![Move::react(0, &[0, 1, 2, 3]), Move::react(1, &[0]), Move::commit(1)],
+    )
 }
 
 /// What the header says above a call, on one line.
