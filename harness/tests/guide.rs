@@ -4,7 +4,7 @@
 //! - `sh`: run from the repository's folder; the `text` block that follows is what it prints.
 //! - `sh not-run`: takes minutes or changes files, so only what it names is looked for.
 //! - `text LABEL`: what `generated` makes under this label.
-//! - `c PATH`, `rust PATH`: the file at this path.
+//! - `c PATH`, `rust PATH`: the file at this path; a command on the page compiles and runs it.
 mod common;
 
 use std::collections::BTreeMap;
@@ -16,7 +16,7 @@ use std::process::Command;
 use common::demand3::Demand3;
 use common::{check_state, check_table, gives, make_move, on_target, run, serialize, shrinking, MAKE_MOVE};
 use harness::answer::{order, Answer};
-use harness::markdown::{blocks, links, prose, rows};
+use harness::markdown::{blocks, links, prose, rows, Block};
 use harness::two_lot::{self, case_a, case_c, case_d, serial_d};
 use harness::words::{log_words, role, Atom, Entry, Move, State, Table};
 use harness::{apart, ROOT};
@@ -71,7 +71,16 @@ fn commands_not_run_are_there() {
     }
 }
 
-// Catches a block that no test holds to anything, and a program in a page that is not the file's.
+/// How a C program of a page is compiled.
+const STRICT: &str = "cc -std=c11 -Wall -Wextra -Wpedantic -Werror";
+
+/// Whether a page's command that is run has these words.
+fn runs(blocks: &[Block], words: &str) -> bool {
+    blocks.iter().any(|block| (block.language, block.label) == ("sh", "") && block.text.contains(words))
+}
+
+// Catches a block that no test holds to anything, and a program in a page that is not the file's or
+// that no command compiles and runs.
 #[test]
 fn every_block_is_held_to_something() {
     let generated = generated();
@@ -86,7 +95,15 @@ fn every_block_is_held_to_something() {
                 ("sh", "not-run") => {}
                 ("text", "") => assert_eq!(kind(place.wrapping_sub(1)), Some(("sh", "")), "{at}: printed by nothing"),
                 ("text", label) => assert!(generated.contains_key(label), "{at}: nothing makes {label:?}"),
-                ("c" | "rust", path) if !path.is_empty() => assert_eq!(block.text, file(path), "{at}"),
+                ("c", path) if !path.is_empty() => {
+                    assert_eq!(block.text, file(path), "{at}");
+                    assert!(runs(&blocks, &format!("{STRICT} -Iinclude {path} ")), "{at}: not compiled");
+                }
+                ("rust", path) if !path.is_empty() => {
+                    assert_eq!(block.text, file(path), "{at}");
+                    let name = Path::new(path).file_stem().unwrap().to_str().unwrap();
+                    assert!(runs(&blocks, &format!("--example {name}\n")), "{at}: not compiled");
+                }
                 kind => panic!("{at}: a block of kind {kind:?}"),
             }
         }
