@@ -1,5 +1,5 @@
 -- The single move, case by case.
-use Prim.Native.Nat.{ℕ, suc, _≤_, _<_}
+use Prim.Native.Nat.{ℕ, _≤_, _<_}
 use mathlib.Core.Bool.{Bool, true, false}
 use mathlib.Core.List.{List, [], _∷_}
 use mathlib.Core.Path.{_≡_, refl, sym, ap, _∙_}
@@ -8,8 +8,8 @@ use lib.ListN.{length, getD}
 use borrow.Author.Tests.{ne-eqb}
 use Rattle.semantics.specs.Table.{tableOf}
 use Rattle.semantics.specs.State.{stateOf}
-use Rattle.semantics.specs.Move.{unless, both, moveOk, Stepped, to, refused, stepWords}
-use Rattle.semantics.specs.Answers.{answerOf, outcomeOf, targetAfter, steppedResult, lineCeiling, stateVerdict, hasWords, moveResult, makeMove, makeMoveTarget}
+use Rattle.semantics.specs.Move.{unless, moveOk, Stepped, to, steppedBy, stepWords}
+use Rattle.semantics.specs.Answers.{answerOf, steppedResult, lineCeiling, stateVerdict, moveResult, makeMove, makeMoveTarget}
 use Rattle.semantics.specs.declared.Refusal.{Refusal}
 use Rattle.semantics.specs.declared.Refusal.the-variants.{MoveForm, TargetTooShort}
 use Rattle.semantics.specs.declared.Verdict.{Verdict}
@@ -17,18 +17,22 @@ use Rattle.semantics.specs.declared.Verdict.the-variants.{Allowed, Denied}
 use Rattle.semantics.specs.declared.Outcome.{Outcome}
 use Rattle.semantics.specs.declared.Outcome.the-variants.{Written, Refused}
 use Rattle.state.specs.declared.State.{State}
-use Rattle.state.specs.Working.{stateIn, Holds, Stored}
-use Rattle.run.specs.Moves.{Decoded, wordsOf}
-use Rattle.run.specs.declared.moves.Move.{Move}
+use Rattle.state.specs.Working.{stateIn, Stored}
+use Rattle.state.specs.Arrays.{HoldsIn}
+use Rattle.step.specs.Make as step
 use Rattle.calls.specs.Moves.{MovedAs}
 use Rattle.calls.proofs.Results.{denied-gives, allowed-gives, both-first, both-second, unless-false, unless-true, too-short, long-enough}
 
-module _ (t : List ℕ) (s : State) (w before : List ℕ) where
-  pub moved-refused : (q : Refusal) → stepWords lineCeiling (tableOf t) 1 (stateIn s) w ≡ refused q → MovedAs t s w before before (Refused q)
-  moved-refused q e = record { outcome = rw e; target = rw e }
+-- the move made on the loaded state
+module _ (t S w before : List ℕ) {v : Verdict} {s s′ : State} (loaded : HoldsIn s (stateOf S)) (made : step.MadeAs v lineCeiling (tableOf t) 1 w s s′) where
+  stepped : {u : Verdict} → v ≡ u → stepWords lineCeiling (tableOf t) 1 (stateOf S) w ≡ steppedBy u (stateIn s′)
+  stepped e = ap (λ x. stepWords lineCeiling (tableOf t) 1 x w) (sym (loaded .holds .value)) ∙ made .step ∙ rw e
 
-  pub moved-written : (s′ : State) (after : List ℕ) (n : ℕ) → stepWords lineCeiling (tableOf t) 1 (stateIn s) w ≡ to (stateIn s′) → Stored s′ before after n → MovedAs t s w before after (Written n)
-  moved-written s′ after n e k = record { outcome = rw (e, k .words); target = rw e (k .target) }
+  pub moved-refused : {q : Refusal} → v ≡ Denied q → MovedAs t S w before before (Refused q)
+  moved-refused e = record { outcome = rw (stepped e); target = rw (stepped e) }
+
+  pub moved-written : {after : List ℕ} {n : ℕ} → v ≡ Allowed → Stored s′ before after n → MovedAs t S w before after (Written n)
+  moved-written e k = record { outcome = rw (stepped e, k .words); target = rw (stepped e) (k .target) }
 
 -- five words, one by one
 pub five : (m : List ℕ) → length m ≡ 5 → getD m 0 0 ∷ getD m 1 0 ∷ getD m 2 0 ∷ getD m 3 0 ∷ getD m 4 0 ∷ [] ≡ m
@@ -40,14 +44,9 @@ five (a ∷ b ∷ c ∷ d ∷ []) h = absurd (omega arith)
 five (a ∷ b ∷ c ∷ d ∷ e ∷ []) h = refl
 five (a ∷ b ∷ c ∷ d ∷ e ∷ f ∷ m) h = absurd (omega arith)
 
--- a move that was read from five words
-module _ (t w : List ℕ) (m : Move) (d : Decoded m (tableOf t)) (long : length w ≡ 5)
-    (read : wordsOf m ≡ getD w 0 0 ∷ getD w 1 0 ∷ getD w 2 0 ∷ getD w 3 0 ∷ getD w 4 0 ∷ []) where
-  pub read-words : wordsOf m ≡ w
-  read-words = read ∙ five w long
-
-  pub read-form : (b : Bool) → m .ok ≡ b → moveOk (tableOf t) w ≡ b
-  read-form b e = ap (moveOk (tableOf t)) (sym read-words) ∙ sym (d .form) ∙ e
+-- their form, from what the code says of them
+pub form-read : (t m : List ℕ) → length m ≡ 5 → {b : Bool} → b ≡ moveOk (tableOf t) (getD m 0 0 ∷ getD m 1 0 ∷ getD m 2 0 ∷ getD m 3 0 ∷ getD m 4 0 ∷ []) → {u : Bool} → b ≡ u → moveOk (tableOf t) m ≡ u
+form-read t m long said e = ap (moveOk (tableOf t)) (sym (five m long)) ∙ sym said ∙ e
 
 -- what `make_move` says
 abbrev pub MadeAs : List ℕ → List ℕ → List ℕ → List ℕ → List ℕ → Outcome → Type 0
@@ -76,11 +75,9 @@ module _ (t s m before : List ℕ) where
           denied-gives _ _ before TargetTooShort
           (both-second (stateVerdict t s) _ _ ok (both-second (unless (moveOk (tableOf t) m) MoveForm) _ _ (unless-true (moveOk (tableOf t) m) MoveForm form) (too-short 2050 before h)))
 
-      pub make-done : 2050 ≤ length before → (x : State) → Holds x (stateOf s) → (after : List ℕ) (o : Outcome) → MovedAs t x m before after o → MadeAs t s m before after o
+      pub make-done : 2050 ≤ length before → {after : List ℕ} {o : Outcome} → MovedAs t s m before after o → MadeAs t s m before after o
       unfolding makeMove makeMoveTarget moveResult
-      make-done h x held after o f =
-          let same : stepWords lineCeiling (tableOf t) 1 (stateIn x) m ≡ stepWords lineCeiling (tableOf t) 1 (stateOf s) m = rw (held .value) in
-          allowed-gives _ (steppedResult (stepWords lineCeiling (tableOf t) 1 (stateOf s) m)) before after o
+      make-done h f =
+          allowed-gives _ (steppedResult (stepWords lineCeiling (tableOf t) 1 (stateOf s) m)) before _ _
           (both-second (stateVerdict t s) _ _ ok (both-second (unless (moveOk (tableOf t) m) MoveForm) _ _ (unless-true (moveOk (tableOf t) m) MoveForm form) (long-enough 2050 before h)))
-          (f .outcome ∙ ap (λ (y : Stepped). outcomeOf (steppedResult y)) same)
-          (f .target ∙ ap (λ (y : Stepped). targetAfter (steppedResult y) before) same)
+          (f .outcome) (f .target)

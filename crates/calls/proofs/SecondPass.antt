@@ -21,11 +21,13 @@ use Rattle.log.specs.Form.{Sized, sized}
 use Rattle.semantics.specs.Move.{Move}
 use Rattle.wellformed.specs.Verdicts.{state-given}
 use Rattle.state.specs.declared.State.{State}
-use Rattle.state.specs.Working.{stateIn, Holds}
+use Rattle.state.specs.Working.{stateIn}
+use Rattle.state.specs.Arrays.{HoldsIn}
+use Rattle.run.specs.Whole.{words-indexed, loaded-workable}
 use Rattle.serial.specs.Replay.{Replayable, Arranged, ReplayedAs}
-use Rattle.calls.proofs.Running.{loaded-bounded}
 use Rattle.serial.specs.Acts.{Recorded, endAfter}
 use Rattle.serial.specs.Order.{arrangedBy}
+use Rattle.serial.specs.Starts.{Keys}
 use Rattle.serial.specs.KeysFor.{Keyable, KeysOf}
 use Rattle.serial_laws.specs.Places.{noAct}
 use Rattle.serial_laws.specs.Keys.{Told, keysBy, recorded-told}
@@ -127,51 +129,48 @@ module _ (t index s l origins members ends target : List ℕ) (k : Reorderable t
     pub keys-asked : Sized l × (n ≤ moveCount l) × (length members ≡ 1024) × (length ends ≡ 1024)
     keys-asked = (sized l (k .begun .sizes), omega arith, k .record-sizes .1, k .record-sizes .2)
 
-    module _ (keys : List ℕ) (keyed : KeysOf l members ends n keys) where
+    module _ {keys : List ℕ} (keyed : KeysOf l members ends n keys) where
       found : KeysOf l members ends (moveCount l) keys
       found = subst (λ (j : ℕ). KeysOf l members ends j keys) e keyed
 
-      pub order-asked : (n ≤ 1024) × (length keys ≡ 1024) × ((i : ℕ) → i < n → getD keys i 0 < n)
-      order-asked = (few, keyed .size, λ i h. let b = keys-below keys found i (omega arith) in omega arith)
+      pub order-asked : Keys n keys
+      order-asked = record { few = few; size = keyed .size; below = λ i h. let b = keys-below keys found i (omega arith) in omega arith }
 
       module _ (order : List ℕ) (arranged : (length order ≡ 1024) × (take n order ≡ arrangedBy (take n keys))) where
         sorted : take (moveCount l) order ≡ arrangedBy (take (moveCount l) keys)
         sorted = subst (λ (j : ℕ). take j order ≡ arrangedBy (take j keys)) e (arranged .1)
 
-        module _ (x : State) (held : Holds x (stateOf s)) where
-          pub replay-asked : (out : List ℕ) → length out ≡ 5121 → Replayable t index x l order origins members 1024 out
+        module _ {x : State} (loaded : HoldsIn x (stateOf s)) where
+          pub replay-asked : (out : List ℕ) → length out ≡ 5121 → Replayable t index x l order origins members lineCeiling out
           replay-asked out m =
-              let b = loaded-bounded t s (k .begun .state) x held in
               let f = sized l (k .begun .sizes) .few in
               record {
                 read = record {
-                  table = state-given s t (k .begun .state) .0;
-                  starts = k .begun .starts;
+                  indexed = words-indexed t s (k .begun .state) (k .begun .starts);
                   log = sized l (k .begun .sizes);
                   picked = k .record-sizes .0;
                   marked = k .record-sizes .1;
                 };
-                bounds = record { fits = b .fits; next = b .next };
-                limit = omega arith;
+                workable = loaded-workable s (state-given s t (k .begun .state) .1) loaded;
                 places = order-below keys found order sorted (arranged .0);
                 ordered = arranged .0;
                 room = omega arith;
               }
 
-          module _ (fits : Bool) (before after : List ℕ) (done : ReplayedAs fits 1024 (tableOf t) (stateIn x) l order origins members before after) where
+          module _ {fits : Bool} {before after : List ℕ} (done : ReplayedAs fits lineCeiling (tableOf t) (stateIn x) l order origins members before after) where
             again : Arranged (tableOf t) (stateIn x) l order origins members (orderIn t s l)
             again =
                 record {
                   places = places-are keys found order sorted;
                   recorded = acts-recorded keys found order sorted;
-                  replays = rw (held .value) (facts .replays);
+                  replays = rw (loaded .holds .value) (facts .replays);
                 }
 
             fits-are : fits ≡ serialFitsOf lineCeiling t s l
-            fits-are = done .fits (orderIn t s l) again ∙ rw (held .value) (facts .room 1024)
+            fits-are = done .fits (orderIn t s l) again ∙ rw (loaded .holds .value) (facts .room lineCeiling)
 
             out-is : fits ≡ true → after ≡ over (logWords (serialOf t s l)) before
-            out-is h = done .target (orderIn t s l) again h ∙ rw (held .value) (ap (λ (ms : List Move). over (logWords ms) before) (sym (facts .log)))
+            out-is h = done .target (orderIn t s l) again h ∙ rw (loaded .holds .value) (ap (λ (ms : List Move). over (logWords ms) before) (sym (facts .log)))
 
             pub replay-outgrown : fits ≡ false → ReorderedAs t s l target target (Refused SerialTooManyEntries)
             replay-outgrown h = outgrown fits fits-are h
@@ -179,5 +178,5 @@ module _ (t index s l origins members ends target : List ℕ) (k : Reorderable t
             pub copy-asked : length before ≡ 5121 → (1 + 5 * n ≤ 5121) × (length after ≡ 5121) × (1 + 5 * n ≤ length target)
             copy-asked m = let r = k .begun .room in (let f = few in omega arith, done .size ∙ m, omega arith)
 
-            pub replay-written : fits ≡ true → (written-to : List ℕ) → written-to ≡ over (take (1 + 5 * n) after) target → ReorderedAs t s l target written-to (Written (1 + 5 * n))
-            replay-written h to c = written fits fits-are h before after to (1 + 5 * n) (omega arith) (out-is h) c
+            pub replay-written : fits ≡ true → {written-to : List ℕ} → written-to ≡ over (take (1 + 5 * n) after) target → ReorderedAs t s l target written-to (Written (1 + 5 * n))
+            replay-written h {written-to} c = written fits fits-are h before after written-to (1 + 5 * n) (omega arith) (out-is h) c

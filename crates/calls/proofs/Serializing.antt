@@ -68,10 +68,10 @@ module _ (t s l before : List ℕ) where
               (both-second (logVerdict t s l) _ _ log-ok (both-second (hasWords (1 + 5 * moveCount l) before) _ _ room-ok
               (both-second (unless (not (beginsEmit (tableOf t))) BeginEmits) _ _ quiet-ok (unless-false (not (anyOpen (stateOf s))) TransactionOpen (not-is (anyOpen (stateOf s)) e)))))
 
-          pub serial-done : anyOpen (stateOf s) ≡ false → (after : List ℕ) (o : Outcome) → SerializedAs t s l before after o → SerialAs t s l before after o
+          pub serial-done : anyOpen (stateOf s) ≡ false → {after : List ℕ} {o : Outcome} → SerializedAs t s l before after o → SerialAs t s l before after o
           unfolding serialize serializeTarget serialResult
-          serial-done e after o f =
-              allowed-gives _ (afterRun t s l) before after o
+          serial-done e f =
+              allowed-gives _ (afterRun t s l) before _ _
               (both-second (logVerdict t s l) _ _ log-ok (both-second (hasWords (1 + 5 * moveCount l) before) _ _ room-ok
               (both-second (unless (not (beginsEmit (tableOf t))) BeginEmits) _ _ quiet-ok (unless-true (not (anyOpen (stateOf s))) TransactionOpen (not-is (anyOpen (stateOf s)) e)))))
               (f .outcome) (f .target)

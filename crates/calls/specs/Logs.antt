@@ -1,17 +1,23 @@
--- What the inner functions of the run say to each other.
+-- What the inner function of the run asks and says.
 use Prim.Native.Nat.{ℕ, _≤_}
+use mathlib.Core.Bool.{true}
 use mathlib.Core.Path.{_≡_}
 use mathlib.Core.List.{List}
 use lib.ListN.{length}
-use Rattle.semantics.specs.Answers.{ranResult, outcomeOf, targetAfter}
+use Rattle.semantics.specs.Table.{sizesOf, numbersOf}
+use Rattle.semantics.specs.Log.{logSizesOk}
+use Rattle.semantics.specs.Answers.{stateVerdict, lineCeiling, runOf, ranResult, outcomeOf, targetAfter}
+use Rattle.semantics.specs.declared.Verdict.the-variants.{Allowed}
 use Rattle.semantics.specs.declared.Outcome.{Outcome}
-use Rattle.run.specs.declared.Ran.{Ran}
-use Rattle.run.specs.Runs.{ranOf}
+use Rattle.table.specs.Index.{Starts}
 
-pub record Finishable (r : Ran) (target : List ℕ) : Type 0 where
-  pub fits : r .state .len ≤ 1024
+-- all that is tested before the log is run
+pub record Runnable (t index s l target : List ℕ) : Type 0 where
+  pub state : stateVerdict t s ≡ Allowed
+  pub starts : Starts (numbersOf t) (sizesOf t .rules) index
+  pub sizes : logSizesOk l ≡ true
   pub room : 2050 ≤ length target
 
-pub record FinishedAs (r : Ran) (before after : List ℕ) (o : Outcome) : Type 0 where
-  pub outcome : o ≡ outcomeOf (ranResult (ranOf r))
-  pub target : after ≡ targetAfter (ranResult (ranOf r)) before
+pub record FinishedAs (t s l before after : List ℕ) (o : Outcome) : Type 0 where
+  pub outcome : o ≡ outcomeOf (ranResult (runOf lineCeiling t s l))
+  pub target : after ≡ targetAfter (ranResult (runOf lineCeiling t s l)) before

@@ -40,7 +40,7 @@ pub record Reorderable (t index s l origins members ends target : List ℕ) : Ty
   pub ran : runOf lineCeiling t s l ≡ ended end
   pub shut : anyOpen end ≡ false
   pub recordings : Recordings (tableOf t) l (acts (tableOf t) 0 (stateOf s) (map (moveOf (tableOf t)) (movesOf l))) origins members (replicate 1024 0) ends
-  pub record-sizes : (length origins ≡ 4096) × (length members ≡ 1024) × (length ends ≡ 1024)
+  pub record-sizes : (4 * moveCount l ≤ length origins) × (length members ≡ 1024) × (length ends ≡ 1024)
 
 abbrev pub reorderedResult : List ℕ → List ℕ → List ℕ → Result
 reorderedResult t s l = cond (serialFitsOf lineCeiling t s l) (write (logWords (serialOf t s l))) (refuse SerialTooManyEntries)

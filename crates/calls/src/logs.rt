@@ -1,27 +1,46 @@
 // The run of a log.
 ghost use mathlib.Core.Path.{_≡_};
 ghost use Rattle.semantics.specs.Answers.{answerOf, runLog, runLogTarget};
-ghost use Rattle.calls.specs.Logs.{Finishable, FinishedAs};
+ghost use Rattle.calls.specs.Logs.{Runnable, FinishedAs};
 use crate::checks::ready;
-use run::Ran;
-use run::run_part;
+use run::run_log;
 use semantics::Outcome;
 use semantics::Refusal;
 use semantics::Verdict;
 use state::State;
 
-// The words of the state reached, or the place and the reason of the refused move.
-fn finished(ran: Ran, target: &mut [u32]) -> Outcome
-    requires { ⌜ Finishable ran (now target) ⌝ }
-    ensures { λ r. ⌜ FinishedAs ran (now (target .entry)) (now (target .exit)) r ⌝ }
+// A log in order, with a target that is long enough: the words of the state reached, or 16.
+fn finished<'a>(
+    table: &'a [u32],
+    starts: &'a [u32; 65],
+    state: &'a [u32],
+    log: &'a [u32],
+    target: &mut [u32],
+) -> Outcome
+    requires { ⌜ Runnable (now table) (now starts) (now state) (now log) (now target) ⌝ }
+    ensures { λ r. ⌜ FinishedAs (now (table .entry)) (now (state .entry)) (now (log .entry)) (now (target .entry)) (now (target .exit)) r ⌝ }
 {
+    let s = State::empty();
+    let mut owners = s.owners;
+    let mut items = s.items;
+    let mut origins = s.origins;
+    let at = state::load(state, &mut owners, &mut items, &mut origins);
+    let ran = run_log(
+        table,
+        starts,
+        &mut owners,
+        &mut items,
+        &mut origins,
+        at.len,
+        at.next,
+        log,
+        State::MAX_ENTRIES,
+    );
     let verdict = ran.verdict;
-    let place = ran.place;
-    let s = ran.state;
-    match verdict {
-        Verdict::Allowed => Outcome::Written(state::store(s, target)),
-        Verdict::Denied(refusal) => Outcome::MoveRefused(place, refusal),
+    if let Verdict::Denied(refusal) = verdict {
+        return Outcome::MoveRefused(ran.place, refusal);
     }
+    Outcome::Written(state::store(&owners, &items, ran.len, ran.next, target))
 }
 
 // A log's moves one after another: the words written, or 1 to 4, 13, 6, 16.
@@ -41,17 +60,5 @@ pub fn run<'a>(table: &'a [u32], state: &'a [u32], log: &'a [u32], target: &mut 
         return Outcome::Refused(Refusal::TargetTooShort);
     }
     let starts = checked.starts;
-    let moves = log::count_of(log);
-    finished(
-        run_part(
-            table,
-            &starts,
-            state::load(state),
-            log,
-            0,
-            moves,
-            State::MAX_ENTRIES,
-        ),
-        target,
-    )
+    finished(table, &starts, state, log, target)
 }

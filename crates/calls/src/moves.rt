@@ -1,36 +1,60 @@
 // The single move.
+ghost use mathlib.Core.List.{_∷_};
 ghost use mathlib.Core.Path.{_≡_};
 ghost use Rattle.semantics.specs.Answers.{answerOf, makeMove, makeMoveTarget};
-ghost use Rattle.run.specs.Moves.{wordsOf};
 ghost use Rattle.calls.specs.Moves.{Movable, MovedAs};
 use crate::checks::ready;
-use run::moves::Move;
-use run::moves::decided;
-use run::moves::read_move;
 use semantics::Outcome;
 use semantics::Refusal;
 use semantics::Verdict;
 use state::State;
-use step::moves::applied;
+use step::make::make;
+use step::moves::form_ok;
 
-// A move in order, on a state that was loaded, with a target that is long enough: 7 to 12.
-fn moved(table: &[u32], s: State, m: Move, target: &mut [u32]) -> Outcome
-    requires { ⌜ Movable (now table) s m (now target) ⌝ }
-    ensures { λ r. ⌜ MovedAs (now (table .entry)) s (wordsOf m) (now (target .entry)) (now (target .exit)) r ⌝ }
+// A move in order, with a target that is long enough: 7 to 12.
+fn moved<'a>(
+    table: &'a [u32],
+    starts: &'a [u32; 65],
+    state: &'a [u32],
+    head: u32,
+    picks: [u32; 4],
+    target: &mut [u32],
+) -> Outcome
+    requires { ⌜ Movable (now table) (now starts) (now state) (now target) ⌝ }
+    ensures { λ r. ⌜ MovedAs (now (table .entry)) (now (state .entry)) (head ∷ picks) (now (target .entry)) (now (target .exit)) r ⌝ }
 {
-    let n = s.len;
-    let next = s.next;
-    let said = decided(table, &s.owners, &s.items, n, next, m, State::MAX_ENTRIES);
-    if let Verdict::Denied(refusal) = said {
+    let s = State::empty();
+    let mut owners = s.owners;
+    let mut items = s.items;
+    let mut origins = s.origins;
+    let at = state::load(state, &mut owners, &mut items, &mut origins);
+    let made = make(
+        table,
+        starts,
+        &mut owners,
+        &mut items,
+        &mut origins,
+        at.len,
+        at.next,
+        head,
+        picks,
+        1,
+        State::MAX_ENTRIES,
+    );
+    let verdict = made.verdict;
+    if let Verdict::Denied(refusal) = verdict {
         return Outcome::Refused(refusal);
     }
-    let rule = m.rule;
-    let picks = m.picks;
-    Outcome::Written(state::store(applied(s, rule, m.head, picks, 1), target))
+    Outcome::Written(state::store(&owners, &items, made.len, made.next, target))
 }
 
 // One move: the words written, or 1 to 12.
-pub fn make_move(table: &[u32], state: &[u32], mv: &[u32], target: &mut [u32]) -> Outcome
+pub fn make_move<'a>(
+    table: &'a [u32],
+    state: &'a [u32],
+    mv: &'a [u32],
+    target: &mut [u32],
+) -> Outcome
     ensures answer { λ r. ⌜ answerOf r ≡ makeMove (now (table .entry)) (now (state .entry)) (now (mv .entry)) (now (target .entry)) ⌝ }
     ensures contents { λ _. ⌜ now (target .exit) ≡ makeMoveTarget (now (table .entry)) (now (state .entry)) (now (mv .entry)) (now (target .entry)) ⌝ }
 {
@@ -43,12 +67,12 @@ pub fn make_move(table: &[u32], state: &[u32], mv: &[u32], target: &mut [u32]) -
         return Outcome::Refused(Refusal::MoveForm);
     }
     let starts = checked.starts;
-    let m = read_move(table, &starts, mv[0], [mv[1], mv[2], mv[3], mv[4]]);
-    if !m.ok {
+    let picks = [mv[1], mv[2], mv[3], mv[4]];
+    if !form_ok(table, &starts, mv[0], picks) {
         return Outcome::Refused(Refusal::MoveForm);
     }
     if target.len() < 2050 {
         return Outcome::Refused(Refusal::TargetTooShort);
     }
-    moved(table, state::load(state), m, target)
+    moved(table, &starts, state, mv[0], picks, target)
 }

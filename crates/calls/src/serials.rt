@@ -1,6 +1,10 @@
 // The serial log.
+ghost use mathlib.Core.Bool.{true};
 ghost use mathlib.Core.Path.{_≡_};
+ghost use Rattle.semantics.specs.State.{stateSizesOk, stateOf};
+ghost use Rattle.semantics.specs.Serial.{anyOpen};
 ghost use Rattle.semantics.specs.Answers.{answerOf, serialize, serializeTarget};
+ghost use Rattle.state.specs.Arrays.{Arrays};
 ghost use Rattle.calls.specs.Serials.{Serializable, SerializedAs, Reorderable, ReorderedAs};
 use crate::checks::ready;
 use log::count_of;
@@ -13,35 +17,58 @@ use serial::order::order_of;
 use serial::record::record;
 use serial::replay::replay;
 use state::State;
+use state::entry_count;
 use state::load;
+use state::owners_of;
 use table::begins_emit;
 use words::copy_words;
 
-// The second pass: the log's moves in serial order. Nothing is written before all of them fit: 17.
+// Whether a transaction is open in a state's words.
+fn open_in(state: &[u32]) -> bool
+    requires { ⌜ stateSizesOk (now state) ≡ true ⌝ }
+    ensures { λ r. ⌜ r ≡ anyOpen (stateOf (now (state .entry))) ⌝ }
+{
+    let n = entry_count(state);
+    any_open(owners_of(state), n)
+}
+
+// The second pass, on the same columns: the log's moves in serial order. Nothing is written before all
+// of them fit: 17.
 fn reordered<'a>(
     table: &'a [u32],
     starts: &'a [u32; 65],
     state: &'a [u32],
     log: &'a [u32],
-    origins: &'a [u32; 4096],
+    wanted: &'a [u32],
     members: &'a [u32; 1024],
     ended: &'a [u32; 1024],
+    owners: &mut [u32; 1024],
+    items: &mut [u32; 1024],
+    origins: &mut [u32; 1024],
     target: &mut [u32],
 ) -> Outcome
-    requires { ⌜ Reorderable (now table) (now starts) (now state) (now log) (now origins) (now members) (now ended) (now target) ⌝ }
+    requires { ⌜ Reorderable (now table) (now starts) (now state) (now log) (now wanted) (now members) (now ended) (now target) × Arrays (now owners) (now items) (now origins) ⌝ }
     ensures { λ r. ⌜ ReorderedAs (now (table .entry)) (now (state .entry)) (now (log .entry)) (now (target .entry)) (now (target .exit)) r ⌝ }
 {
     let k = count_of(log);
-    let keys = keys_of(log, members, ended, k);
-    let order = order_of(&keys, k);
+    let mut keys = [0u32; 1024];
+    keys_of(log, members, ended, k, &mut keys);
+    let mut starts_by_key = [0u32; 1024];
+    let mut order = [0u32; 1024];
+    order_of(&keys, k, &mut starts_by_key, &mut order);
+    let at = load(state, owners, items, origins);
     let mut out = [0u32; 5121];
     let fits = replay(
         table,
         starts,
-        load(state),
+        owners,
+        items,
+        origins,
+        at.len,
+        at.next,
         log,
         &order,
-        origins,
+        wanted,
         members,
         State::MAX_ENTRIES,
         &mut out,
@@ -65,27 +92,35 @@ fn serialized<'a>(
     requires { ⌜ Serializable (now table) (now starts) (now state) (now log) (now target) ⌝ }
     ensures { λ r. ⌜ SerializedAs (now (table .entry)) (now (state .entry)) (now (log .entry)) (now (target .entry)) (now (target .exit)) r ⌝ }
 {
-    let mut origins = [0u32; 4096];
+    let s = State::empty();
+    let mut owners = s.owners;
+    let mut items = s.items;
+    let mut origins = s.origins;
+    let at = load(state, &mut owners, &mut items, &mut origins);
+    let mut wanted = [0u32; 4096];
     let mut members = [0u32; 1024];
     let mut ended = [0u32; 1024];
+    let mut begun = [0u32; 1024];
     let ran = record(
         table,
         starts,
-        load(state),
+        &mut owners,
+        &mut items,
+        &mut origins,
+        at.len,
+        at.next,
         log,
         State::MAX_ENTRIES,
-        &mut origins,
+        &mut wanted,
         &mut members,
         &mut ended,
+        &mut begun,
     );
     let verdict = ran.verdict;
-    let place = ran.place;
     if let Verdict::Denied(refusal) = verdict {
-        return Outcome::MoveRefused(place, refusal);
+        return Outcome::MoveRefused(ran.place, refusal);
     }
-    let end = ran.state;
-    let n = end.len;
-    if any_open(&end.owners, n) {
+    if any_open(&owners, ran.len) {
         return Outcome::Refused(Refusal::TransactionOpen);
     }
     reordered(
@@ -93,9 +128,12 @@ fn serialized<'a>(
         starts,
         state,
         log,
-        &origins,
+        &wanted,
         &members,
         &ended,
+        &mut owners,
+        &mut items,
+        &mut origins,
         target,
     )
 }
@@ -126,9 +164,7 @@ pub fn serialize<'a>(
     if begins_emit(table, &starts) {
         return Outcome::Refused(Refusal::BeginEmits);
     }
-    let s = load(state);
-    let n = s.len;
-    if any_open(&s.owners, n) {
+    if open_in(state) {
         return Outcome::Refused(Refusal::TransactionOpen);
     }
     serialized(table, &starts, state, log, target)

@@ -19,10 +19,10 @@ pub extern "C" fn coordinator_check_state(table: &[u32], state: &[u32]) -> Answe
 }
 
 #[no_mangle]
-pub extern "C" fn coordinator_move(
-    table: &[u32],
-    state: &[u32],
-    mv: &[u32],
+pub extern "C" fn coordinator_move<'a>(
+    table: &'a [u32],
+    state: &'a [u32],
+    mv: &'a [u32],
     target: &mut [u32],
 ) -> Answer
     ensures answer { λ r. ⌜ r ≡ makeMove (now (table .entry)) (now (state .entry)) (now (mv .entry)) (now (target .entry)) ⌝ }

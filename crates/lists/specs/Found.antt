@@ -2,7 +2,7 @@
 use Prim.Native.Nat.{ℕ, _+_, _≤_, _<_}
 use mathlib.Core.Path.{_≡_, refl, sym, _∙_}
 use mathlib.Core.Bool.{Bool, true, false, _&&_, _||_, not}
-use mathlib.Core.List.{List, [], _∷_}
+use mathlib.Core.List.{List, [], _∷_, _++_}
 use Rattle.lists.specs.Lists.{all, any, keepIf, keep}
 use Rattle.lists.specs.Ahead.{Tails, Ahead, ahead-start, ahead-next, ahead-done}
 use Rattle.lists.specs.Rows.{rows, rowsFrom, rows-whole}
@@ -35,6 +35,10 @@ module _ {A : Type 0} where
 
     pub finding-done : n ≤ i → b ≡ goal
     finding-done l = sym (or-none b) ∙ ahead-done t (a .ahead) l
+
+  pub any-append : (p : A → Bool) (xs ys : List A) → any p (xs ++ ys) ≡ any p xs || any p ys
+  any-append p [] ys = refl
+  any-append p (x ∷ xs) ys = rw (any-append p xs ys) (regroup (p x) (any p xs) (any p ys))
 
   pub any-keep : (p q : A → Bool) (xs : List A) → any (λ x. q x && p x) xs ≡ any p (keep q xs)
   any-keep p q [] = refl

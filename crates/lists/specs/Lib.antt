@@ -6,6 +6,8 @@ pub mod Members
 pub mod Smallest
 pub mod Totals
 pub mod Removed
+pub mod Written
+pub mod Gaps
 pub mod Unrepeated
 pub mod Tabled
 pub mod Parts
@@ -17,6 +19,7 @@ pub mod Ahead
 pub mod Seen
 pub mod Least
 pub mod Rows
+pub mod Filled
 pub mod Over
 pub mod Sift
 pub mod Padded
@@ -29,3 +32,4 @@ pub mod UpFrom
 pub mod Fronts
 pub mod Mapped
 pub mod Columns
+pub mod Runs

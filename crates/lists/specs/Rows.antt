@@ -2,12 +2,13 @@
 use Prim.Native.Nat.{ℕ, zero, suc, _+_, _-_, _≤_, _<_}
 use mathlib.Core.Path.{_≡_, refl, ap, _∙_}
 use mathlib.Core.List.{List, [], _∷_, _++_, map}
-use native.Mathlib.Nat.{add-zero, sub-zero, le-of-suc-le-suc, not-suc-le-zero}
+use native.Mathlib.Nat.{add-zero, zero-add, sub-zero, le-of-suc-le-suc, not-suc-le-zero}
 use native.Mathlib.Numerals.{add-one}
 use native.Mathlib.Omega.{arith}
 use lib.ListN.{length, getD, take, drop}
 use lib.Seq.{drop-cons}
 use Rattle.lists.specs.Ahead.{Tails}
+use Rattle.lists.specs.Each.{All}
 
 module _ {A : Type 0} where
   -- f at n places, from i on
@@ -36,6 +37,23 @@ module _ {A : Type 0} where
       let r : rows f (suc i) n ≡ rows g (suc i) n = rows-ext f g (suc i) n (λ k l u. h k (omega arith) (omega arith)) in
       rw (e, r)
 
+  -- in two parts
+  pub rows-append : (f : ℕ → A) (i a b : ℕ) → rows f i (a + b) ≡ rows f i a ++ rows f (i + a) b
+  unfolding rows
+  rows-append f i zero b = rw (zero-add b, add-zero i)
+  rows-append f i (suc a) b =
+      let e : suc a + b ≡ suc (a + b) = omega arith in
+      let q : i + suc a ≡ suc i + a = omega arith in
+      rw (e, q, rows-append f (suc i) a b)
+
+  -- f at some places is g at those behind them by d
+  pub rows-moved : (f g : ℕ → A) (d i n : ℕ) → ((k : ℕ) → i ≤ k → k < i + n → f k ≡ g (k + d)) → rows f i n ≡ rows g (i + d) n
+  unfolding rows
+  rows-moved f g d i zero h = refl
+  rows-moved f g d i (suc n) h =
+      let q : suc (i + d) ≡ suc i + d = omega arith in
+      rw (h i (omega arith) (omega arith), q, rows-moved f g d (suc i) n (λ k l u. h k (omega arith) (omega arith)))
+
   rows-last : (f : ℕ → A) (i n : ℕ) → rows f i (suc n) ≡ rows f i n ++ (f (i + n) ∷ [])
   unfolding rows
   rows-last f i zero = rw add-zero
@@ -56,6 +74,12 @@ module _ {A : Type 0} where
   pub rows-more : (f : ℕ → A) (i n : ℕ) → rows f i (n + 1) ≡ rows f i n ++ (f (i + n) ∷ [])
   rows-more f i n = rw (add-one n, rows-last f i n)
 
+  -- what holds at each place
+  pub rows-each : (P : A → Type 0) (f : ℕ → A) (i n : ℕ) → ((k : ℕ) → i ≤ k → k < i + n → P (f k)) → All P (rows f i n)
+  unfolding rows
+  rows-each P f i zero h = tt
+  rows-each P f i (suc n) h = (h i (omega arith) (omega arith), rows-each P f (suc i) n (λ k l u. h k (omega arith) (omega arith)))
+
   -- for a loop that reads them
   pub rows-tails : (f : ℕ → A) (n : ℕ) → Tails f (rowsFrom f n) n
   unfolding rows
@@ -70,6 +94,15 @@ module _ {A : Type 0} where
       none i h =
           let e : n - i ≡ 0 = omega arith in
           rw e
+
+  -- .. and what such a loop reads is rows
+  pub tails-rows : {at : ℕ → A} {rest : ℕ → List A} {n : ℕ} → Tails at rest n → rest 0 ≡ rows at 0 n
+  unfolding rows
+  tails-rows {at} {rest} {n} t = go 0 n (omega arith)
+    where
+      go : (i m : ℕ) → i + m ≡ n → rest i ≡ rows at i m
+      go i zero e = t .none i (omega arith)
+      go i (suc m) e = t .more i (omega arith) ∙ rw (add-one i, go (suc i) m (omega arith))
 
   pub rows-whole : (f : ℕ → A) (n : ℕ) → rowsFrom f n 0 ≡ rows f 0 n
   rows-whole f n = rw sub-zero

@@ -1,5 +1,5 @@
 -- A loop that reads place i of an array and writes place w of it, w ≤ i: what stays is changed by f and keeps its order.
-use Prim.Native.Nat.{ℕ, suc, _+_, _≤_, _<_}
+use Prim.Native.Nat.{ℕ, zero, suc, _+_, _≤_, _<_}
 use mathlib.Core.Path.{_≡_, refl, sym, ap, _∙_}
 use mathlib.Core.Bool.{Bool, true, false, not}
 use mathlib.Core.List.{List, [], _∷_, _++_, map, append-assoc, append-nil}
@@ -60,3 +60,11 @@ module _ {A : Type 0} where
               → Sifting q f row' n (i + 1) (w + oneIf b) goal
           go true e h = record { within = omega arith; behind = omega arith; so-far = rw (rows-more row' 0 w, made, left, zero-add w, e refl, append-assoc) h }
           go false e h = record { within = omega arith; behind = omega arith; so-far = rw (add-zero w, made, left) h }
+
+    -- the loop may begin behind elements that stay as they are
+    pub sifting-from : (row : ℕ → A) (n i : ℕ) → i ≤ n → ((k : ℕ) → k < i → (q k (row k) ≡ true) × (row k ≡ f (row k))) → Sifting q f row n i i (sift q f 0 (rows row 0 n))
+    sifting-from row n zero l stay = sifting-start row n
+    sifting-from row n (suc i) l stay =
+        let (a, b) = stay i (omega arith) in
+        let before = sifting-from row n i (omega arith) (λ k m. stay k (omega arith)) in
+        rw (← add-one i) (rw a at (sifting-turn before (omega arith) row (λ k h. refl) (λ h. b)))

@@ -1,20 +1,20 @@
-// Whether a transaction (batch) is open.
-ghost use Prim.Native.Nat.{ℕ, _≤_};
+// Whether a transaction (batch) is open: of a state's words, or of a working state's owners.
+ghost use Prim.Native.Nat.{_≤_};
 ghost use mathlib.Core.Path.{_≡_};
-ghost use mathlib.Core.List.{List};
-ghost use Rattle.semantics.specs.Serial.{anyOpen};
-ghost use Rattle.step.specs.Working.{stateFrom};
+ghost use lib.ListN.{length, take};
+ghost use Rattle.opened.specs.Owners.{someOwned};
 
-pub fn any_open(owners: &[u32; 1024], n: usize) -> bool
-    requires { ⌜ n ≤ 1024 ⌝ }
-    ensures { λ r. ⌜ ((ws gs : List ℕ) (next : ℕ) → r ≡ anyOpen (stateFrom (now (owners .entry)) ws gs n next)) ⌝ }
+// Whether one of the first n owners is a transaction. It looks at them all: most often none is, and
+// without an early exit several are compared at once.
+pub fn any_open(owners: &[u32], n: usize) -> bool
+    requires { ⌜ n ≤ length (now owners) ⌝ }
+    ensures { λ r. ⌜ r ≡ someOwned (take n (now (owners .entry))) ⌝ }
 {
+    let mut found = false;
     let mut i = 0;
     while i < n {
-        if owners[i] != 0 {
-            return true;
-        }
+        found = found | (owners[i] != 0);
         i += 1;
     }
-    false
+    found
 }

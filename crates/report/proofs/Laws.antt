@@ -8,7 +8,6 @@ use lib.ListN.{length, getD, take, drop, length-append}
 use lib.Seq.{take-append-seam}
 use Rattle.semantics.specs.Table.{tableOf}
 use Rattle.semantics.specs.State.{stateOf, stateSizesOk}
-use Rattle.semantics.specs.Columns as Columns
 use Rattle.semantics.specs.Log.{movesOf}
 use Rattle.semantics.specs.Answers.{lineCeiling, stateOwnVerdict}
 use Rattle.semantics.specs.Program.{Line, linesFrom, lines, firstLine, wordsOf, partsOf}
@@ -20,23 +19,20 @@ use Rattle.intake.specs.Split.{SplitAs, accepted, both-allowed, unless-allowed}
 use Rattle.intake.specs.declared.parts.Parts as intake
 use Rattle.log.specs.Form.{sized}
 use Rattle.state.specs.declared.State.{State}
-use Rattle.state.specs.Working.{stateIn, Holds}
-use Rattle.state.specs.Arrays.{held-next}
-use Rattle.run.specs.Moves.{Prepared}
+use Rattle.state.specs.Working.{stateIn}
+use Rattle.state.specs.Arrays.{HoldsIn}
+use Rattle.run.specs.Runs.{Prepared}
+use Rattle.run.specs.Whole.{loaded-traceable}
 use Rattle.run.specs.Lines.{lineWords, length-lineWords, Traceable, TracedAs}
 use Rattle.report.specs.declared.figures.Figures.{Figures}
 use Rattle.report.specs.Shown.{Shows, FiguresOf}
 
 -- ---- the lines of three parts
 
-module _ {t index l : List ℕ} (p : Prepared t index l) (st : List ℕ) (z : stateSizesOk st ≡ true) {s : State} (h : Holds s (stateOf st)) where
-  pub traceable : (target : List ℕ) → length target ≡ 4096 → Traceable t index l s target
-  unfolding stateOf
-  traceable target n = record {
-    prepared = p;
-    bounds = record { fits = h .fits; next = omega (arith, held-next h, Columns.sized st z .last) };
-    room = omega (arith, p .log .few);
-  }
+-- there is room for the lines of any log
+pub traceable : {t index l : List ℕ} → Prepared t index l → (st : List ℕ) → stateSizesOk st ≡ true → {s : State} → HoldsIn s (stateOf st) → {target : List ℕ} → length target ≡ 4096
+    → Traceable t index l s target
+traceable p st z h n = loaded-traceable st z h p (omega (arith, p .log .few))
 
 pub lines-written : {xs : List Line} {before after : List ℕ} {n : ℕ} → TracedAs xs before after n → (4 * n ≤ length after) × (take (4 * n) after ≡ lineWords xs)
 lines-written {xs} {before} {after} {n} h =
@@ -47,13 +43,13 @@ lines-written {xs} {before} {after} {n} h =
 
 -- the lines that are traced from the state loaded are those of the parts
 pub shows :
-    (t st l : List ℕ) {before : List ℕ} {s : State} → Holds s (stateOf st) → (f : Figures)
+    (t st l : List ℕ) {before : List ℕ} {s : State} → HoldsIn s (stateOf st) → (f : Figures)
     → TracedAs (linesFrom lineCeiling (tableOf t) 0 (stateIn s) (movesOf l)) before (f .lines) (f .count)
     → f .moves ≡ getD l 0 0 → f .entries ≡ getD st 0 0 → f .next ≡ getD st 1 0
     → (4 * f .count ≤ length (f .lines)) × Shows (record { table = t; state = st; log = l }) f
 unfolding lines firstLine
 shows t st l h f traced m e n =
-    let same = ap (λ x. linesFrom lineCeiling (tableOf t) 0 x (movesOf l)) (h .value) in
+    let same = ap (λ x. linesFrom lineCeiling (tableOf t) 0 x (movesOf l)) (h .holds .value) in
     let (room, words) = lines-written traced in
     (room, record { first = rw (m, e, n); count = traced .count ∙ ap length same; further = words ∙ ap lineWords same })
 
@@ -74,7 +70,7 @@ module _ {ws : List ℕ} {bytes : ℕ} {p : intake.Parts} (h : SplitAs ws bytes 
     prepared =
         let a = accepted (sym (h .verdict) ∙ allowed) in
         rw (h .cut .table, h .cut .state, h .cut .log) (
-          record { table = a .table; starts = h .starts allowed; log = sized _ (a .log) },
+          record { indexed = record { table = a .table; starts = h .starts allowed }; log = sized _ (a .log) },
           unless-allowed (stateSizesOk (partsOf ws .state)) StateSizes (both-allowed _ _ (a .state) .0),
         )
 

@@ -6,11 +6,12 @@ ghost use lib.ListN.{length};
 ghost use Rattle.semantics.specs.State.{stateSizesOk};
 ghost use Rattle.semantics.specs.Program.{wordsOf};
 ghost use Rattle.semantics.specs.declared.Verdict.the-variants.{Allowed, Denied};
-ghost use Rattle.run.specs.Moves.{Prepared};
+ghost use Rattle.run.specs.Runs.{Prepared};
 ghost use Rattle.report.specs.Shown.{Shows, FiguresOf};
 use run::trace::trace;
 use semantics::Refusal;
 use semantics::Verdict;
+use state::State;
 
 // The verdict on the input. Where it is Allowed, the first line's figures, and the words of so many
 // further lines, four a line: place, answer, entries, next.
@@ -45,9 +46,23 @@ fn of_parts<'a>(
     requires { ⌜ Prepared (now table) (now starts) (now log) × (stateSizesOk (now state) ≡ true) ⌝ }
     ensures { λ f. ⌜ (f .verdict ≡ Allowed) × (4 * f .count ≤ length (f .lines)) × Shows (record { table = now (table .entry); state = now (state .entry); log = now (log .entry) }) f ⌝ }
 {
-    let s = state::load(state);
+    let s = State::empty();
+    let mut owners = s.owners;
+    let mut items = s.items;
+    let mut origins = s.origins;
+    let at = state::load(state, &mut owners, &mut items, &mut origins);
     let mut lines = [0u32; 4096];
-    let count = trace(table, starts, s, log, &mut lines);
+    let count = trace(
+        table,
+        starts,
+        &mut owners,
+        &mut items,
+        &mut origins,
+        at.len,
+        at.next,
+        log,
+        &mut lines,
+    );
     Figures {
         verdict: Verdict::Allowed,
         moves: log[0],

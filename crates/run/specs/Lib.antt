@@ -1,4 +1,3 @@
-pub mod Moves
 pub mod Runs
 pub mod Lines
 pub mod Whole

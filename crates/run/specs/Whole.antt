@@ -1,4 +1,4 @@
--- For callers: a whole log from accepted words. What a run asks follows from the verdict on its words, and what it gives is 01's run.
+-- For callers: from words that were checked to what a run asks, and from what it gives to the run of those words.
 use Prim.Native.Nat.{ℕ, _*_, _≤_}
 use mathlib.Core.Bool.{true}
 use mathlib.Core.List.{List}
@@ -7,65 +7,61 @@ use native.Mathlib.Omega.{arith}
 use lib.ListN.{length}
 use borrow.Author.Tests.{le-leb}
 use Rattle.semantics.specs.Table.{sizesOf, numbersOf, tableOf}
-use Rattle.semantics.specs.State.{stateOf, stateWords}
-use Rattle.semantics.specs.Move.{unless}
+use Rattle.semantics.specs.State.{stateOf, stateWords, stateSizesOk}
+use Rattle.semantics.specs.Columns as Columns
 use Rattle.semantics.specs.Log.{moveCount, logSizesOk}
-use Rattle.semantics.specs.Answers.{stateVerdict, logVerdict, write, refuseMove, ranResult, runOf, runResult}
+use Rattle.semantics.specs.Answers.{stateVerdict, logVerdict, lineCeiling, write, refuseMove, ranResult, runOf, runResult}
 use Rattle.semantics.specs.declared.Refusal.{Refusal}
-use Rattle.semantics.specs.declared.Refusal.the-variants.{LogSizes}
 use Rattle.semantics.specs.declared.Verdict.{Verdict}
 use Rattle.semantics.specs.declared.Verdict.the-variants.{Allowed, Denied}
-use Rattle.wellformed.specs.Verdicts.{both-allowed, unless-allowed, state-given}
-use Rattle.wellformed.specs.Held.{stateOf-held}
+use Rattle.wellformed.specs.Verdicts.{state-given}
 use Rattle.table.specs.Index.{Starts}
 use Rattle.state.specs.declared.State.{State}
-use Rattle.state.specs.Working.{stateIn, Holds}
-use Rattle.state.specs.Arrays.{held-len, held-next}
+use Rattle.state.specs.Working.{stateIn}
+use Rattle.state.specs.Arrays.{HoldsIn, held-next}
 use Rattle.log.specs.Form.{sized}
-use Rattle.run.specs.declared.Ran.{Ran}
-use Rattle.run.specs.Moves.{Prepared, Bounded}
-use Rattle.run.specs.Runs.{Startable, RanAs, ranBy, ranOf, moves-whole}
+use Rattle.step.specs.Make.{Workable, Indexed}
+use Rattle.run.specs.Runs.{Prepared, RanAs, ranBy}
 use Rattle.run.specs.Lines.{Traceable}
 
-module _ (T S L : List ℕ) (v : logVerdict T S L ≡ Allowed) {s : State} (h : Holds s (stateOf S)) where
-  log-given : (stateVerdict T S ≡ Allowed) × (logSizesOk L ≡ true)
-  unfolding logVerdict
-  log-given =
-      let (state, sizes) = both-allowed (stateVerdict T S) (unless (logSizesOk L) LogSizes) v in
-      (state, unless-allowed (logSizesOk L) LogSizes sizes)
+-- ---- what a move, a run and a trace ask
 
-  loaded-bounded : Bounded s 1024
-  loaded-bounded =
-      let held = stateOf-held T S (log-given .0) in
-      record { fits = omega (arith, held-len h, held .few); next = omega (arith, held-next h, held .sound .next-high) }
+module _ (T S : List ℕ) {index : List ℕ} (ok : stateVerdict T S ≡ Allowed) (starts : Starts (numbersOf T) (sizesOf T .rules) index) where
+  pub words-indexed : Indexed T index
+  words-indexed = record { table = state-given S T ok .0; starts = starts }
 
-  module _ {index : List ℕ} (starts : Starts (numbersOf T) (sizesOf T .rules) index) where
-    loaded-prepared : Prepared T index L
-    loaded-prepared = record { table = state-given S T (log-given .0) .0; starts = starts; log = sized L (log-given .1) }
+  pub words-prepared : {L : List ℕ} → logSizesOk L ≡ true → Prepared T index L
+  words-prepared {L} sizes = record { indexed = words-indexed; log = sized L sizes }
 
-    -- what `run_part` asks
-    pub loaded-startable : Startable T index L s 0 (moveCount L) 1024
-    loaded-startable = record { prepared = loaded-prepared; order = omega arith; within = omega arith; bounds = loaded-bounded; limit = omega arith }
+module _ (S : List ℕ) (z : stateSizesOk S ≡ true) {s : State} (h : HoldsIn s (stateOf S)) where
+  pub loaded-workable : Workable s lineCeiling
+  unfolding stateOf
+  loaded-workable = record {
+    arrays = h .arrays;
+    bounds = record { fits = h .holds .fits; next = omega (arith, held-next (h .holds), Columns.sized S z .last) };
+    limit = omega arith;
+  }
 
-    -- what `trace` asks
-    pub loaded-traceable : (target : List ℕ) → 4 * moveCount L ≤ length target → Traceable T index L s target
-    loaded-traceable target room = record { prepared = loaded-prepared; bounds = loaded-bounded; room = room }
+  pub loaded-traceable : {T index L : List ℕ} → Prepared T index L → {target : List ℕ} → 4 * moveCount L ≤ length target → Traceable T index L s target
+  loaded-traceable p room = record { prepared = p; workable = loaded-workable; room = room }
 
-  module _ (ceiling : ℕ) {r : Ran} (ran : RanAs r ceiling (tableOf T) L (stateIn s) 0 (moveCount L)) where
-    pub ran-whole : ranOf r ≡ runOf ceiling T S L
-    ran-whole = ran .value ∙ rw (h .value, moves-whole L)
+-- ---- what a run gives
 
-    module _ (target : List ℕ) (room : 2050 ≤ length target) where
-      result-by : {w : Verdict} → r .verdict ≡ w → runResult ceiling T S L target ≡ ranResult (ranBy w (r .place) (stateIn (r .state)))
-      unfolding runResult
-      result-by e =
-          rw (v, le-leb 2050 (length target) room)
-          (ap ranResult (sym ran-whole) ∙ ap (λ (w : Verdict). ranResult (ranBy w (r .place) (stateIn (r .state)))) e)
+module _ (T S L : List ℕ) {s : State} (h : HoldsIn s (stateOf S)) {ceiling : ℕ} {v : Verdict} {place : ℕ} {s′ : State} (ran : RanAs v place ceiling (tableOf T) L s s′) where
+  pub ran-whole : ranBy v place (stateIn s′) ≡ runOf ceiling T S L
+  ran-whole = ran .value ∙ rw (h .holds .value)
 
-      -- an accepted log's words
-      pub result-ended : r .verdict ≡ Allowed → runResult ceiling T S L target ≡ write (stateWords (stateIn (r .state)))
-      result-ended e = result-by e
+  module _ (given : logVerdict T S L ≡ Allowed) (target : List ℕ) (room : 2050 ≤ length target) where
+    result-by : {w : Verdict} → v ≡ w → runResult ceiling T S L target ≡ ranResult (ranBy w place (stateIn s′))
+    unfolding runResult
+    result-by e =
+        rw (given, le-leb 2050 (length target) room)
+        (ap ranResult (sym ran-whole) ∙ ap (λ (w : Verdict). ranResult (ranBy w place (stateIn s′))) e)
 
-      -- 16 with the place and the own number
-      pub result-refused : {q : Refusal} → r .verdict ≡ Denied q → runResult ceiling T S L target ≡ refuseMove (r .place) q
-      result-refused e = result-by e
+    -- an accepted log's words
+    pub result-ended : v ≡ Allowed → runResult ceiling T S L target ≡ write (stateWords (stateIn s′))
+    result-ended e = result-by e
+
+    -- 16 with the place and the own number
+    pub result-refused : {q : Refusal} → v ≡ Denied q → runResult ceiling T S L target ≡ refuseMove place q
+    result-refused e = result-by e

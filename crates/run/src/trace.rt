@@ -8,9 +8,9 @@ ghost use Rattle.semantics.specs.Table.{tableOf};
 ghost use Rattle.semantics.specs.Log.{movesOf};
 ghost use Rattle.semantics.specs.Answers.{lineCeiling};
 ghost use Rattle.semantics.specs.Program.{linesFrom};
-ghost use Rattle.state.specs.Working.{stateIn};
+ghost use Rattle.state.specs.Working.{stateIn, held};
 ghost use Rattle.run.specs.Lines.{answerIn, Traceable, TracedAs};
-use crate::run_part;
+use crate::make_at;
 use answers::number_of;
 use log::count_of;
 use semantics::Verdict;
@@ -41,21 +41,35 @@ fn put_line(lines: &mut [u32], i: usize, answer: u32, entries: usize, next: u32)
 pub fn trace<'a>(
     table: &'a [u32],
     starts: &'a [u32; 65],
-    mut s: State,
+    owners: &mut [u32; 1024],
+    items: &mut [u32; 1024],
+    origins: &mut [u32; 1024],
+    mut n: usize,
+    mut next: u32,
     log: &'a [u32],
     lines: &mut [u32],
 ) -> usize
-    requires { ⌜ Traceable (now table) (now starts) (now log) s (now lines) ⌝ }
-    ensures { λ r. ⌜ TracedAs (linesFrom lineCeiling (tableOf (now (table .entry))) 0 (stateIn s) (movesOf (now (log .entry)))) (now (lines .entry)) (now (lines .exit)) r ⌝ }
+    requires { ⌜ Traceable (now table) (now starts) (now log) (held (now owners) (now items) (now origins) n next) (now lines) ⌝ }
+    ensures { λ r. ⌜ TracedAs (linesFrom lineCeiling (tableOf (now (table .entry))) 0 (stateIn (held (now (owners .entry)) (now (items .entry)) (now (origins .entry)) n next)) (movesOf (now (log .entry)))) (now (lines .entry)) (now (lines .exit)) r ⌝ }
 {
     let moves = count_of(log);
     let mut i = 0;
     while i < moves {
-        let ran = run_part(table, starts, s, log, i, i + 1, State::MAX_ENTRIES);
-        let verdict = ran.verdict;
-        s = ran.state;
-        let n = s.len;
-        let next = s.next;
+        let made = make_at(
+            table,
+            starts,
+            owners,
+            items,
+            origins,
+            n,
+            next,
+            log,
+            i,
+            State::MAX_ENTRIES,
+        );
+        let verdict = made.verdict;
+        n = made.len;
+        next = made.next;
         put_line(lines, i, answer_in(verdict), n, next);
         i += 1;
         if let Verdict::Denied(_) = verdict {

@@ -8,13 +8,14 @@ use borrow.Author.Tests.{leb-true, eqb-true, ltb-true, ne-eqb, lt-ltb}
 use lib.Dec.{leb, ltb, eqb}
 use lib.ListN.{length, take, drop, length-drop, length-map}
 use lib.Seq.{length-take-le, take-all}
-use Rattle.lists.specs.Lists.{all, keep, count, risesFrom, allBelow, upFrom}
+use Rattle.lists.specs.Lists.{all, any, keep, count, risesFrom, allBelow, upFrom}
 use Rattle.lists.specs.Tests.{and-both, or-false}
-use Rattle.lists.specs.Counting.{count-le, count-map, all-map, all-each, all-weaker, length-keep, any-count}
+use Rattle.lists.specs.Counting.{count-le, count-map, all-map, all-each, all-weaker, length-keep}
+use Rattle.lists.specs.Parts.{any-map}
 use Rattle.lists.specs.Rising.{zeros-first, rises-map}
 use Rattle.lists.specs.Walk.{below-each, getD-upFrom, length-upFrom}
 use Rattle.semantics.specs.Words.{atomRole, atomMode, portOf, valueOf}
-use Rattle.semantics.specs.Table.{sizesOf, numbersOf, atomWordsOf, ruleWords, portCount, sizesWithin, tableSizesOk, occurs, numbersOk, isRole, modeOk, consumeOk, emitOk, markOk, beginOk, innerOk, compensateOk, atomOk, shapeOf, ruleOk, rulesOk, tableContentsOk, atomValue, atomOf, Rule, ruleOf, tableOf, noRule, ruleAt, hasRole, consumed, productAtoms, begins}
+use Rattle.semantics.specs.Table.{sizesOf, numbersOf, atomWordsOf, ruleWords, portCount, sizesWithin, tableSizesOk, occurs, numbersOk, isRole, modeOk, consumeOk, emitOk, markOk, beginOk, innerOk, compensateOk, atomOk, shapeOf, ruleOk, rulesOk, tableContentsOk, atomValue, atomOf, Rule, ruleOf, tableOf, noRule, ruleAt, hasRole, consumed, productAtoms}
 use Rattle.semantics.specs.Move.{unless, both}
 use Rattle.semantics.specs.Answers.{tableVerdict}
 use Rattle.semantics.specs.declared.Sizes.{Sizes}
@@ -213,9 +214,9 @@ pub record LegalRule (n : ℕ) (r : Rule) : Type 0 where
   pub values : all (λ a. valueExists n (a .value)) (r .atoms) ≡ true
 
 module _ (z : Sizes) (ws : List ℕ) where
-  pub rule-begins : begins (ruleOf z ws) ≡ leb 1 (count (isRole 2) ws)
+  pub rule-has : (k : ℕ) → any (hasRole k) (ruleOf z ws .atoms) ≡ any (isRole k) ws
   unfolding ruleOf
-  rule-begins = any-count (hasRole 2) (map atomOf ws) ∙ ap (leb 1) (count-map atomOf (hasRole 2) ws)
+  rule-has k = any-map atomOf (hasRole k) ws
 
   pub consumed-length : length (consumed (ruleOf z ws)) ≡ count (isRole 0) ws
   unfolding ruleOf

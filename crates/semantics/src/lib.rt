@@ -63,15 +63,16 @@ pub struct Shape {
 }
 
 // An atom's value: a constant, or the value received by a consume atom (take) of its rule, from 0.
+// An atom takes 8 bytes, so that a rule is decoded and passed by value at little cost.
 pub enum AtomValue {
     Constant(u16),
-    Received(usize),
+    Received(u16),
 }
 
 // Roles: 0 consume (take), 1 emit (give), 2 begin (open), 3 body (inside), 4 compensate (call-off),
 // 5 abort (stop).
 pub struct Atom {
-    pub role: u32,
-    pub port: u32,
+    pub role: u16,
+    pub port: u16,
     pub value: AtomValue,
 }

@@ -5,32 +5,34 @@ use mathlib.Core.List.{List, [], _∷_, map}
 use mathlib.Core.Logic.{inl, inr}
 use mathlib.Core.Path.{_≡_, refl, sym, ap, subst, _∙_}
 use native.Mathlib.Omega.{arith}
-use borrow.Author.Tests.{eqb-true, eqb-false, eq-eqb, ne-eqb, ltb-true, ltb-false}
+use borrow.Author.Tests.{eqb-true, eqb-false, eq-eqb, ne-eqb, ltb-true}
 use lib.Dec.{eqb, ltb}
-use lib.ListN.{length, getD, take, List·getD-eq-default}
-use Rattle.lists.specs.Lists.{isEmpty, isIn, keep, count}
-use Rattle.lists.specs.Choices.{by-bool, and-intro, and-left, and-right, clash, is-false}
-use Rattle.lists.specs.Tests.{or-true}
+use lib.ListN.{length, getD, take}
+use Rattle.lists.specs.Lists.{any, isEmpty, isIn, keep}
+use Rattle.lists.specs.Choices.{by-bool, and-intro, and-left, and-right, is-false}
 use Rattle.lists.specs.Members.{Among, any-some, any-intro, among-keep, keep-among, among-map, map-among, getD-among, isIn-among, among-isIn}
-use Rattle.lists.specs.Each.{any-none, count-none, empty-nil}
+use Rattle.lists.specs.Each.{empty-nil}
 use Rattle.lists.specs.Rows.{rows, length-rows, getD-rows}
 use Rattle.semantics.specs.Words.{headKind, headNumber}
-use Rattle.semantics.specs.Table.{Table, Rule, ruleAt, hasRole, consumed, begins, emits, noRule}
+use Rattle.semantics.specs.Table.{Table, Rule, ruleAt}
 use Rattle.semantics.specs.State as semantics
-use Rattle.semantics.specs.State.{Origin, Entry, isMemberMark}
-use Rattle.semantics.specs.Move.{react, commit, abort, moveOf, allowed, picksUsed, nothing, entryAt, picked, ownersAt}
+use Rattle.semantics.specs.State.{Origin, Entry, isMemberMark, owned}
+use Rattle.semantics.specs.Move.{Move, react, commit, abort, moveOk, moveOf, allowed, applied, reacted, ended, isOpen, picksUsed, nothing, entryAt, picked, ownersAt}
 use Rattle.semantics.specs.Serial.{originsOf, sameOrigin, marksIn, membersOf, picksOf, beginsEmit, isEnd}
-use Rattle.wellformed.specs.Rules.{RuleRight}
-use Rattle.wellformed.specs.Picks.{ReactGiven, react-given, picks-length, pick-lt, owners-positive}
+use Rattle.semantics.specs.declared.Refusal.the-variants.{NoTransaction}
+use Rattle.semantics.specs.declared.Verdict.the-variants.{Allowed}
+use Rattle.wellformed.specs.Verdicts.{both-allowed, unless-allowed}
+use Rattle.wellformed.specs.Rules.{RuleRight, TableRight}
+use Rattle.wellformed.specs.Entries.{Sound}
+use Rattle.wellformed.specs.Picks.{ReactGiven, react-given, picks-length, pick-lt, owners-zero, owners-positive}
 use Rattle.wellformed.specs.Preservation.{RuleKnown, rule-known}
-use Rattle.state.specs.Working.{originOf, rowOf}
-use Rattle.step.specs.Working.{stateFrom}
-use Rattle.step.specs.React.{column}
-use Rattle.step.specs.Moves.{move-react, move-commit, move-abort}
-use Rattle.run.specs.declared.moves.Move.{Move}
-use Rattle.run.specs.Moves.{wordsOf}
+use Rattle.serializability.specs.Rules.{Shape, plain, begin, inner}
+use Rattle.serializability.specs.Shapes.{table-shaped}
+use Rattle.state.specs.declared.State.{State}
+use Rattle.state.specs.Working.{originOf, rowOf, entryIn, stateIn}
 use Rattle.serial.specs.Marks.{isMarkOf, marksOf, OneOf, anyMadeAt}
-use Rattle.serial.specs.Recordings.{Legal, usedBy, Pickable, marksEnded}
+use Rattle.serial.specs.Recordings.{wordsAt, concernedBy, markIn, marksEnded}
+use Rattle.serial.proofs.Tracking.{Tracked, no-mark, own-mark}
 
 -- ---- one of some origins is one of more
 
@@ -56,139 +58,145 @@ marks-wider id bs s k o m =
     only n (inl e) = e
     only n (inr m) = absurd m
 
--- ---- a begin emits nothing
-
-quiet-rule : (t : Table) → beginsEmit t ≡ false → (r : ℕ) → begins (ruleAt t r) ≡ true → count (hasRole 1) (ruleAt t r .atoms) ≡ 0
-quiet-rule t h r b = by-bool (emits (ruleAt t r))
-    (λ e. absurd (by-bool (ltb r (length (t .rules)))
-    (λ l. clash (any-intro (λ r. begins r && emits r) (t .rules) (ruleAt t r) (getD-among noRule (t .rules) r (ltb-true r (length (t .rules)) l)) (and-intro b e)) h)
-    (λ l. let q : ruleAt t r ≡ noRule = List·getD-eq-default (t .rules) noRule (ltb-false r (length (t .rules)) l) in true≢false (sym (rw q at b)))))
-    (λ e. count-none (hasRole 1) (ruleAt t r .atoms) (any-none (hasRole 1) (ruleAt t r .atoms) e))
-
 -- ---- a legal move
 
-module _ {t : Table} {s : semantics.State} {m : Move} (g : Legal t s m) where
-  module _ (k : headKind (m .head) ≡ 0) where
+-- a move in words that a well-formed state allows, under an accepted table in which no begin emits
+pub record Legal (t : Table) (s : semantics.State) (head : ℕ) (picks : List ℕ) : Type 0 where
+  pub form : moveOk t (head ∷ picks) ≡ true
+  pub allows : allowed t s (moveOf t (head ∷ picks)) ≡ Allowed
+  pub table : TableRight t
+  pub sound : Sound (t .sizes) s
+  pub quiet : beginsEmit t ≡ false
+
+module _ (t : Table) (head : ℕ) (picks : List ℕ) where
+  is-react : headKind head ≡ 0 → moveOf t (head ∷ picks) ≡ react (headNumber head) (take (picksUsed t head) picks)
+  unfolding moveOf
+  is-react k = rw (eq-eqb (headKind head) 0 k)
+
+  -- what holds of both ends holds of an end
+  by-end : (P : Move → Type 0) → P (commit (headNumber head)) → P (abort (headNumber head)) → (headKind head ≡ 0 → ⊥) → P (moveOf t (head ∷ picks))
+  unfolding moveOf
+  by-end P c a k = rw (ne-eqb (headKind head) 0 k) (by-bool (eqb (headKind head) 1) (λ e. rw e c) (λ e. rw e a))
+
+module _ {t : Table} {s : semantics.State} {head : ℕ} {picks : List ℕ} (g : Legal t s head picks) where
+  module _ (k : headKind head ≡ 0) where
     abbrev rule : Rule
-    rule = ruleAt t (headNumber (m .head))
+    rule = ruleAt t (headNumber head)
 
     abbrev used : List ℕ
-    used = take (usedBy m) (m .picks)
-
-    used-is : usedBy m ≡ m .rule .consumes
-    used-is = rw (eq-eqb (headKind (m .head)) 0 k)
-
-    is-react : moveOf t (wordsOf m) ≡ react (headNumber (m .head)) used
-    is-react = move-react (g .move) k ∙ ap (λ (n : ℕ). react (headNumber (m .head)) (take n (m .picks))) (sym used-is)
+    used = take (picksUsed t head) picks
 
     reacts : ReactGiven rule s used
     unfolding allowed
-    reacts = react-given rule s used (rw is-react at (g .allows))
+    reacts = react-given rule s used (rw (is-react t head picks k) at (g .allows))
 
     right : RuleRight (t .sizes) rule
-    right = g .table .rule (headNumber (m .head)) (subst (RuleKnown t) is-react (rule-known t (wordsOf m) (g .move .form)))
+    right = g .table .rule (headNumber head) (subst (RuleKnown t) (is-react t head picks k) (rule-known t (head ∷ picks) (g .form)))
 
-    used-length : length used ≡ length (consumed rule)
-    used-length = picks-length reacts
+    shape : Shape rule
+    shape = table-shaped t (g .table) (g .quiet) (headNumber head)
 
     some-used : 1 ≤ length used
-    some-used = omega (arith, used-length, right .consumes-some)
+    some-used = omega (arith, picks-length reacts, right .consumes-some)
 
     -- the first pick is one of those used
-    first-used : Among (getD (m .picks) 0 0) used
-    first-used = go (usedBy m) (m .picks) some-used
+    first-used : Among (getD picks 0 0) used
+    first-used = go (picksUsed t head) picks some-used
       where
         go : (n : ℕ) (ps : List ℕ) → 1 ≤ length (take n ps) → Among (getD ps 0 0) (take n ps)
         go zero ps h = absurd (omega arith)
         go (suc n) [] h = absurd (omega arith)
         go (suc n) (p ∷ ps) h = inl refl
 
-    pub first-lt : getD (m .picks) 0 0 < length (s .entries)
-    first-lt = pick-lt reacts (getD (m .picks) 0 0) first-used
+    abbrev first-entry : Entry
+    first-entry = entryAt (s .entries) (getD picks 0 0)
 
-  used-none : (headKind (m .head) ≡ 0 → ⊥) → usedBy m ≡ 0
-  used-none k = rw (ne-eqb (headKind (m .head)) 0 k)
+    pub first-lt : getD picks 0 0 < length (s .entries)
+    first-lt = pick-lt reacts (getD picks 0 0) first-used
 
-  pub pickable : length (s .entries) ≤ 1024 → Pickable m
-  pickable few = by-bool (eqb (headKind (m .head)) 0)
-      (λ e. let k = eqb-true (headKind (m .head)) 0 e in record {
-        few = omega (arith, used-is k, g .move .rule k .consumes, right k .consumes-le);
-        places = λ p n. let l = pick-lt (reacts k) p n in omega arith;
-        first = λ q. let l = first-lt k in omega arith;
-      })
-      (λ e. let k = eqb-false (headKind (m .head)) 0 e in let z = used-none k in record {
-        few = omega arith;
-        places = λ p n. absurd (rw z at n);
-        first = λ q. absurd (k q);
-      })
+    first-among : Among first-entry (s .entries)
+    first-among = getD-among nothing (s .entries) (getD picks 0 0) first-lt
 
-  -- ---- the member recorded
+    first-owner : Among (first-entry .owner) (ownersAt s used)
+    first-owner = map-among (λ e. e .owner) (picked s used) first-entry (map-among (entryAt (s .entries)) used (getD picks 0 0) first-used)
 
-  module _ (i : ℕ) where
-    pub member-end : (headKind (m .head) ≡ 0 → ⊥) → {w : ℕ} → OneOf w (marksOf (headNumber (m .head)) (s .entries)) → OneOf w (membersOf t i s (moveOf t (wordsOf m)))
-    member-end k {w} h = by-bool (eqb (headKind (m .head)) 1)
-        (λ e. rw (move-commit t (m .head) (m .picks) k (eqb-true (headKind (m .head)) 1 e)) h)
-        (λ e. rw (move-abort t (m .head) (m .picks) k (eqb-false (headKind (m .head)) 1 e)) h)
+  used-none : (headKind head ≡ 0 → ⊥) → picksUsed t head ≡ 0
+  used-none k = rw (ne-eqb (headKind head) 0 k)
 
-    module _ (k : headKind (m .head) ≡ 0) where
-      pub member-begin : m .rule .begins ≡ true → OneOf ((i + 1) * 1024) (membersOf t i s (moveOf t (wordsOf m)))
-      member-begin b =
-          let d = g .move .rule k in
-          let begin : begins (rule k) ≡ true = sym (d .begins) ∙ b in
-          let no-emit : count (hasRole 1) (rule k .atoms) ≡ 0 = quiet-rule t (g .quiet) (headNumber (m .head)) begin in
-          let maker : (i + 1) * 1024 / 1024 ≡ suc i = omega arith in
-          let index : (i + 1) * 1024 % 1024 ≡ 0 = omega arith in
-          rw (is-react k, begin, no-emit)
-          (record { some = λ q. rw (maker, index, eq-eqb (suc i) (suc i) refl, eq-eqb 0 0 refl); none = λ q. absurd (false≢true q) })
+  pub used-few : picksUsed t head ≤ 4
+  used-few = by-bool (eqb (headKind head) 0)
+      (λ e. let k = eqb-true (headKind head) 0 e in rw e (right k .consumes-le))
+      (λ e. let k = used-none (eqb-false (headKind head) 0 e) in omega arith)
 
-      pub member-none : m .rule .begins ≡ false → m .rule .class ≡ 0 → OneOf 0 (membersOf t i s (moveOf t (wordsOf m)))
-      member-none b c =
-          let d = g .move .rule k in
-          let begin : begins (rule k) ≡ false = sym (d .begins) ∙ b in
-          rw (is-react k, begin, eq-eqb (rule k .class) 0 (sym (d .class) ∙ c)) (record { some = λ q. absurd (true≢false q); none = λ q. refl })
+  -- ---- the member noted
 
-      -- the first pick's owner owns its own mark
-      pub member-inner : m .rule .begins ≡ false → (m .rule .class ≡ 0 → ⊥) → {w id : ℕ} → id ≡ entryAt (s .entries) (getD (m .picks) 0 0) .owner
-          → OneOf w (marksOf id (s .entries)) → OneOf w (membersOf t i s (moveOf t (wordsOf m)))
-      member-inner b c {w} {id} o h =
-          let d = g .move .rule k in
-          let begin : begins (rule k) ≡ false = sym (d .begins) ∙ b in
-          let e = entryAt (s .entries) (getD (m .picks) 0 0) in
-          let owner : Among (e .owner) (ownersAt s (used k)) = map-among (λ e. e .owner) (picked s (used k)) e (map-among (entryAt (s .entries)) (used k) (getD (m .picks) 0 0) (first-used k)) in
-          let positive = owners-positive (reacts k) (λ q. c (d .class ∙ q)) (e .owner) owner in
-          let (mark, n, kind, own, value) = g .sound .right .own e (getD-among nothing (s .entries) (getD (m .picks) 0 0) (first-lt k)) (λ q. omega arith) in
-          let mine : isMarkOf id mark ≡ true = and-intro (eq-eqb (mark .kind) 3 kind) (or-true false (eq-eqb (mark .owner) id (own ∙ sym o))) in
-          let some = map-among (λ e. e .origin) (keep (isMarkOf id) (s .entries)) mark (keep-among (isMarkOf id) (s .entries) mark n mine) in
-          rw (is-react k, begin, ne-eqb (rule k .class) 0 (λ q. c (d .class ∙ q)))
-          (one-of-more (marksOf id (s .entries)) (marksIn (ownersAt s (used k)) s) (mark .origin) some (marks-wider id (ownersAt s (used k)) s (subst (λ (x : ℕ). Among x (ownersAt s (used k))) (sym o) owner)) h)
+  module _ {first : ℕ} {begun : List ℕ} {i : ℕ} (tracked : Tracked first begun i s) where
+    -- an end's transaction owns something
+    open-mark : (b : ℕ) → isOpen b s ≡ true → OneOf (markIn begun first b) (marksOf b (s .entries))
+    open-mark b h =
+        let (e, m, o) = any-some (owned b) (s .entries) (and-right (ltb 0 b) (any (owned b) (s .entries)) h) in
+        let q = eqb-true (e .owner) b o in
+        subst (λ (id : ℕ). OneOf (markIn begun first id) (marksOf id (s .entries))) q
+        (own-mark tracked (g .sound) e m (λ z. let l = ltb-true 0 b (and-left (ltb 0 b) (any (owned b) (s .entries)) h) in omega arith) .2)
+
+    -- w at a move that leaves the next id as it was, else the mark of a begin
+    abbrev Noted : ℕ → Move → Type 0
+    Noted id m = OneOf (cond (eqb (s .next) (applied t (suc i) s m .next)) (markIn begun first id) ((i + 1) * 1024)) (membersOf t i s m)
+
+    member-end : (headKind head ≡ 0 → ⊥) → Noted (headNumber head) (moveOf t (head ∷ picks))
+    unfolding allowed applied ended
+    member-end k = by-end t head picks (λ m. allowed t s m ≡ Allowed → Noted (headNumber head) m)
+        (λ h. rw (eq-eqb (s .next) (s .next) refl) (open-mark (headNumber head) (unless-allowed (isOpen (headNumber head) s) NoTransaction (both-allowed _ _ h .0))))
+        (λ h. rw (eq-eqb (s .next) (s .next) refl) (open-mark (headNumber head) (unless-allowed (isOpen (headNumber head) s) NoTransaction (both-allowed _ _ h .0))))
+        k (g .allows)
+
+    member-react : headKind head ≡ 0 → Noted (entryAt (s .entries) (getD picks 0 0) .owner) (moveOf t (head ∷ picks))
+    unfolding applied reacted
+    member-react k = rw (is-react t head picks k) (go (shape k))
+      where
+        go : Shape (rule k) → Noted (first-entry k .owner) (react (headNumber head) (used k))
+        go (plain c b h) =
+            rw (b, eq-eqb (s .next) (s .next) refl, eq-eqb (rule k .class) 0 c, owners-zero (reacts k) c (first-entry k .owner) (first-owner k), no-mark tracked)
+            (record { some = λ q. absurd (true≢false q); none = λ q. refl })
+        go (begin c b h m rest q w z) =
+            let maker : (i + 1) * 1024 / 1024 ≡ suc i = omega arith in
+            let index : (i + 1) * 1024 % 1024 ≡ 0 = omega arith in
+            rw (b, h, ne-eqb (s .next) (suc (s .next)) (λ q. omega arith))
+            (record { some = λ q. rw (maker, index, eq-eqb (suc i) (suc i) refl, eq-eqb 0 0 refl); none = λ q. absurd (false≢true q) })
+        go (inner c b h z) =
+            let id = first-entry k .owner in
+            let positive = owners-positive (reacts k) (eqb-false (rule k .class) 0 c) id (first-owner k) in
+            let (o, m, one) = own-mark tracked (g .sound) (first-entry k) (first-among k) (λ q. omega arith) in
+            rw (b, eq-eqb (s .next) (s .next) refl, c)
+            (one-of-more (marksOf id (s .entries)) (marksIn (ownersAt s (used k)) s) o m (marks-wider id (ownersAt s (used k)) s (first-owner k)) one)
 
 row-at : (os ws gs : List ℕ) (n p : ℕ) → p < n → entryAt (rows (rowOf os ws gs) 0 n) p ≡ rowOf os ws gs p
 row-at os ws gs n p l = getD-rows nothing (rowOf os ws gs) 0 n p l ∙ ap (rowOf os ws gs) (omega arith)
 
--- in lent columns the owner of the first pick is read from the first
-pub first-row : (os ws gs : List ℕ) (n next : ℕ) {t : Table} {m : Move} → Legal t (stateFrom os ws gs n next) m → headKind (m .head) ≡ 0
-    → getD os (getD (m .picks) 0 0) 0 ≡ entryAt (rows (rowOf os ws gs) 0 n) (getD (m .picks) 0 0) .owner
-first-row os ws gs n next {t} {m} g k =
-    sym (ap (λ (e : Entry). e .owner) (row-at os ws gs n (getD (m .picks) 0 0) (omega (arith, first-lt g k, length-rows (rowOf os ws gs) 0 n))))
+-- ---- in lent columns
 
--- ---- the picks and the ends recorded
+module _ (s : State) {t : Table} {head : ℕ} {picks : List ℕ} (g : Legal t (stateIn s) head picks) where
+  pub member-noted : {first : ℕ} {begun : List ℕ} {i : ℕ} → Tracked first begun i (stateIn s)
+      → OneOf (cond (eqb (s .next) (applied t (suc i) (stateIn s) (moveOf t (head ∷ picks)) .next)) (markIn begun first (concernedBy (s .owners) head picks)) ((i + 1) * 1024)) (membersOf t i (stateIn s) (moveOf t (head ∷ picks)))
+  unfolding stateIn
+  member-noted {first} {begun} {i} tracked = by-bool (eqb (headKind head) 0)
+      (λ e. let k = eqb-true (headKind head) 0 e in
+      let l : getD picks 0 0 < s .len = omega (arith, first-lt g k, length-rows (entryIn s) 0 (s .len)) in
+      let owner : entryAt (stateIn s .entries) (getD picks 0 0) .owner ≡ getD (s .owners) (getD picks 0 0) 0 = ap (λ (x : Entry). x .owner) (row-at (s .owners) (s .items) (s .origins) (s .len) (getD picks 0 0) l) in
+      subst (λ (id : ℕ). Noted g tracked id (moveOf t (head ∷ picks))) (owner ∙ rw e) (member-react g tracked k))
+      (λ e. subst (λ (id : ℕ). Noted g tracked id (moveOf t (head ∷ picks))) (rw e) (member-end g tracked (eqb-false (headKind head) 0 e)))
 
-module _ (os ws gs : List ℕ) (n next : ℕ) {t : Table} {m : Move} (g : Legal t (stateFrom os ws gs n next) m) where
-  pub picks-origins : picksOf (stateFrom os ws gs n next) (moveOf t (wordsOf m)) ≡ map originOf (column gs (take (usedBy m) (m .picks)))
-  picks-origins = by-bool (eqb (headKind (m .head)) 0)
-      (λ e. let k = eqb-true (headKind (m .head)) 0 e in rw (is-react g k) (go (used g k) (λ p l. pick-lt (reacts g k) p l)))
-      (λ e. let k = eqb-false (headKind (m .head)) 0 e in rw (used-none g k) (ends k))
+  pub picks-origins : picksOf (stateIn s) (moveOf t (head ∷ picks)) ≡ map originOf (wordsAt (s .origins) (take (picksUsed t head) picks))
+  unfolding stateIn
+  picks-origins = by-bool (eqb (headKind head) 0)
+      (λ e. let k = eqb-true (headKind head) 0 e in rw (is-react t head picks k) (go (used g k) (λ p l. pick-lt (reacts g k) p l)))
+      (λ e. let k = eqb-false (headKind head) 0 e in rw (used-none g k) (by-end t head picks (λ m. picksOf (stateIn s) m ≡ []) refl refl k))
     where
-      go : (ps : List ℕ) → ((p : ℕ) → Among p ps → p < length (rows (rowOf os ws gs) 0 n)) → originsOf (picked (stateFrom os ws gs n next) ps) ≡ map originOf (column gs ps)
+      go : (ps : List ℕ) → ((p : ℕ) → Among p ps → p < length (rows (entryIn s) 0 (s .len))) → originsOf (picked (stateIn s) ps) ≡ map originOf (wordsAt (s .origins) ps)
       go [] f = refl
       go (p ∷ ps) f =
-          let l : p < n = omega (arith, f p (inl refl), length-rows (rowOf os ws gs) 0 n) in
-          rw (row-at os ws gs n p l, go ps (λ q k. f q (inr k)))
-
-      ends : (headKind (m .head) ≡ 0 → ⊥) → picksOf (stateFrom os ws gs n next) (moveOf t (wordsOf m)) ≡ []
-      ends k = by-bool (eqb (headKind (m .head)) 1)
-          (λ e. rw (move-commit t (m .head) (m .picks) k (eqb-true (headKind (m .head)) 1 e)))
-          (λ e. rw (move-abort t (m .head) (m .picks) k (eqb-false (headKind (m .head)) 1 e)))
+          let l : p < s .len = omega (arith, f p (inl refl), length-rows (entryIn s) 0 (s .len)) in
+          rw (row-at (s .owners) (s .items) (s .origins) (s .len) p l, go ps (λ q k. f q (inr k)))
 
 pub ends-marks : (t : Table) (i : ℕ) (s : semantics.State) (head : ℕ) (picks : List ℕ) (p : ℕ)
     → isEnd (moveOf t (head ∷ picks)) && anyMadeAt p (membersOf t i s (moveOf t (head ∷ picks))) ≡ anyMadeAt p (marksEnded head (s .entries))

@@ -1,7 +1,9 @@
 pub mod Tally
 pub mod Filling
+pub mod Chunking
 pub mod Marking
 pub mod Copying
+pub mod Tracking
 pub mod Acting
 pub mod Recording
 pub mod Keying

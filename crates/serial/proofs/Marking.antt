@@ -1,21 +1,27 @@
 -- The loops over the member marks of a transaction.
-use Prim.Native.Nat.{ℕ, suc, _+_, _-_, _/_, _%_, _≤_, _<_}
-use mathlib.Core.Bool.{Bool, true, false, _&&_, _||_, cond, true≢false}
-use mathlib.Core.List.{List, [], _∷_}
+use Prim.Native.Nat.{ℕ, suc, _+_, _-_, _/_, _≤_, _<_}
+use mathlib.Core.Bool.{Bool, true, false, _&&_, _||_, cond}
+use mathlib.Core.List.{List, [], _∷_, _++_, map-append}
 use mathlib.Core.Logic.{_⊎_, ⊎-elim}
-use mathlib.Core.Path.{_≡_, refl, sym, ap, _∙_}
+use mathlib.Core.Path.{_≡_, refl, sym, ap, subst, _∙_}
 use native.Mathlib.Omega.{arith}
-use borrow.Author.Tests.{eqb-true, eqb-false, eq-eqb, ne-eqb}
+use borrow.Author.Tests.{eqb-true, eqb-false, ne-eqb}
 use lib.Dec.{eqb}
 use lib.ListN.{length, getD, set, length-set}
 use lib.Seq.{getD-set-same, getD-set-other}
+use Rattle.lists.specs.Lists.{keep}
 use Rattle.lists.specs.Choices.{by-bool}
-use Rattle.lists.specs.Ahead.{Ahead, ahead-start, ahead-next, ahead-done}
-use Rattle.lists.specs.Rows.{rows, rowsFrom, rows-tails, rows-whole}
+use Rattle.lists.specs.Tests.{and-right-false}
+use Rattle.lists.specs.Each.{keep-none}
+use Rattle.lists.specs.Parts.{keep-append}
+use Rattle.lists.specs.Found.{any-append}
+use Rattle.lists.specs.Rows.{rows, rows-none, rows-append, rows-each}
 use Rattle.semantics.specs.Words.{itemKind}
 use Rattle.semantics.specs.State.{Origin, Entry}
-use Rattle.state.specs.Working.{originOf, rowOf}
-use Rattle.serial.specs.Marks.{Lent, isMarkOf, marksOf, OneOf, anyMadeAt, NotedAt}
+use Rattle.state.specs.Working.{rowOf}
+use Rattle.serial.specs.Chunks.{inChunk}
+use Rattle.serial.specs.Marks.{isMarkOf, marksOf, anyMadeAt, NotedAt, RowsNoted}
+use Rattle.serial.proofs.Chunking.{chunk-lacks}
 
 -- the test as the code has it
 is-mark : (k o id : ℕ) (b : Bool) → eqb k 3 && eqb o id ≡ b → eqb k 3 && (eqb o id || false) ≡ b
@@ -24,34 +30,6 @@ is-mark k o id b h = go (eqb o id) h
     go : (c : Bool) → eqb k 3 && c ≡ b → eqb k 3 && (c || false) ≡ b
     go true h = h
     go false h = h
-
--- ---- one of them
-
--- no mark of id stands before i
-pub record Seeking (os ws gs : List ℕ) (n id i : ℕ) : Type 0 where
-  pub lent : Lent os ws gs n
-  pub ahead : Ahead (rowsFrom (rowOf os ws gs) n) n (marksOf id) i (marksOf id (rows (rowOf os ws gs) 0 n))
-
-pub seeking-start : {os ws gs : List ℕ} {n : ℕ} (id : ℕ) → Lent os ws gs n → Seeking os ws gs n id 0
-seeking-start {os} {ws} {gs} {n} id c = record { lent = c; ahead = rw (← rows-whole (rowOf os ws gs) n) (ahead-start (rowsFrom (rowOf os ws gs) n) n (marksOf id)) }
-
-module _ {os ws gs : List ℕ} {n id i : ℕ} (a : Seeking os ws gs n id i) where
-  pub seeking-here : i < n → eqb (itemKind (getD ws i 0)) 3 && eqb (getD os i 0) id ≡ true → OneOf (getD gs i 0) (marksOf id (rows (rowOf os ws gs) 0 n))
-  seeking-here l h =
-      let q : isMarkOf id (rowOf os ws gs i) ≡ true = is-mark (itemKind (getD ws i 0)) (getD os i 0) id true h in
-      let e : originOf (getD gs i 0) ∷ marksOf id (rowsFrom (rowOf os ws gs) n (i + 1)) ≡ marksOf id (rows (rowOf os ws gs) 0 n) =
-      sym (ap (marksOf id) (rows-tails (rowOf os ws gs) n .more i l) ∙ rw q) ∙ a .ahead .so-far in
-      rw (← e) (record { some = λ k. rw (eq-eqb (getD gs i 0 / 1024) (getD gs i 0 / 1024) refl, eq-eqb (getD gs i 0 % 1024) (getD gs i 0 % 1024) refl); none = λ k. absurd (true≢false (sym k)) })
-
-  pub seeking-next : i < n → eqb (itemKind (getD ws i 0)) 3 && eqb (getD os i 0) id ≡ false → Seeking os ws gs n id (i + 1)
-  seeking-next l h =
-      let q : isMarkOf id (rowOf os ws gs i) ≡ false = is-mark (itemKind (getD ws i 0)) (getD os i 0) id false h in
-      record { lent = a .lent; ahead = ahead-next (rows-tails (rowOf os ws gs) n) (a .ahead) l (marksOf id) (λ xs. rw q) }
-
-  pub seeking-none : n ≤ i → OneOf 0 (marksOf id (rows (rowOf os ws gs) 0 n))
-  seeking-none l = rw (← ahead-done (rows-tails (rowOf os ws gs) n) (a .ahead) l) (record { some = λ k. absurd (true≢false k); none = λ k. refl })
-
--- ---- all of them
 
 module _ (place maker : ℕ) (before : List ℕ) (size : length before ≡ 1024) where
   abbrev origin : Origin
@@ -71,51 +49,63 @@ module _ (place maker : ℕ) (before : List ℕ) (size : length before ≡ 1024)
       other : (p : ℕ) → p < 1024 → eqb maker (suc p) ≡ false → getD (set before (maker - 1) place) p 0 ≡ cond (eqb maker (suc p) || false) place (getD before p 0)
       other p l h = rw h (getD-set-other before (maker - 1) p place 0 (λ e. eqb-false maker (suc p) h (omega arith)))
 
--- the marks before i are noted
-pub record Noting (os ws gs : List ℕ) (n id place i : ℕ) (before now : List ℕ) : Type 0 where
-  pub lent : Lent os ws gs n
-  pub size : length now ≡ 1024
-  pub each : (p : ℕ) → p < 1024
-      → Ahead (rowsFrom (rowOf os ws gs) n) n (λ xs. cond (anyMadeAt p (marksOf id xs)) place (getD now p 0)) i
-      (cond (anyMadeAt p (marksOf id (rows (rowOf os ws gs) 0 n))) place (getD before p 0))
+-- ---- rows after rows
 
-pub noting-start : {os ws gs : List ℕ} {n : ℕ} (id place : ℕ) {before : List ℕ} → Lent os ws gs n → length before ≡ 1024 → Noting os ws gs n id place 0 before before
-noting-start {os} {ws} {gs} {n} id place {before} c size = record {
-  lent = c;
-  size = size;
-  each = λ p l. rw (← rows-whole (rowOf os ws gs) n) (ahead-start (rowsFrom (rowOf os ws gs) n) n (λ xs. cond (anyMadeAt p (marksOf id xs)) place (getD before p 0)));
+pub nothing-noted : (place : ℕ) {before : List ℕ} → length before ≡ 1024 → NotedAt place [] before before
+nothing-noted place size = record { size = size; each = λ p l. refl }
+
+-- what is noted last counts
+noted-append : {place : ℕ} (xs ys : List Origin) {a b c : List ℕ} → NotedAt place xs a b → NotedAt place ys b c → NotedAt place (xs ++ ys) a c
+noted-append {place} xs ys h k = record {
+  size = k .size;
+  each = λ p l. k .each p l ∙ rw (h .each p l, any-append (λ o. eqb (o .maker) (suc p)) xs ys) (order (anyMadeAt p xs) (anyMadeAt p ys) _);
 }
+  where
+    order : (b c : Bool) (x : ℕ) → cond c place (cond b place x) ≡ cond (b || c) place x
+    order true true x = refl
+    order true false x = refl
+    order false c x = refl
 
--- one turn at p, with and without the entry x, whose mark's maker is noted if b
-abbrev NotedTurn : ℕ → ℕ → ℕ → List ℕ → Entry → List Entry → Bool → Type 0
-NotedTurn id place p now x xs b =
-    cond (anyMadeAt p (marksOf id (x ∷ xs))) place (getD now p 0)
-    ≡ cond (anyMadeAt p (marksOf id xs)) place (cond (eqb (cond b (x .origin .maker) 0) (suc p) || false) place (getD now p 0))
+marks-append : (id : ℕ) (xs ys : List Entry) → marksOf id (xs ++ ys) ≡ marksOf id xs ++ marksOf id ys
+marks-append id xs ys = rw (keep-append (isMarkOf id) xs ys) (map-append (λ e. e .origin) (keep (isMarkOf id) xs) (keep (isMarkOf id) ys))
 
-module _ {os ws gs : List ℕ} {n id place i : ℕ} {before now : List ℕ} (a : Noting os ws gs n id place i before now) where
-  pub noting-next : i < n → {maker : ℕ} → maker ≡ cond (eqb (itemKind (getD ws i 0)) 3 && eqb (getD os i 0) id) (getD gs i 0 / 1024) 0
-      → {new : List ℕ} → NotedAt place (record { maker = maker; index = 0 } ∷ []) now new → Noting os ws gs n id place (i + 1) before new
-  noting-next l {maker} is {new} h = record {
-    lent = a .lent;
-    size = h .size;
-    each = λ p u. ahead-next (rows-tails (rowOf os ws gs) n) (a .each p u) l _ (λ xs. rw (h .each p u, is)
-        (by-bool (eqb (itemKind (getD ws i 0)) 3 && eqb (getD os i 0) id) (mine p xs) (other p xs)));
-  }
+module _ (f : ℕ → Entry) (id place : ℕ) where
+  pub rows-noted : (from i stop : ℕ) → from ≤ i → i ≤ stop → {a b c : List ℕ} → RowsNoted f id place from i a b → RowsNoted f id place i stop b c → RowsNoted f id place from stop a c
+  rows-noted from i stop low high {a} {b} {c} h k =
+      let count : stop - from ≡ (i - from) + (stop - i) = omega arith in
+      let at : from + (i - from) ≡ i = omega arith in
+      let all : marksOf id (rows f from (stop - from)) ≡ marksOf id (rows f from (i - from)) ++ marksOf id (rows f i (stop - i)) =
+      ap (λ (n : ℕ). marksOf id (rows f from n)) count
+      ∙ ap (marksOf id) (rows-append f from (i - from) (stop - i))
+      ∙ marks-append id (rows f from (i - from)) (rows f (from + (i - from)) (stop - i))
+      ∙ ap (λ (j : ℕ). marksOf id (rows f from (i - from)) ++ marksOf id (rows f j (stop - i))) at in
+      subst (λ (os : List Origin). NotedAt place os a c) (sym all) (noted-append (marksOf id (rows f from (i - from))) (marksOf id (rows f i (stop - i))) h k)
+
+  pub no-rows : (from : ℕ) {a : List ℕ} → length a ≡ 1024 → RowsNoted f id place from from a a
+  no-rows from {a} size =
+      let e : from - from ≡ 0 = omega arith in
+      rw (e, rows-none f from) (nothing-noted place size)
+
+-- ---- one row
+
+module _ (os ws gs : List ℕ) (id place i : ℕ) where
+  pub row-noted : {maker : ℕ} → maker ≡ cond (eqb (itemKind (getD ws i 0)) 3 && eqb (getD os i 0) id) (getD gs i 0 / 1024) 0
+      → {a b : List ℕ} → NotedAt place (record { maker = maker; index = 0 } ∷ []) a b → RowsNoted (rowOf os ws gs) id place i (i + 1) a b
+  unfolding rows
+  row-noted {maker} is {a} {b} h =
+      let one : i + 1 - i ≡ 1 = omega arith in
+      rw one (record { size = h .size; each = λ p l. h .each p l ∙ ap (λ (c : Bool). cond c place (getD a p 0)) (made p) })
     where
-      order : (b c : Bool) (x : ℕ) → cond (b || c) place x ≡ cond c place (cond (b || false) place x)
-      order true true x = refl
-      order true false x = refl
-      order false c x = refl
+      made : (p : ℕ) → eqb maker (suc p) || false ≡ anyMadeAt p (marksOf id (rowOf os ws gs i ∷ []))
+      made p = by-bool (eqb (itemKind (getD ws i 0)) 3 && eqb (getD os i 0) id)
+          (λ h. let q : isMarkOf id (rowOf os ws gs i) ≡ true = is-mark (itemKind (getD ws i 0)) (getD os i 0) id true h in rw (q, is, h))
+          (λ h. let q : isMarkOf id (rowOf os ws gs i) ≡ false = is-mark (itemKind (getD ws i 0)) (getD os i 0) id false h in rw (q, is, h, ne-eqb 0 (suc p) (λ e. omega arith)))
 
-      mine : (p : ℕ) (xs : List Entry) → eqb (itemKind (getD ws i 0)) 3 && eqb (getD os i 0) id ≡ true → NotedTurn id place p now (rowOf os ws gs i) xs (eqb (itemKind (getD ws i 0)) 3 && eqb (getD os i 0) id)
-      mine p xs h =
-          let q : isMarkOf id (rowOf os ws gs i) ≡ true = is-mark (itemKind (getD ws i 0)) (getD os i 0) id true h in
-          rw (q, h) (order (eqb (getD gs i 0 / 1024) (suc p)) (anyMadeAt p (marksOf id xs)) (getD now p 0))
+-- ---- a chunk in which id owns nothing
 
-      other : (p : ℕ) (xs : List Entry) → eqb (itemKind (getD ws i 0)) 3 && eqb (getD os i 0) id ≡ false → NotedTurn id place p now (rowOf os ws gs i) xs (eqb (itemKind (getD ws i 0)) 3 && eqb (getD os i 0) id)
-      other p xs h =
-          let q : isMarkOf id (rowOf os ws gs i) ≡ false = is-mark (itemKind (getD ws i 0)) (getD os i 0) id false h in
-          rw (q, h, ne-eqb 0 (suc p) (λ e. omega arith)) (order false (anyMadeAt p (marksOf id xs)) (getD now p 0))
-
-  pub noting-done : n ≤ i → NotedAt place (marksOf id (rows (rowOf os ws gs) 0 n)) before now
-  noting-done l = record { size = a .size; each = λ p u. ahead-done (rows-tails (rowOf os ws gs) n) (a .each p u) l }
+pub chunk-unnoted : (os ws gs : List ℕ) (id place from stop : ℕ) → from ≤ stop → stop ≤ from + 32 → inChunk os from id ≡ false → {a : List ℕ} → length a ≡ 1024
+    → RowsNoted (rowOf os ws gs) id place from stop a a
+chunk-unnoted os ws gs id place from stop low high lacks size =
+    rw (keep-none (isMarkOf id) (rows (rowOf os ws gs) from (stop - from)) (rows-each (λ e. isMarkOf id e ≡ false) (rowOf os ws gs) from (stop - from)
+    (λ k l u. is-mark (itemKind (getD ws k 0)) (getD os k 0) id false (and-right-false (eqb (itemKind (getD ws k 0)) 3) (ne-eqb (getD os k 0) id (chunk-lacks os from id lacks k l (omega arith)))))))
+    (nothing-noted place size)

@@ -1,9 +1,10 @@
 -- Entries found by their origins: an origin in one word is the same origin only in the same word.
-use Prim.Native.Nat.{ℕ, _+_, _/_, _%_, _≤_, _<_}
+use Prim.Native.Nat.{ℕ, zero, suc, _+_, _/_, _%_, _≤_, _<_}
 use mathlib.Core.Bool.{true, false}
 use mathlib.Core.List.{List}
-use mathlib.Core.Path.{_≡_, sym, ap, _∙_}
+use mathlib.Core.Path.{_≡_, sym, ap, subst, _∙_}
 use native.Mathlib.Nat.{add-zero, zero-add}
+use native.Mathlib.Numerals.{add-one}
 use native.Mathlib.Omega.{arith}
 use lib.Dec.{eqb}
 use lib.ListN.{length, getD, List·getD-eq-default}
@@ -33,7 +34,7 @@ module _ (os ws gs : List ℕ) (n : ℕ) where
   abbrev pub Seeking : ℕ → ℕ → Type 0
   Seeking w i = Ahead (rowsFrom (rowOf os ws gs) n) n (λ es. i + placeIn es w) i (placeIn (rows (rowOf os ws gs) 0 n) w)
 
-  pub seek-start : (w : ℕ) → Seeking w 0
+  seek-start : (w : ℕ) → Seeking w 0
   seek-start w = record { within = omega arith; so-far = rw (rows-whole (rowOf os ws gs) n, zero-add) }
 
   module _ (w i : ℕ) (a : Seeking w i) where
@@ -45,6 +46,11 @@ module _ (os ws gs : List ℕ) (n : ℕ) where
 
     pub seek-none : n ≤ i → n ≡ placeIn (rows (rowOf os ws gs) 0 n) w
     seek-none l = let h = ahead-done (rows-tails (rowOf os ws gs) n) a l in let u = a .within in omega arith
+
+  -- if it is none of the words before that place
+  pub seek-from : (w i : ℕ) → i ≤ n → ((j : ℕ) → j < i → getD gs j 0 ≡ w → ⊥) → Seeking w i
+  seek-from w zero l h = seek-start w
+  seek-from w (suc i) l h = subst (Seeking w) (add-one i) (seek-next w i (seek-from w i (omega arith) (λ j b. h j (omega arith))) (omega arith) (h i (omega arith)))
 
   pub owner-within : (p : ℕ) → p < n → getD os p 0 ≡ entryAt (rows (rowOf os ws gs) 0 n) p .owner
   owner-within p h = sym (ap (λ (e : Entry). e .owner) (getD-rows nothing (rowOf os ws gs) 0 n p h) ∙ rw zero-add)

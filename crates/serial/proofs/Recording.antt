@@ -1,39 +1,38 @@
 -- The loop of the first pass: at place i the moves before it are run and recorded.
-use Prim.Native.Nat.{ℕ, suc, _+_, _*_, _≤_, _<_}
-use mathlib.Core.Bool.{cond}
+use Prim.Native.Nat.{ℕ, suc, _+_, _-_, _*_, _≤_, _<_}
+use mathlib.Core.Bool.{Bool, true, false, cond}
 use mathlib.Core.List.{List, [], _∷_, _++_, map, append-nil, append-assoc}
-use mathlib.Core.Path.{_≡_, refl, sym, ap, _∙_}
+use mathlib.Core.Path.{_≡_, refl, sym, ap, subst, _∙_}
 use native.Mathlib.Numerals.{add-one}
 use native.Mathlib.Omega.{arith}
-use borrow.Author.Needs.{length-unmapped}
+use lib.Dec.{eqb}
 use lib.ListN.{length, getD, take, drop, set, length-set, length-map}
-use lib.Seq.{getD-set-same, getD-set-other}
-use Rattle.lists.specs.Fronts.{take-le, part-kept}
+use lib.Seq.{getD-set-same, getD-set-other, length-take-le}
+use Rattle.lists.specs.Fronts.{part-kept}
 use Rattle.lists.specs.Each.{All, All-map, All-append}
 use Rattle.semantics.specs.Table.{Table, sizesOf, tableOf}
 use Rattle.semantics.specs.State as semantics
-use Rattle.semantics.specs.Move.{unless, to, refused, moveOk, moveOf, allowed, step, stepWords, moveVerdict}
+use Rattle.semantics.specs.Move.{to, moveOf, picksUsed, applied, step, stepWords}
 use Rattle.semantics.specs.Log.{moveCount, moveAt, movesOf}
 use Rattle.semantics.specs.Serial.{Act, picksOf, membersOf, after, acts}
 use Rattle.semantics.specs.declared.Refusal.{Refusal}
-use Rattle.semantics.specs.declared.Refusal.the-variants.{MoveForm}
+use Rattle.semantics.specs.declared.Verdict.{Verdict}
 use Rattle.semantics.specs.declared.Verdict.the-variants.{Allowed, Denied}
-use Rattle.wellformed.specs.Verdicts.{both-allowed, unless-allowed, sizes-tableOf, denied≢allowed}
+use Rattle.wellformed.specs.Verdicts.{sizes-tableOf, denied≢allowed}
 use Rattle.wellformed.specs.Rules.{table-right}
-use Rattle.wellformed.specs.Step.{accepted}
+use Rattle.wellformed.specs.Step.{Accepted, accepted}
 use Rattle.wellformed.specs.Held.{Held, step-holds}
+use Rattle.serializability.specs.Shapes.{table-shaped}
 use Rattle.state.specs.declared.State.{State}
 use Rattle.state.specs.Working.{originOf, stateIn}
-use Rattle.state.specs.Arrays.{Arrays}
-use Rattle.step.specs.React.{column}
-use Rattle.run.specs.declared.moves.Move.{Move}
-use Rattle.run.specs.Moves.{Decoded, wordsOf, wordsVerdict, is-move}
-use Rattle.run.specs.Runs.{movesIn, moves-none, moves-whole, moves-first, Reached, reached-start, reached-next, reached-refused, reached-end}
+use Rattle.step.specs.Make.{MadeAs}
+use Rattle.run.specs.Runs.{movesFrom, moves-tails, moves-whole, Reached, reached-start, reached-made, reached-refused, reached-end}
 use Rattle.serial.specs.Acts.{Recorded, endsBegun, endAfter}
-use Rattle.serial.specs.Marks.{Lent, OneOf, NotedAt}
-use Rattle.serial.specs.Recordings.{Legal, usedBy, Pickable, PicksNoted, marksEnded, Recordable, RecordedAs}
+use Rattle.serial.specs.Marks.{Lent, OneOf}
+use Rattle.serial.specs.Recordings.{wordsAt, concernedBy, markIn, MoveNoted, ifGrown, Recordable, RecordRoom, RecordedAs}
 use Rattle.serial.proofs.Copying.{picks-before, picks-here}
-use Rattle.serial.proofs.Acting.{pickable, picks-origins, ends-marks}
+use Rattle.serial.proofs.Tracking.{Tracked, tracked-start, tracked-next}
+use Rattle.serial.proofs.Acting.{Legal, used-few, member-noted, picks-origins, ends-marks}
 
 -- ---- recorded, and out of reach of what is written from place i on
 record Done (t : Table) (l origins members : List ℕ) (i : ℕ) (a : Act) : Type 0 where
@@ -41,10 +40,10 @@ record Done (t : Table) (l origins members : List ℕ) (i : ℕ) (a : Act) : Typ
   few : length (a .picks) ≤ 4
   recorded : Recorded t l origins members a
 
-done-kept : (t : Table) (l origins origins′ members : List ℕ) (i w : ℕ) → take (4 * i) origins′ ≡ take (4 * i) origins
-    → (a : Act) → Done t l origins members i a → Done t l origins′ (set members i w) (i + 1) a
-done-kept t l origins origins′ members i w e a d =
-    let same : getD (set members i w) (a .place) 0 ≡ getD members (a .place) 0 = getD-set-other members i (a .place) w 0 (λ q. omega (arith, d .past)) in
+done-kept : (t : Table) (l origins origins′ members members′ : List ℕ) (i : ℕ) → take (4 * i) origins′ ≡ take (4 * i) origins
+    → ((p : ℕ) → p < i → getD members′ p 0 ≡ getD members p 0) → (a : Act) → Done t l origins members i a → Done t l origins′ members′ (i + 1) a
+done-kept t l origins origins′ members members′ i e m a d =
+    let same = m (a .place) (d .past) in
     record {
       past = omega (arith, d .past);
       few = d .few;
@@ -65,160 +64,185 @@ after-accepted : (ceiling : ℕ) (t : Table) (i : ℕ) (s : semantics.State) (w 
 unfolding after step
 after-accepted ceiling t i s w s′ e = let a = accepted ceiling t i s w s′ e in rw (a .allows, a .result)
 
--- what a call says of a state that it returns, by its type
-pub arrays-of : (s : State) → length (map (λ (v : ℕ). v) (s .owners)) ≡ 1024 → length (map (λ (v : ℕ). v) (s .items)) ≡ 1024 → length (map (λ (v : ℕ). v) (s .origins)) ≡ 1024
-    → Arrays (s .owners) (s .items) (s .origins)
-arrays-of s a b c = record { owners = length-unmapped ℕ (s .owners) 1024 a; items = length-unmapped ℕ (s .items) 1024 b; origins = length-unmapped ℕ (s .origins) 1024 c }
+-- as the code reads them
+pub words-read : (l : List ℕ) (i : ℕ) {head : ℕ} {picks : List ℕ} → head ≡ getD l (1 + i) 0 → picks ≡ take 4 (drop (1 + moveCount l + 4 * i) l) → head ∷ picks ≡ moveAt l i
+words-read l i h p = rw (h, p)
+
+grown-length : (begun : List ℕ) (at w : ℕ) (c : Bool) → length (cond c begun (set begun at w)) ≡ length begun
+grown-length begun at w true = refl
+grown-length begun at w false = length-set begun at w
+
+-- a word at place i in two steps
+module _ (members : List ℕ) (i w v : ℕ) where
+  grown-size : (c : Bool) → length (cond c (set members i w) (set (set members i w) i v)) ≡ length members
+  grown-size true = length-set members i w
+  grown-size false = length-set (set members i w) i v ∙ length-set members i w
+
+  grown-other : (c : Bool) (p : ℕ) → (p ≡ i → ⊥) → getD (cond c (set members i w) (set (set members i w) i v)) p 0 ≡ getD members p 0
+  grown-other true p n = getD-set-other members i p w 0 n
+  grown-other false p n = getD-set-other (set members i w) i p v 0 n ∙ getD-set-other members i p w 0 n
+
+  grown-here : (c : Bool) → i < length members → getD (cond c (set members i w) (set (set members i w) i v)) i 0 ≡ cond c w v
+  grown-here true l = getD-set-same members i w 0 l
+  grown-here false l = getD-set-same (set members i w) i v 0 (omega (arith, length-set members i w))
 
 -- ---- the loop
 
-pub record Recording (T index l : List ℕ) (s₀ : State) (ceiling : ℕ) (before : List ℕ) (i : ℕ) (origins members ended : List ℕ) (s : State) : Type 0 where
+pub record Recording (T index l : List ℕ) (s₀ : State) (ceiling : ℕ) (before : List ℕ) (i : ℕ) (begun origins members ended : List ℕ) (s : State) : Type 0 where
   pub asked : Recordable T index l s₀ ceiling
-  pub within : i ≤ moveCount l
-  pub origins-size : length origins ≡ 4096
-  pub members-size : length members ≡ 1024
-  pub ended-size : length ended ≡ 1024
-  pub reached : Reached ceiling (tableOf T) l (stateIn s₀) 0 i s
+  pub room : RecordRoom l origins members ended begun
+  pub reached : Reached ceiling (tableOf T) l s₀ i s
   pub held : Held (sizesOf T) (stateIn s)
-  pub arrays : Arrays (s .owners) (s .items) (s .origins)
+  pub tracked : Tracked (s₀ .next) begun i (stateIn s)
   made : List Act
-  so-far : made ++ acts (tableOf T) i (stateIn s) (map (moveOf (tableOf T)) (movesIn l i (moveCount l))) ≡ acts (tableOf T) 0 (stateIn s₀) (map (moveOf (tableOf T)) (movesOf l))
+  so-far : made ++ acts (tableOf T) i (stateIn s) (map (moveOf (tableOf T)) (movesFrom l i)) ≡ acts (tableOf T) 0 (stateIn s₀) (map (moveOf (tableOf T)) (movesOf l))
   each : All (Done (tableOf T) l origins members i) made
   ends : (p : ℕ) → p < 1024 → getD ended p 0 ≡ endAfter p (getD before p 0) made
 
-pub recording-start : {T index l : List ℕ} {s : State} {ceiling : ℕ} {before origins members : List ℕ} → Recordable T index l s ceiling
-    → length origins ≡ 4096 → length members ≡ 1024 → length before ≡ 1024 → Arrays (s .owners) (s .items) (s .origins)
-    → Recording T index l s ceiling before 0 origins members before s
+pub recording-start : {T index l : List ℕ} {s : State} {ceiling : ℕ} {before origins members begun : List ℕ} → Recordable T index l s ceiling
+    → RecordRoom l origins members before begun → Recording T index l s ceiling before 0 begun origins members before s
 unfolding stateIn
-recording-start {T} {index} {l} {s} {ceiling} {before} a o m e c = record {
+recording-start {T} {index} {l} {s} {ceiling} {before} a r = record {
   asked = a;
-  within = omega arith;
-  origins-size = o;
-  members-size = m;
-  ended-size = e;
-  reached = reached-start ceiling (tableOf T) l 0 s (record { fits = a .fits; next = a .held .sound .next-high });
+  room = r;
+  reached = reached-start (tableOf T) l (a .workable);
   held = a .held;
-  arrays = c;
+  tracked = tracked-start (stateIn s) (a .held .sound) (a .closed) (r .begun);
   made = [];
   so-far = rw (moves-whole l);
   each = tt;
   ends = λ p q. refl;
 }
 
-module _ {T index l : List ℕ} {s₀ : State} {ceiling : ℕ} {before : List ℕ} {i : ℕ} {origins members ended : List ℕ} {s : State}
-    (h : Recording T index l s₀ ceiling before i origins members ended s)
+module _ {T index l : List ℕ} {s₀ : State} {ceiling : ℕ} {before : List ℕ} {i : ℕ} {begun origins members ended : List ℕ} {s : State}
+    (h : Recording T index l s₀ ceiling before i begun origins members ended s)
   where
-    pub recording-legal : {m : Move} → Decoded m (tableOf T) → wordsVerdict ceiling (tableOf T) (stateIn s) (wordsOf m) ≡ Allowed → Legal (tableOf T) (stateIn s) m
-    unfolding wordsVerdict moveVerdict
-    recording-legal {m} d v =
-        let t = tableOf T in
-        let (form, verdict) = both-allowed (unless (moveOk t (wordsOf m)) MoveForm) (moveVerdict ceiling t (stateIn s) (moveOf t (wordsOf m))) v in
-        record {
-          move = is-move d (d .form ∙ unless-allowed (moveOk t (wordsOf m)) MoveForm form);
-          allows = both-allowed (allowed t (stateIn s) (moveOf t (wordsOf m))) _ verdict .0;
-          table = table-right T (h .asked .prepared .table);
-          sound = rw (sizes-tableOf T) (h .held .sound);
-          quiet = h .asked .quiet;
-        }
-
     pub recording-lent : Lent (s .owners) (s .items) (s .origins) (s .len)
-    recording-lent = record { arrays = h .arrays; fits = omega (arith, h .reached .bounds .fits, h .asked .limit) }
+    recording-lent = let w = h .reached .workable in record { arrays = w .arrays; fits = omega (arith, w .bounds .fits, w .limit) }
 
     pub recording-place : i < moveCount l → i < 1024
     recording-place more = omega (arith, h .asked .prepared .log .few)
 
-    pub recording-pickable : {m : Move} → Legal (tableOf T) (stateIn s) m → Pickable m
-    recording-pickable g = pickable g (h .held .few)
+    -- the id of a begin has a place among those begun
+    pub recording-id : i < moveCount l → (s₀ .next ≤ s .next) × (s .next < s₀ .next + 1024)
+    unfolding stateIn
+    recording-id more = (h .tracked .low, omega (arith, h .tracked .high, recording-place more))
 
     -- no move is left
-    pub recording-end : {k : ℕ} → k ≡ moveCount l → k ≤ i
-        → RecordedAs (record { verdict = Allowed; place = k; state = s }) ceiling (tableOf T) l (stateIn s₀) origins members before ended
+    pub recording-end : moveCount l ≤ i → RecordedAs Allowed i ceiling (tableOf T) l s₀ s origins members before ended
     unfolding acts
-    recording-end {k} e q =
-        let ran = reached-end (h .reached) k (omega (arith, h .within)) q in
+    recording-end q =
         let all : h .made ≡ acts (tableOf T) 0 (stateIn s₀) (map (moveOf (tableOf T)) (movesOf l)) =
-        sym (append-nil (h .made)) ∙ (rw (moves-none l i (moveCount l) (omega arith)) at (h .so-far)) in
+        sym (append-nil (h .made)) ∙ (rw (moves-tails l .none i q) at (h .so-far)) in
         record {
-          value = ran .value ∙ rw (e, moves-whole l);
-          bounds = h .reached .bounds;
-          record-sizes = (h .origins-size, h .members-size, h .ended-size);
+          ran = reached-end (h .reached) q;
           recordings = λ v. rw (← all) (record { each = All-map (λ a d. d .recorded) (h .made) (h .each); ends = h .ends });
         }
 
-    -- a move is refused
-    pub recording-refused : {w : List ℕ} → w ≡ moveAt l i → i < moveCount l → (q : Refusal) → stepWords ceiling (tableOf T) (i + 1) (stateIn s) w ≡ refused q
-        → RecordedAs (record { verdict = Denied q; place = i; state = s }) ceiling (tableOf T) l (stateIn s₀) origins members before ended
-    recording-refused words more q e =
-        let ran = reached-refused (h .reached) words (moveCount l) more q e in
-        record {
-          value = ran .value ∙ rw (moves-whole l);
-          bounds = h .reached .bounds;
-          record-sizes = (h .origins-size, h .members-size, h .ended-size);
-          recordings = λ v. absurd (denied≢allowed v);
-        }
-
-    -- a move is made, and recorded before that
-    module _ {m : Move} (words : wordsOf m ≡ moveAt l i) (more : i < moveCount l) (g : Legal (tableOf T) (stateIn s) m)
-        {k : ℕ} (used : k ≡ usedBy m) {origins′ : List ℕ} (noted : PicksNoted (s .origins) (take k (m .picks)) i origins origins′)
-        {w : ℕ} (member : OneOf w (membersOf (tableOf T) i (stateIn s) (moveOf (tableOf T) (wordsOf m))))
-        {ended′ : List ℕ} (ending : NotedAt i (marksEnded (m .head) (stateIn s .entries)) ended ended′)
+    -- a move is noted, decided and made
+    module _ (more : i < moveCount l) {head : ℕ} {picks : List ℕ} (words : head ∷ picks ≡ moveAt l i) (four : length picks ≡ 4)
+        {origins′ members₁ ended′ : List ℕ} (noted : MoveNoted (s .owners) (s .items) (s .origins) (s .len) begun (s₀ .next) head picks i origins members ended origins′ members₁ ended′)
+        {v : Verdict} {s′ : State} (step : MadeAs v ceiling (tableOf T) (i + 1) (head ∷ picks) s s′)
+        {begun′ members′ : List ℕ} (marked : (begun′ ≡ ifGrown (s .next) (s′ .next) begun (s .next - s₀ .next) ((i + 1) * 1024)) × (members′ ≡ ifGrown (s .next) (s′ .next) members₁ i ((i + 1) * 1024)))
       where
         place-fits : i < 1024
         place-fits = recording-place more
 
-        act : Act
-        act = record { place = i; move = moveOf (tableOf T) (wordsOf m); picks = picksOf (stateIn s) (moveOf (tableOf T) (wordsOf m)); members = membersOf (tableOf T) i (stateIn s) (moveOf (tableOf T) (wordsOf m)) }
+        of-log : MadeAs v ceiling (tableOf T) (i + 1) (moveAt l i) s s′
+        of-log = rw (← words) step
 
-        act-picks : act .picks ≡ map originOf (column (s .origins) (take k (m .picks)))
-        unfolding act stateIn
-        act-picks = rw used (picks-origins (s .owners) (s .items) (s .origins) (s .len) (s .next) g)
+        members-are : members′ ≡ cond (eqb (s .next) (s′ .next)) (set members i (markIn begun (s₀ .next) (concernedBy (s .owners) head picks))) (set (set members i (markIn begun (s₀ .next) (concernedBy (s .owners) head picks))) i ((i + 1) * 1024))
+        members-are = marked .1 ∙ rw (noted .member)
 
-        act-count : length (act .picks) ≡ length (take k (m .picks))
-        act-count = ap length act-picks ∙ length-map (column (s .origins) (take k (m .picks))) originOf ∙ length-map (take k (m .picks)) (λ p. getD (s .origins) p 0)
+        row-room : 4 * i + 4 ≤ length origins
+        row-room = omega (arith, h .room .origins)
 
-        act-done : Done (tableOf T) l origins′ (set members i w) (i + 1) act
-        unfolding act
-        act-done =
-            let few = recording-pickable g .few in
-            let here : getD (set members i w) i 0 ≡ w = getD-set-same members i w 0 (omega (arith, h .members-size, place-fits)) in
-            record {
-              past = omega arith;
-              few = omega (arith, act-count, take-le k (m .picks), used);
-              recorded = record {
-                move = ap (moveOf (tableOf T)) words;
-                picks = act-picks ∙ ap (map originOf) (sym (ap (λ (n : ℕ). take n (drop (4 * i) origins′)) act-count ∙ picks-here noted (h .origins-size) place-fits));
-                some = rw here (member .some);
-                none = rw here (member .none);
-              };
-            }
-
-        act-ends : (p : ℕ) → p < 1024 → getD ended′ p 0 ≡ endAfter p (getD before p 0) (h .made ++ act ∷ [])
-        unfolding act
-        act-ends p q =
-            ending .each p q
-            ∙ rw (endAfter-more p (getD before p 0) (h .made) act, ends-marks (tableOf T) i (stateIn s) (m .head) (m .picks) p, h .ends p q)
-
-        acts-onward : (s′ : State) → stepWords ceiling (tableOf T) (i + 1) (stateIn s) (wordsOf m) ≡ to (stateIn s′)
-            → acts (tableOf T) i (stateIn s) (map (moveOf (tableOf T)) (movesIn l i (moveCount l)))
-            ≡ act ∷ acts (tableOf T) (i + 1) (stateIn s′) (map (moveOf (tableOf T)) (movesIn l (i + 1) (moveCount l)))
-        unfolding act acts
-        acts-onward s′ e =
-            let step : stepWords ceiling (tableOf T) (suc i) (stateIn s) (wordsOf m) ≡ to (stateIn s′) = rw (add-one i) at e in
-            rw (moves-first l i (moveCount l) more, ← words, add-one i, after-accepted ceiling (tableOf T) (suc i) (stateIn s) (wordsOf m) (stateIn s′) step)
-
-        pub recording-next : (s′ : State) → Arrays (s′ .owners) (s′ .items) (s′ .origins) → stepWords ceiling (tableOf T) (i + 1) (stateIn s) (wordsOf m) ≡ to (stateIn s′)
-            → Recording T index l s₀ ceiling before (i + 1) origins′ (set members i w) ended′ s′
-        recording-next s′ c e = record {
-          asked = h .asked;
-          within = omega arith;
-          origins-size = noted .size;
-          members-size = length-set members i w ∙ h .members-size;
-          ended-size = ending .size;
-          reached = reached-next (h .reached) words s′ e;
-          held = step-holds T (h .asked .prepared .table) ceiling (i + 1) (stateIn s) (wordsOf m) (stateIn s′) (h .asked .limit) (h .held) e;
-          arrays = c;
-          made = h .made ++ act ∷ [];
-          so-far = append-assoc (h .made) (act ∷ []) _ ∙ ap (λ (xs : List Act). h .made ++ xs) (sym (acts-onward s′ e)) ∙ h .so-far;
-          each = All-append _ (h .made) (act ∷ []) (All-map (done-kept (tableOf T) l origins origins′ members i w (picks-before noted (h .origins-size) place-fits)) (h .made) (h .each)) (act-done, tt);
-          ends = act-ends;
+        pub recording-room : RecordRoom l origins′ members′ ended′ begun′
+        recording-room = record {
+          origins = omega (arith, noted .picked .size, h .room .origins);
+          members = ap length members-are ∙ grown-size members i _ _ (eqb (s .next) (s′ .next)) ∙ h .room .members;
+          ended = noted .ends .size;
+          begun = ap length (marked .0) ∙ grown-length begun (s .next - s₀ .next) ((i + 1) * 1024) (eqb (s .next) (s′ .next)) ∙ h .room .begun;
         }
+
+        pub recording-refused : {q : Refusal} → v ≡ Denied q → RecordedAs v i ceiling (tableOf T) l s₀ s′ origins′ members′ before ended′
+        recording-refused {q} e = record {
+          ran = reached-refused (h .reached) more of-log e;
+          recordings = λ a. absurd (denied≢allowed (sym e ∙ a));
+        }
+
+        module _ (ok : v ≡ Allowed) where
+          stepped : stepWords ceiling (tableOf T) (i + 1) (stateIn s) (head ∷ picks) ≡ to (stateIn s′)
+          stepped = rw ok at (step .step)
+
+          passed : Accepted ceiling (tableOf T) (suc i) (stateIn s) (head ∷ picks) (stateIn s′)
+          passed = accepted ceiling (tableOf T) (suc i) (stateIn s) (head ∷ picks) (stateIn s′) (rw (add-one i) at stepped)
+
+          legal : Legal (tableOf T) (stateIn s) head picks
+          legal = record {
+            form = passed .form;
+            allows = passed .allows;
+            table = table-right T (h .asked .prepared .indexed .table);
+            sound = rw (sizes-tableOf T) (h .held .sound);
+            quiet = h .asked .quiet;
+          }
+
+          act : Act
+          act = record { place = i; move = moveOf (tableOf T) (head ∷ picks); picks = picksOf (stateIn s) (moveOf (tableOf T) (head ∷ picks)); members = membersOf (tableOf T) i (stateIn s) (moveOf (tableOf T) (head ∷ picks)) }
+
+          act-picks : act .picks ≡ map originOf (wordsAt (s .origins) (take (picksUsed (tableOf T) head) picks))
+          unfolding act
+          act-picks = picks-origins s legal
+
+          act-count : length (act .picks) ≡ picksUsed (tableOf T) head
+          act-count =
+              let u = picksUsed (tableOf T) head in
+              ap length act-picks ∙ length-map (wordsAt (s .origins) (take u picks)) originOf ∙ length-map (take u picks) (λ p. getD (s .origins) p 0) ∙ length-take-le u picks (omega (arith, used-few legal))
+
+          act-member : OneOf (getD members′ i 0) (act .members)
+          unfolding act stateIn
+          act-member =
+              let next : applied (tableOf T) (suc i) (stateIn s) (moveOf (tableOf T) (head ∷ picks)) .next ≡ s′ .next = ap (λ (x : semantics.State). x .next) (passed .result) in
+              rw (members-are, grown-here members i (markIn begun (s₀ .next) (concernedBy (s .owners) head picks)) ((i + 1) * 1024) (eqb (s .next) (s′ .next)) (omega (arith, h .room .members, place-fits)))
+              (rw next at (member-noted s legal (h .tracked)))
+
+          act-done : Done (tableOf T) l origins′ members′ (i + 1) act
+          unfolding act
+          act-done = record {
+            past = omega arith;
+            few = omega (arith, act-count, used-few legal);
+            recorded = record {
+              move = ap (moveOf (tableOf T)) words;
+              picks = act-picks ∙ ap (map originOf) (sym (ap (λ (n : ℕ). take n (drop (4 * i) origins′)) act-count ∙ picks-here (s .origins) picks i (noted .picked) row-room four (picksUsed (tableOf T) head) (used-few legal)));
+              some = act-member .some;
+              none = act-member .none;
+            };
+          }
+
+          act-ends : (p : ℕ) → p < 1024 → getD ended′ p 0 ≡ endAfter p (getD before p 0) (h .made ++ act ∷ [])
+          unfolding act stateIn
+          act-ends p q =
+              noted .ends .each p q
+              ∙ rw (endAfter-more p (getD before p 0) (h .made) act, ends-marks (tableOf T) i (stateIn s) head picks p, h .ends p q)
+
+          acts-onward : acts (tableOf T) i (stateIn s) (map (moveOf (tableOf T)) (movesFrom l i)) ≡ act ∷ acts (tableOf T) (i + 1) (stateIn s′) (map (moveOf (tableOf T)) (movesFrom l (i + 1)))
+          unfolding act acts
+          acts-onward =
+              rw (moves-tails l .more i more, ← words, add-one i, after-accepted ceiling (tableOf T) (suc i) (stateIn s) (head ∷ picks) (stateIn s′) (rw (add-one i) at stepped))
+
+          pub recording-next : Recording T index l s₀ ceiling before (i + 1) begun′ origins′ members′ ended′ s′
+          unfolding stateIn
+          recording-next = record {
+            asked = h .asked;
+            room = recording-room;
+            reached = reached-made (h .reached) more of-log ok;
+            held = step-holds T (h .asked .prepared .indexed .table) ceiling (i + 1) (stateIn s) (head ∷ picks) (stateIn s′) (h .reached .workable .limit) (h .held) stepped;
+            tracked = subst (λ (x : semantics.State). Tracked (s₀ .next) begun′ (i + 1) x) (passed .result)
+                (rw (marked .0, ← ap (λ (x : semantics.State). x .next) (passed .result)) (tracked-next (h .tracked) place-fits (tableOf T) (table-shaped (tableOf T) (legal .table) (legal .quiet)) (moveOf (tableOf T) (head ∷ picks))));
+            made = h .made ++ act ∷ [];
+            so-far = append-assoc (h .made) (act ∷ []) _ ∙ ap (λ (xs : List Act). h .made ++ xs) (sym acts-onward) ∙ h .so-far;
+            each = All-append _ (h .made) (act ∷ [])
+                (All-map (done-kept (tableOf T) l origins origins′ members members′ i (picks-before (s .origins) picks i (noted .picked) row-room four)
+                (λ p q. ap (λ (xs : List ℕ). getD xs p 0) members-are ∙ grown-other members i _ _ (eqb (s .next) (s′ .next)) p (λ z. omega arith))) (h .made) (h .each)) (act-done, tt);
+            ends = act-ends;
+          }

@@ -16,14 +16,14 @@ use Rattle.lists.specs.Prefix.{prefix-tails}
 use Rattle.lists.specs.Columns.{row, row-first, row-second, rows-over}
 use Rattle.semantics.specs.Table.{Table}
 use Rattle.semantics.specs.State.{State}
-use Rattle.semantics.specs.Move.{unless, both, Move, moveOk, moveOf, allowed, applied, step, moveVerdict}
+use Rattle.semantics.specs.Move.{Move, allowed, applied, to, refused, step, stepWords, moveVerdict}
 use Rattle.semantics.specs.Log.{moveCount, headOf, fourPicks, allPicks, logWords}
 use Rattle.semantics.specs.Serial.{Act, after, again, replayed, fits}
-use Rattle.semantics.specs.declared.Refusal.the-variants.{TooManyEntries}
+use Rattle.semantics.specs.declared.Refusal.{Refusal}
 use Rattle.semantics.specs.declared.Verdict.the-variants.{Allowed}
-use Rattle.wellformed.specs.Verdicts.{both-intro, unless-intro}
+use Rattle.wellformed.specs.Step.{stepWords-verdict, refused≢to, accepted}
 use Rattle.wellformed.specs.Length.{length-maker}
-use Rattle.serial.specs.Acts.{Recorded, Replays, replayFits}
+use Rattle.serial.specs.Acts.{Recorded, wordsOfMove, ActsAgain, Replays, replayFits}
 use Rattle.serial.specs.Replay.{Words, Arranged}
 use Rattle.serial.proofs.Again.{words-same}
 
@@ -42,12 +42,14 @@ after-allowed : (t : Table) (i : ℕ) (c : State) (m : Move) → allowed t c m �
 unfolding after step
 after-allowed t i c m h = rw h
 
--- an allowed move that leaves few enough entries passes
-passes : (ceiling : ℕ) (t : Table) (i : ℕ) (c : State) (m : Move) → allowed t c m ≡ Allowed → fits ceiling (after t i c m) ≡ true → moveVerdict ceiling t c m ≡ Allowed
+-- an act made again that leaves few enough entries is a step, whoever makes it
+passes : (ceiling : ℕ) (t : Table) (i maker : ℕ) (c : State) (a : Act) → ActsAgain t c a → fits ceiling (after t i c (again c a (a .move))) ≡ true
+    → stepWords ceiling t maker c (wordsOfMove (again c a (a .move))) ≡ to (applied t maker c (again c a (a .move)))
 unfolding moveVerdict
-passes ceiling t i c m h f =
-    let few : leb (length (applied t 0 c m .entries)) ceiling ≡ true = rw (length-maker t 0 i c m, ← after-allowed t i c m h) f in
-    both-intro h (unless-intro TooManyEntries few)
+passes ceiling t i maker c a g f =
+    let m = again c a (a .move) in
+    let few : leb (length (applied t 0 c m .entries)) ceiling ≡ true = rw (length-maker t 0 i c m, ← after-allowed t i c m (g .allows)) f in
+    rw (stepWords-verdict ceiling t maker c (wordsOfMove m), g .form, g .words, g .allows, few)
 
 unfit : (ceiling : ℕ) (t : Table) (c : State) (rest : List Act) → fits ceiling c ≡ false → replayFits ceiling t c rest ≡ false
 unfit ceiling t c [] h = h
@@ -66,21 +68,21 @@ module _ (ceiling : ℕ) (t : Table) (start : State) (l order origins members : 
     ahead = prefix-tails 0 order (moveCount l) few .more j more
 
     module _ {c : State} {out : List ℕ} {head : ℕ} {picks : List ℕ} (w : Words t (c .entries) l origins members (getD order j 0) head picks) where
-      -- the move does not pass
+      -- the move is refused
       pub replaying-denied : (rest : List Act) → Replaying ceiling t start l order origins members xs rest j c out
-          → (moveOk t (head ∷ picks) ≡ true → moveVerdict ceiling t c (moveOf t (head ∷ picks)) ≡ Allowed → ⊥) → false ≡ replayFits ceiling t start xs
-      replaying-denied [] r n = absurd (nil≢cons (r .places ∙ ahead))
-      replaying-denied (a ∷ rest) r n =
+          → (maker : ℕ) {q : Refusal} → stepWords ceiling t maker c (head ∷ picks) ≡ refused q → false ≡ replayFits ceiling t start xs
+      replaying-denied [] r maker d = absurd (nil≢cons (r .places ∙ ahead))
+      replaying-denied (a ∷ rest) r maker d =
           let g = r .replays .0 in
           let m = again c a (a .move) in
           let e = words-same (r .recorded .0) g (sym (head-eq (r .places ∙ ahead))) w in
           by-bool (fits ceiling (after t (suc (a .place)) c m))
-          (λ f. absurd (n (rw e (g .form)) (rw (e, g .words) (passes ceiling t (suc (a .place)) c m (g .allows) f))))
+          (λ f. absurd (refused≢to {s = applied t maker c m} (sym d ∙ rw e (passes ceiling t (suc (a .place)) maker c a g f))))
           (λ f. sym (and-right-false (fits ceiling c) (unfit ceiling t (after t (suc (a .place)) c m) rest f)) ∙ r .fitting)
 
       -- it is made, and its row is written
       pub replaying-next : (rest : List Act) → Replaying ceiling t start l order origins members xs rest j c out
-          → {s : State} → s ≡ applied t (getD order j 0 + 1) c (moveOf t (head ∷ picks)) → length (c .entries) ≤ ceiling
+          → {s : State} → stepWords ceiling t (getD order j 0 + 1) c (head ∷ picks) ≡ to s → length (c .entries) ≤ ceiling
           → (room : 1 + 5 * moveCount l ≤ length out) (four : length picks ≡ 4)
           → (left : List Act) × Replaying ceiling t start l order origins members xs left (j + 1) s (row out (moveCount l) j head picks more room four)
       unfolding replayed
@@ -91,7 +93,8 @@ module _ (ceiling : ℕ) (t : Table) (start : State) (l order origins members : 
           let place = head-eq (r .places ∙ ahead) in
           let words = words-same (r .recorded .0) g (sym place) w in
           let maker : getD order j 0 + 1 ≡ suc (a .place) = omega arith in
-          let next : s ≡ after t (suc (a .place)) c m = e ∙ rw (maker, words, g .words) (sym (after-allowed t (suc (a .place)) c m (g .allows))) in (
+          let next : s ≡ after t (suc (a .place)) c m =
+          sym (accepted ceiling t (getD order j 0 + 1) c (head ∷ picks) s e .result) ∙ rw (maker, words, g .words) (sym (after-allowed t (suc (a .place)) c m (g .allows))) in (
             rest,
             record {
               places = tail-eq (r .places ∙ ahead);

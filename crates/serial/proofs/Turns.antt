@@ -4,51 +4,44 @@ use mathlib.Core.Bool.{true, false, false≢true}
 use mathlib.Core.List.{List, _∷_, map}
 use mathlib.Core.Path.{_≡_, refl, sym, ap, subst, _∙_}
 use native.Mathlib.Omega.{arith}
-use borrow.Author.Needs.{length-unmapped}
 use lib.ListN.{length, getD, take, drop, set, length-map, length-take, length-set}
 use lib.Seq.{drop-set-lt}
 use Rattle.lists.specs.Lists.{over}
 use Rattle.lists.specs.Over.{Pasted}
 use Rattle.lists.specs.Padded.{length-padded}
 use Rattle.lists.specs.Columns.{row, row-rest}
-use Rattle.semantics.specs.Table.{Table, tableOf}
-use Rattle.semantics.specs.Move.{picksUsed, moveOf, applied}
+use Rattle.semantics.specs.Table.{tableOf}
+use Rattle.semantics.specs.Move.{picksUsed}
 use Rattle.semantics.specs.Log.{moveCount, logWords}
 use Rattle.semantics.specs.Serial.{Act, replayed}
+use Rattle.semantics.specs.declared.Refusal.{Refusal}
+use Rattle.semantics.specs.declared.Verdict.{Verdict}
+use Rattle.semantics.specs.declared.Verdict.the-variants.{Allowed, Denied}
 use Rattle.state.specs.declared.State.{State}
-use Rattle.state.specs.Working.{stateIn, Holds}
-use Rattle.state.specs.Arrays.{Arrays, count-in}
-use Rattle.step.specs.Moves.{IsMove}
-use Rattle.step.specs.Bounds.{Bounded, applied-bounded}
-use Rattle.serial.specs.declared.replay.Decision.{Decision}
+use Rattle.state.specs.Working.{stateIn}
+use Rattle.state.specs.Arrays.{count-in}
+use Rattle.step.specs.Make.{Workable, MadeAs}
 use Rattle.serial.specs.Acts.{replayFits}
-use Rattle.serial.specs.Replay.{placeIn, Words, DecidedAs, Replayable, Arranged, ReplayedAs}
+use Rattle.serial.specs.Replay.{placeIn, Words, Replayable, Arranged, ReplayedAs}
 use Rattle.serial.proofs.Replaying.{Replaying, replaying-start, replaying-denied, replaying-next, replaying-end}
-
--- what a call says of a state that it returns, by its type
-pub arrays-of : (s : State) → length (map (λ (v : ℕ). v) (s .owners)) ≡ 1024 → length (map (λ (v : ℕ). v) (s .items)) ≡ 1024 → length (map (λ (v : ℕ). v) (s .origins)) ≡ 1024
-    → Arrays (s .owners) (s .items) (s .origins)
-arrays-of s a b c = record { owners = length-unmapped ℕ (s .owners) 1024 a; items = length-unmapped ℕ (s .items) 1024 b; origins = length-unmapped ℕ (s .origins) 1024 c }
 
 -- j moves are written; `first` is the target with the count alone
 pub record Going (T index : List ℕ) (start : State) (l order origins members : List ℕ) (ceiling : ℕ) (first : List ℕ) (j : ℕ) (s : State) (out : List ℕ) : Type 0 where
   pub given : Replayable T index start l order origins members ceiling first
   pub within : j ≤ moveCount l
-  pub arrays : Arrays (s .owners) (s .items) (s .origins)
-  pub bounds : Bounded s ceiling
+  pub workable : Workable s ceiling
   pub size : length out ≡ length first
   pub tail : drop (1 + 5 * moveCount l) out ≡ drop (1 + 5 * moveCount l) first
   pub acts : (xs : List Act) → Arranged (tableOf T) (stateIn start) l order origins members xs
       → (rest : List Act) × Replaying ceiling (tableOf T) (stateIn start) l order origins members xs rest j (stateIn s) out
 
 module _ {T index : List ℕ} {start : State} {l order origins members : List ℕ} {ceiling : ℕ} where
-  pub going-start : {before : List ℕ} → Replayable T index start l order origins members ceiling before → Arrays (start .owners) (start .items) (start .origins)
+  pub going-start : {before : List ℕ} → Replayable T index start l order origins members ceiling before
       → Going T index start l order origins members ceiling (set before 0 (moveCount l)) 0 start (set before 0 (moveCount l))
-  going-start {before} p a = record {
-    given = record { read = p .read; bounds = p .bounds; limit = p .limit; places = p .places; ordered = p .ordered; room = simp length-set (p .room) };
+  going-start {before} p = record {
+    given = record { read = p .read; workable = p .workable; places = p .places; ordered = p .ordered; room = simp length-set (p .room) };
     within = omega arith;
-    arrays = a;
-    bounds = p .bounds;
+    workable = p .workable;
     size = refl;
     tail = refl;
     acts = λ xs h. (xs, replaying-start ceiling (tableOf T) (stateIn start) l order origins members xs h before (let r = p .room in omega arith));
@@ -62,10 +55,12 @@ module _ {T index : List ℕ} {start : State} {l order origins members : List �
     going-room = omega (arith, g .given .room, g .size)
 
     fit : length (stateIn s .entries) ≤ ceiling
-    fit = omega (arith, count-in s, g .bounds .fits)
+    fit = omega (arith, count-in s, g .workable .bounds .fits)
 
-    module _ (more : j < moveCount l) {d : Decision} {head : ℕ} {picks : List ℕ}
-        (w : Words (tableOf T) (stateIn s .entries) l origins members (getD order j 0) head picks) (v : DecidedAs d ceiling (tableOf T) (stateIn s) head picks) where
+    -- the words of this turn, written over `out`, and what they leave of s
+    module _ (more : j < moveCount l) {head : ℕ} {picks : List ℕ} (w : Words (tableOf T) (stateIn s .entries) l origins members (getD order j 0) head picks)
+        {new : List ℕ} (p : Pasted (set out (1 + j) head) (1 + moveCount l + 4 * j) picks 4 new)
+        {v : Verdict} {s′ : State} (made : MadeAs v ceiling (tableOf T) (getD order j 0 + 1) (head ∷ picks) s s′) where
       four : length picks ≡ 4
       four =
           let u = picksUsed (tableOf T) (getD l (1 + getD order j 0) 0) in
@@ -74,34 +69,32 @@ module _ {T index : List ℕ} {start : State} {l order origins members : List �
           let least : length places ≤ 4 = omega (arith, w .used, length-map (take u wanted) (placeIn (stateIn s .entries)), length-take u wanted) in
           ap length (w .picks-now) ∙ length-padded 4 0 places least
 
-      pub going-denied : d .ok ≡ false → {before : List ℕ} → first ≡ set before 0 (moveCount l)
-          → ReplayedAs false ceiling (tableOf T) (stateIn start) l order origins members before out
-      going-denied denied {before} e = record {
+      size-new : length new ≡ length first
+      size-new = p .size ∙ length-set out (1 + j) head ∙ g .size
+
+      pub going-denied : {q : Refusal} → v ≡ Denied q → {before : List ℕ} → first ≡ set before 0 (moveCount l)
+          → ReplayedAs false ceiling (tableOf T) (stateIn start) l order origins members before new
+      going-denied {q} denied {before} e = record {
         fits = λ xs h.
             let (rest, r) = g .acts xs h in
-            replaying-denied ceiling (tableOf T) (stateIn start) l order origins members xs more few w rest r (v .denies denied);
+            replaying-denied ceiling (tableOf T) (stateIn start) l order origins members xs more few w rest r (getD order j 0 + 1) (rw denied at (made .step));
         target = λ xs h q. absurd (false≢true q);
-        size = g .size ∙ ap length e ∙ length-set before 0 (moveCount l);
+        size = size-new ∙ ap length e ∙ length-set before 0 (moveCount l);
       }
 
-      pub going-next : d .ok ≡ true → {s′ : State} → Arrays (s′ .owners) (s′ .items) (s′ .origins)
-          → ((t : Table) → IsMove t (d .rule) head picks → Holds s′ (applied t (getD order j 0 + 1) (stateIn s) (moveOf t (head ∷ picks))))
-          → {new : List ℕ} → Pasted (set out (1 + j) head) (1 + moveCount l + 4 * j) picks 4 new
-          → Going T index start l order origins members ceiling first (j + 1) s′ new
-      unfolding row stateIn
-      going-next ok {s′} a f {new} p =
-          let held = f (tableOf T) (v .is-move ok) in
+      pub going-next : v ≡ Allowed → Going T index start l order origins members ceiling first (j + 1) s′ new
+      unfolding row
+      going-next ok =
           let e : new ≡ row out (moveCount l) j head picks more going-room four = p .value in
           record {
             given = g .given;
             within = omega arith;
-            arrays = a;
-            bounds = applied-bounded ceiling (tableOf T) (stateIn s) (moveOf (tableOf T) (head ∷ picks)) (v .allows ok) (g .bounds .next) (getD order j 0 + 1) held;
-            size = p .size ∙ length-set out (1 + j) head ∙ g .size;
+            workable = made .workable;
+            size = size-new;
             tail = ap (drop (1 + 5 * moveCount l)) e ∙ row-rest out (moveCount l) j head picks more going-room four ∙ g .tail;
             acts = λ xs h.
                 let (rest, r) = g .acts xs h in
-                let (left, q) = replaying-next ceiling (tableOf T) (stateIn start) l order origins members xs more few w rest r (held .value) fit going-room four in
+                let (left, q) = replaying-next ceiling (tableOf T) (stateIn start) l order origins members xs more few w rest r (rw ok at (made .step)) fit going-room four in
                 (left, subst (Replaying ceiling (tableOf T) (stateIn start) l order origins members xs left (j + 1) (stateIn s′)) (sym e) q);
           }
 

@@ -3,7 +3,7 @@ use Prim.Native.Nat.{ℕ, suc, _+_, _≤_}
 use mathlib.Core.Bool.{Bool, true, false, _&&_, _||_, not, cond, true≢false}
 use mathlib.Core.List.{List, [], _∷_, map}
 use mathlib.Core.Logic.{_⊎_, inl, inr}
-use mathlib.Core.Path.{_≡_, refl, sym, ap, _∙_}
+use mathlib.Core.Path.{_≡_, refl, sym, ap, subst, _∙_}
 use native.Mathlib.Omega.{arith}
 use borrow.Author.Tests.{eqb-true}
 use lib.Dec.{eqb}
@@ -29,54 +29,65 @@ unfolding acts
 acts-places t i s [] = refl
 acts-places t i s (m ∷ ms) = ap (λ (xs : List ℕ). i ∷ xs) (acts-places t (suc i) (after t (suc i) s m) ms)
 
+-- ---- the member marks that a move leaves
+
+-- every member mark has P of its value and origin
+abbrev pub MarksHave : (ℕ → Origin → Type 0) → List Entry → Type 0
+MarksHave P es = (e : Entry) → Among e es → e .kind ≡ 3 → P (e .value) (e .origin)
+
+-- those that were there stay as they are, or go; those of the products are new
+module _ {P Q : ℕ → Origin → Type 0} (wider : (v : ℕ) (o : Origin) → P v o → Q v o) where
+  pub reacted-have : (R : Rule) (i : ℕ) (s : State) (ps : List ℕ) → MarksHave P (s .entries) → MarksHave Q (products R s (picked s ps) i 0 (productAtoms R)) → MarksHave Q (reacted R i s ps .entries)
+  unfolding reacted
+  reacted-have R i s ps h new e m k = go (among-append (map (merged (ownersAt s ps)) (without ps 0 (s .entries))) (products R s (picked s ps) i 0 (productAtoms R)) e m)
+    where
+      go : Among e (map (merged (ownersAt s ps)) (without ps 0 (s .entries))) ⊎ Among e (products R s (picked s ps) i 0 (productAtoms R)) → Q (e .value) (e .origin)
+      go (inl n) =
+          let (x, l, q) = among-map (merged (ownersAt s ps)) (without ps 0 (s .entries)) e n in
+          subst (λ (y : Entry). Q (y .value) (y .origin)) (sym q)
+          (wider (x .value) (x .origin) (h x (among-without ps 0 (s .entries) x l) (sym (ap (λ (y : Entry). y .kind) q) ∙ k)))
+      go (inr n) = new e n k
+
+  pub ended-have : (p : Entry → Bool) (b : ℕ) (s : State) → MarksHave P (s .entries) → MarksHave Q (ended p b s .entries)
+  unfolding ended
+  ended-have p b s h e m k =
+      let stays : Entry → Bool = λ e. not (owned b e) || p e in
+      let (x, l, q) = among-map (freed p b) (keep stays (s .entries)) e m in
+      go x (among-keep stays (s .entries) x l .0) (owned b x && p x) q
+    where
+      go : (x : Entry) → Among x (s .entries) → (c : Bool) → e ≡ cond c (toGlobal x) x → Q (e .value) (e .origin)
+      go x l true q = absurd (let z : 0 ≡ 3 = sym (ap (λ (y : Entry). y .kind) q) ∙ k in omega arith)
+      go x l false q = subst (λ (y : Entry). Q (y .value) (y .origin)) (sym q) (wider (x .value) (x .origin) (h x l (sym (ap (λ (y : Entry). y .kind) q) ∙ k)))
+
+-- ---- where they come from
+
 -- every member mark was made by a move before place i
 abbrev pub MarksBegun : ℕ → List Entry → Type 0
-MarksBegun i es = (e : Entry) → Among e es → e .kind ≡ 3 → (1 ≤ e .origin .maker) × (e .origin .maker ≤ i)
-
--- ---- one move
+MarksBegun i es = MarksHave (λ v o. (1 ≤ o .maker) × (o .maker ≤ i)) es
 
 products-maker : (R : Rule) (s : State) (es : List Entry) (i q : ℕ) (atoms : List Atom) (e : Entry) → Among e (products R s es i q atoms) → e .origin .maker ≡ i
 products-maker R s es i q [] e m = absurd m
 products-maker R s es i q (a ∷ atoms) e (inl h) = ap (λ (x : Entry). x .origin .maker) h
 products-maker R s es i q (a ∷ atoms) e (inr m) = products-maker R s es i (suc q) atoms e m
 
-later : (i : ℕ) (es : List Entry) → MarksBegun i es → MarksBegun (suc i) es
-later i es h e m k = let (a, b) = h e m k in (a, omega arith)
-
-reacted-begun : (R : Rule) (i : ℕ) (s : State) (ps : List ℕ) → MarksBegun i (s .entries) → MarksBegun (suc i) (reacted R (suc i) s ps .entries)
-unfolding reacted
-reacted-begun R i s ps h e m k = go (among-append (map (merged (ownersAt s ps)) (without ps 0 (s .entries))) (products R s (picked s ps) (suc i) 0 (productAtoms R)) e m)
-  where
-    go : Among e (map (merged (ownersAt s ps)) (without ps 0 (s .entries))) ⊎ Among e (products R s (picked s ps) (suc i) 0 (productAtoms R)) → (1 ≤ e .origin .maker) × (e .origin .maker ≤ suc i)
-    go (inl n) =
-        let (x, l, q) = among-map (merged (ownersAt s ps)) (without ps 0 (s .entries)) e n in
-        rw (ap (λ (y : Entry). y .origin .maker) q)
-        (later i (s .entries) h x (among-without ps 0 (s .entries) x l) (sym (ap (λ (y : Entry). y .kind) q) ∙ k))
-    go (inr n) = let q = products-maker R s (picked s ps) (suc i) 0 (productAtoms R) e n in (omega arith, omega arith)
-
-ended-begun : (p : Entry → Bool) (b i : ℕ) (s : State) → MarksBegun i (s .entries) → MarksBegun (suc i) (ended p b s .entries)
-unfolding ended
-ended-begun p b i s h e m k =
-    let stays : Entry → Bool = λ e. not (owned b e) || p e in
-    let (x, l, q) = among-map (freed p b) (keep stays (s .entries)) e m in
-    go x (among-keep stays (s .entries) x l .0) (owned b x && p x) q
-  where
-    go : (x : Entry) → Among x (s .entries) → (c : Bool) → e ≡ cond c (toGlobal x) x → (1 ≤ e .origin .maker) × (e .origin .maker ≤ suc i)
-    go x l true q = absurd (let z : 0 ≡ 3 = sym (ap (λ (y : Entry). y .kind) q) ∙ k in omega arith)
-    go x l false q = rw q (later i (s .entries) h x l (sym (ap (λ (y : Entry). y .kind) q) ∙ k))
+later : (i : ℕ) (v : ℕ) (o : Origin) → (1 ≤ o .maker) × (o .maker ≤ i) → (1 ≤ o .maker) × (o .maker ≤ suc i)
+later i v o (a, b) = (a, omega arith)
 
 after-begun : (t : Table) (i : ℕ) (s : State) (m : Move) → MarksBegun i (s .entries) → MarksBegun (suc i) (after t (suc i) s m .entries)
 unfolding after step applied
 after-begun t i s m h = go (allowed t s m) (made m)
   where
+    new : (r : ℕ) (ps : List ℕ) → MarksBegun (suc i) (products (ruleAt t r) s (picked s ps) (suc i) 0 (productAtoms (ruleAt t r)))
+    new r ps e n k = let q = products-maker (ruleAt t r) s (picked s ps) (suc i) 0 (productAtoms (ruleAt t r)) e n in (omega arith, omega arith)
+
     made : (m : Move) → MarksBegun (suc i) (applied t (suc i) s m .entries)
-    made (react r ps) = reacted-begun (ruleAt t r) i s ps h
-    made (commit b) = ended-begun _ b i s h
-    made (abort b) = ended-begun _ b i s h
+    made (react r ps) = reacted-have (later i) (ruleAt t r) (suc i) s ps h (new r ps)
+    made (commit b) = ended-have (later i) _ b s h
+    made (abort b) = ended-have (later i) _ b s h
 
     go : (v : Verdict) → MarksBegun (suc i) (applied t (suc i) s m .entries) → MarksBegun (suc i) (stateOr s (steppedBy v (applied t (suc i) s m)) .entries)
     go Allowed k = k
-    go (Denied r) k = later i (s .entries) h
+    go (Denied r) k = λ e l z. later i (e .value) (e .origin) (h e l z)
 
 -- ---- its members
 
@@ -89,7 +100,7 @@ marks-begun bs i s h o m =
     let p : Entry → Bool = λ e. isMemberMark e && isIn (e .owner) bs in
     let (e, n, q) = among-map (λ e. e .origin) (keep p (s .entries)) o m in
     let (l, k) = among-keep p (s .entries) e n in
-    rw q (later i (s .entries) h e l (eqb-true (e .kind) 3 (and-left (isMemberMark e) (isIn (e .owner) bs) k)))
+    rw q (later i (e .value) (e .origin) (h e l (eqb-true (e .kind) 3 (and-left (isMemberMark e) (isIn (e .owner) bs) k))))
 
 members-begun : (t : Table) (i : ℕ) (s : State) (m : Move) → MarksBegun i (s .entries) → MakersUpTo (suc i) (membersOf t i s m)
 unfolding MakersUpTo

@@ -1,11 +1,12 @@
 -- The member marks of a transaction in lent columns: what the functions that read them say.
-use Prim.Native.Nat.{ℕ, suc, _≤_, _<_}
+use Prim.Native.Nat.{ℕ, suc, _-_, _≤_, _<_}
 use mathlib.Core.Path.{_≡_}
 use mathlib.Core.Bool.{Bool, true, false, _&&_, cond}
 use mathlib.Core.List.{List, [], _∷_}
 use lib.Dec.{eqb}
 use lib.ListN.{length, getD}
 use Rattle.lists.specs.Lists.{any, isEmpty, isIn, keep}
+use Rattle.lists.specs.Rows.{rows}
 use Rattle.semantics.specs.State.{Origin, Entry, isMemberMark}
 use Rattle.semantics.specs.Serial.{originsOf, sameOrigin}
 use Rattle.state.specs.Working.{originOf}
@@ -36,3 +37,7 @@ anyMadeAt p os = any (λ o. eqb (o .maker) (suc p)) os
 pub record NotedAt (place : ℕ) (os : List Origin) (before after : List ℕ) : Type 0 where
   pub size : length after ≡ 1024
   pub each : (p : ℕ) → p < 1024 → getD after p 0 ≡ cond (anyMadeAt p os) place (getD before p 0)
+
+-- .. those of the member marks of id in the rows from `from` to `stop`
+abbrev pub RowsNoted : (ℕ → Entry) → ℕ → ℕ → ℕ → ℕ → List ℕ → List ℕ → Type 0
+RowsNoted f id place from stop before after = NotedAt place (marksOf id (rows f from (stop - from))) before after

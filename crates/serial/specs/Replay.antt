@@ -1,7 +1,7 @@
 -- What the second pass asks and says.
 use Prim.Native.Nat.{ℕ, _+_, _*_, _%_, _^_, _≤_, _<_}
-use mathlib.Core.Bool.{Bool, true, false, cond}
-use mathlib.Core.List.{List, _∷_, map}
+use mathlib.Core.Bool.{Bool, true, cond}
+use mathlib.Core.List.{List, map}
 use mathlib.Core.Path.{_≡_}
 use lib.Dec.{eqb}
 use lib.ListN.{length, getD, take, drop}
@@ -9,21 +9,16 @@ use Rattle.lists.specs.Lists.{over}
 use Rattle.lists.specs.Each.{All}
 use Rattle.lists.specs.Padded.{padded}
 use Rattle.semantics.specs.Words.{headKind, headWord}
-use Rattle.semantics.specs.Table.{Table, sizesOf, numbersOf}
+use Rattle.semantics.specs.Table.{Table}
 use Rattle.semantics.specs.State as semantics
 use Rattle.semantics.specs.State.{Entry}
-use Rattle.semantics.specs.Move.{picksUsed, entryAt, moveOk, moveOf, moveVerdict}
+use Rattle.semantics.specs.Move.{picksUsed, entryAt}
 use Rattle.semantics.specs.Log.{moveCount, logWords}
 use Rattle.semantics.specs.Serial.{Act, placeOf, replayed}
-use Rattle.semantics.specs.Answers.{tableVerdict}
-use Rattle.semantics.specs.declared.Verdict.the-variants.{Allowed}
-use Rattle.table.specs.Index.{Starts}
 use Rattle.state.specs.declared.State.{State}
 use Rattle.state.specs.Working.{originOf}
-use Rattle.step.specs.Moves.{IsMove}
-use Rattle.step.specs.Bounds.{Bounded}
+use Rattle.step.specs.Make.{Indexed, Workable}
 use Rattle.log.specs.Form.{Sized}
-use Rattle.serial.specs.declared.replay.Decision.{Decision}
 use Rattle.serial.specs.Acts.{Recorded, Replays, replayFits}
 
 -- the place of the first entry of the origin in a word
@@ -42,25 +37,17 @@ pub record Words (t : Table) (es : List Entry) (l origins members : List ℕ) (p
   pub head-now : head ≡ headAgain es (getD l (1 + p) 0) (getD members p 0)
   pub picks-now : picks ≡ padded 4 0 (map (placeIn es) (take (picksUsed t (getD l (1 + p) 0)) (take 4 (drop (4 * p) origins))))
 
--- d says whether the move in these words is in order and allowed
-pub record DecidedAs (d : Decision) (ceiling : ℕ) (t : Table) (s : semantics.State) (head : ℕ) (picks : List ℕ) : Type 0 where
-  pub is-move : d .ok ≡ true → IsMove t (d .rule) head picks
-  pub allows : d .ok ≡ true → moveVerdict ceiling t s (moveOf t (head ∷ picks)) ≡ Allowed
-  pub denies : d .ok ≡ false → moveOk t (head ∷ picks) ≡ true → moveVerdict ceiling t s (moveOf t (head ∷ picks)) ≡ Allowed → ⊥
-
 -- what is read in every turn
 pub record Readable (t index l origins members : List ℕ) : Type 0 where
-  pub table : tableVerdict t ≡ Allowed
-  pub starts : Starts (numbersOf t) (sizesOf t .rules) index
+  pub indexed : Indexed t index
   pub log : Sized l
-  pub picked : length origins ≡ 4096
+  pub picked : 4 * moveCount l ≤ length origins
   pub marked : length members ≡ 1024
 
 -- what a replay asks: any arrays will do whose order has places of the log
 pub record Replayable (t index : List ℕ) (s : State) (l order origins members : List ℕ) (ceiling : ℕ) (target : List ℕ) : Type 0 where
   pub read : Readable t index l origins members
-  pub bounds : Bounded s ceiling
-  pub limit : ceiling ≤ 1024
+  pub workable : Workable s ceiling
   pub places : (j : ℕ) → j < moveCount l → getD order j 0 < moveCount l
   pub ordered : length order ≡ 1024
   pub room : 1 + 5 * moveCount l ≤ length target

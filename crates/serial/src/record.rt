@@ -1,224 +1,188 @@
-// The first pass: the log is run, and each move is recorded with the origins of its picks, a member
-// mark (lot mark) that it concerns, and, at an end, the begins of its members.
-ghost use Prim.Native.Nat.{ℕ, _+_, _*_, _/_, _≤_, _<_};
+// The first pass: the log is run, and each move is noted with the origins of its picks, a member mark
+// (lot mark) that it concerns, and, at an end, the begins of its members. A move is made as it is
+// decided, so the notes are taken before it is known to be allowed; those of a refused move are of no
+// use, and what they would read past a column counts as 0.
+ghost use Prim.Native.Nat.{_+_, _-_, _*_, _≤_, _<_};
 ghost use mathlib.Core.Path.{_≡_};
-ghost use mathlib.Core.Bool.{_&&_, cond};
-ghost use mathlib.Core.List.{[], _∷_};
-ghost use lib.Dec.{eqb};
-ghost use lib.ListN.{length, take};
-ghost use Rattle.lists.specs.Rows.{rows};
-ghost use Rattle.semantics.specs.Words.{itemKind};
-ghost use Rattle.semantics.specs.Table.{Table, tableOf};
-ghost use Rattle.semantics.specs.Move.{moveOf};
-ghost use Rattle.semantics.specs.Serial.{membersOf};
-ghost use Rattle.state.specs.Working.{rowOf, stateIn};
-ghost use Rattle.step.specs.Working.{stateFrom};
-ghost use Rattle.step.specs.React.{Places};
-ghost use Rattle.run.specs.Moves.{wordsOf};
-ghost use Rattle.serial.specs.Marks.{Lent, marksOf, OneOf, NotedAt};
-ghost use Rattle.serial.specs.Recordings.{Legal, usedBy, Pickable, PicksNoted, marksEnded, Recordable, RecordedAs};
+ghost use lib.ListN.{length, getD};
+ghost use Rattle.lists.specs.Over.{Pasted};
+ghost use Rattle.semantics.specs.Table.{tableOf};
+ghost use Rattle.state.specs.Working.{held};
+ghost use Rattle.serial.specs.Marks.{Lent};
+ghost use Rattle.serial.specs.Recordings.{wordsAt, concernedBy, markIn, MoveNoted, ifGrown, Recordable, RecordRoom, RecordedAs};
+use crate::ends::note_if_end;
+use crate::replay::put_picks;
 use log::count_of;
+use log::head_at;
+use log::picks_at;
 use run::Ran;
-use run::moves::Move;
-use run::moves::decided;
-use run::moves::move_at;
 use semantics::Verdict;
-use state::State;
-use state::item::MEMBER_MARK;
-use state::item::kind_of;
-use step::moves::applied;
+use step::make::make;
 
-fn is_mark(owner: u32, item: u32, id: u32) -> bool
-    ensures { λ r. ⌜ r ≡ eqb (itemKind item) 3 && eqb owner id ⌝ }
+fn word_at(column: &[u32; 1024], place: u32) -> u32
+    requires { ⌜ length (now column) ≡ 1024 ⌝ }
+    ensures { λ r. ⌜ r ≡ getD (now (column .entry)) place 0 ⌝ }
 {
-    (kind_of(item) == MEMBER_MARK) & (owner == id)
-}
-
-// The origin of the first member mark that id owns, 0 of none.
-fn first_mark<'a>(
-    owners: &'a [u32; 1024],
-    items: &'a [u32; 1024],
-    origins: &'a [u32; 1024],
-    n: usize,
-    id: u32,
-) -> u32
-    requires { ⌜ Lent (now owners) (now items) (now origins) n ⌝ }
-    ensures { λ r. ⌜ OneOf r (marksOf id (rows (rowOf (now (owners .entry)) (now (items .entry)) (now (origins .entry))) 0 n)) ⌝ }
-{
-    let mut i = 0;
-    while i < n {
-        if is_mark(owners[i], items[i], id) {
-            return origins[i];
-        }
-        i += 1;
-    }
-    0
-}
-
-// The maker of an entry that is a member mark of id, else 0.
-fn begun_by(owner: u32, item: u32, origin: u32, id: u32) -> u32
-    ensures { λ r. ⌜ r ≡ cond (eqb (itemKind item) 3 && eqb owner id) (origin / 1024) 0 ⌝ }
-{
-    if is_mark(owner, item, id) {
-        origin / 1024
+    if place < 1024 {
+        column[place as usize]
     } else {
         0
     }
 }
 
-// The end at this place is that of the begin by this maker; the start's maker, 0, has no place.
-fn note_end(ended: &mut [u32; 1024], maker: u32, place: u32)
-    requires { ⌜ length (now ended) ≡ 1024 ⌝ }
-    ensures { λ _. ⌜ NotedAt place (record { maker = maker; index = 0 } ∷ []) (now (ended .entry)) (now (ended .exit)) ⌝ }
+// The origins of the picks, in the words from 4 i on.
+fn note_picks(column: &[u32; 1024], picks: [u32; 4], i: usize, wanted: &mut [u32])
+    requires { ⌜ (length (now column) ≡ 1024) × (i < 1024) × (4 * i + 4 ≤ length (now wanted)) ⌝ }
+    ensures { λ _. ⌜ Pasted (now (wanted .entry)) (4 * i) (wordsAt (now (column .entry)) picks) 4 (now (wanted .exit)) ⌝ }
 {
-    if maker == 0 {
-        return;
-    }
-    if 1024 < maker {
-        return;
-    }
-    ended[(maker - 1) as usize] = place;
+    let found = [
+        word_at(column, picks[0]),
+        word_at(column, picks[1]),
+        word_at(column, picks[2]),
+        word_at(column, picks[3]),
+    ];
+    put_picks(wanted, 4 * i, found);
 }
 
-// The end of id at this place is that of every member that id has.
-fn note_ends<'a>(
-    owners: &'a [u32; 1024],
-    items: &'a [u32; 1024],
-    origins: &'a [u32; 1024],
-    n: usize,
-    id: u32,
-    place: u32,
-    ended: &mut [u32; 1024],
-)
-    requires { ⌜ Lent (now owners) (now items) (now origins) n × (length (now ended) ≡ 1024) ⌝ }
-    ensures { λ _. ⌜ NotedAt place (marksOf id (rows (rowOf (now (owners .entry)) (now (items .entry)) (now (origins .entry))) 0 n)) (now (ended .entry)) (now (ended .exit)) ⌝ }
-{
-    let mut i = 0;
-    while i < n {
-        let maker = begun_by(owners[i], items[i], origins[i], id);
-        note_end(ended, maker, place);
-        i += 1;
-    }
-}
-
-// A reaction ends nothing.
-fn note_if_end<'a>(
-    owners: &'a [u32; 1024],
-    items: &'a [u32; 1024],
-    origins: &'a [u32; 1024],
-    n: usize,
-    head: u32,
-    place: usize,
-    ended: &mut [u32; 1024],
-)
-    requires { ⌜ Lent (now owners) (now items) (now origins) n × (place < 1024) × (length (now ended) ≡ 1024) ⌝ }
-    ensures { λ _. ⌜ NotedAt place (marksEnded head (rows (rowOf (now (owners .entry)) (now (items .entry)) (now (origins .entry))) 0 n)) (now (ended .entry)) (now (ended .exit)) ⌝ }
+// The transaction that a move concerns: the one that it ends, or that of its first pick.
+fn concerned(owners: &[u32; 1024], head: u32, picks: [u32; 4]) -> u32
+    requires { ⌜ length (now owners) ≡ 1024 ⌝ }
+    ensures { λ r. ⌜ r ≡ concernedBy (now (owners .entry)) head picks ⌝ }
 {
     if head / 16777216 == 0 {
-        return;
+        word_at(owners, picks[0])
+    } else {
+        head % 16777216
     }
-    note_ends(
-        owners,
-        items,
-        origins,
-        n,
-        head % 16777216,
-        place as u32,
-        ended,
-    );
 }
 
-// How many picks a move uses.
-fn picks_used(m: Move) -> usize
-    ensures { λ r. ⌜ r ≡ usedBy m ⌝ }
+// The origin of the own mark of a transaction begun in the log: they have the ids from `first` on.
+fn mark_of(begun: &[u32; 1024], first: u32, id: u32) -> u32
+    requires { ⌜ length (now begun) ≡ 1024 ⌝ }
+    ensures { λ r. ⌜ r ≡ markIn (now (begun .entry)) first id ⌝ }
 {
-    let rule = m.rule;
-    if m.head / 16777216 == 0 {
-        rule.consumes
+    if first <= id {
+        word_at(begun, id - first)
     } else {
         0
     }
 }
 
-// The origins of the first k picks, in the words from 4 i on.
-fn note_picks(column: &[u32; 1024], picks: [u32; 4], k: usize, i: usize, origins: &mut [u32; 4096])
-    requires { ⌜ (length (now column) ≡ 1024) × (k ≤ 4) × Places 1024 (take k picks) × (i < 1024) × (length (now origins) ≡ 4096) ⌝ }
-    ensures { λ _. ⌜ PicksNoted (now (column .entry)) (take k picks) i (now (origins .entry)) (now (origins .exit)) ⌝ }
-{
-    let at = 4 * i;
-    let mut j = 0;
-    while j < k {
-        origins[at + j] = column[picks[j] as usize];
-        j += 1;
-    }
-}
-
-// The origin of a member mark that the move at place i concerns, 0 of none. No begin emits, so its
-// mark is its first product. A transaction owns its own mark, so the first pick's owner has one.
-fn member_of<'a>(
+// What is noted of the move at place i in the state before it.
+fn note_move<'a>(
     owners: &'a [u32; 1024],
     items: &'a [u32; 1024],
     origins: &'a [u32; 1024],
     n: usize,
-    m: Move,
+    begun: &'a [u32; 1024],
+    first: u32,
+    head: u32,
+    picks: [u32; 4],
     i: usize,
-) -> u32
-    requires { ⌜ Lent (now owners) (now items) (now origins) n × Pickable m × (i < 1024) ⌝ }
-    ensures { λ r. ⌜ ((t : Table) (next : ℕ) → Legal t (stateFrom (now (owners .entry)) (now (items .entry)) (now (origins .entry)) n next) m → OneOf r (membersOf t i (stateFrom (now (owners .entry)) (now (items .entry)) (now (origins .entry)) n next) (moveOf t (wordsOf m)))) ⌝ }
+    wanted: &mut [u32],
+    members: &mut [u32; 1024],
+    ended: &mut [u32; 1024],
+)
+    requires { ⌜ Lent (now owners) (now items) (now origins) n × (length (now begun) ≡ 1024) × (i < 1024) × (4 * i + 4 ≤ length (now wanted)) × (length (now members) ≡ 1024) × (length (now ended) ≡ 1024) ⌝ }
+    ensures { λ _. ⌜ MoveNoted (now (owners .entry)) (now (items .entry)) (now (origins .entry)) n (now (begun .entry)) first head picks i (now (wanted .entry)) (now (members .entry)) (now (ended .entry)) (now (wanted .exit)) (now (members .exit)) (now (ended .exit)) ⌝ }
 {
-    if m.head / 16777216 != 0 {
-        return first_mark(owners, items, origins, n, m.head % 16777216);
-    }
-    let rule = m.rule;
-    if rule.begins {
-        return (i as u32 + 1) * 1024;
-    }
-    if rule.class == 0 {
-        return 0;
-    }
-    let picks = m.picks;
-    first_mark(owners, items, origins, n, owners[picks[0] as usize])
+    note_picks(origins, picks, i, wanted);
+    members[i] = mark_of(begun, first, concerned(owners, head, picks));
+    note_if_end(owners, items, origins, n, head, i, ended);
 }
 
-// The run of the log from s. Each move is recorded in the state before it.
+// The next id has grown where the move at place i begins a transaction. No begin emits, so the mark is
+// its first product.
+fn note_begin(
+    begun: &mut [u32; 1024],
+    members: &mut [u32; 1024],
+    i: usize,
+    first: u32,
+    next: u32,
+    after: u32,
+)
+    requires { ⌜ (length (now begun) ≡ 1024) × (length (now members) ≡ 1024) × (i < 1024) × (first ≤ next) × (next < first + 1024) ⌝ }
+    ensures { λ _. ⌜ (now (begun .exit) ≡ ifGrown next after (now (begun .entry)) (next - first) ((i + 1) * 1024)) × (now (members .exit) ≡ ifGrown next after (now (members .entry)) i ((i + 1) * 1024)) ⌝ }
+{
+    if next == after {
+        return;
+    }
+    let mark = (i as u32 + 1) * 1024;
+    begun[(next - first) as usize] = mark;
+    members[i] = mark;
+}
+
+// The run of the log. Each move is noted in the state before it; `begun` is room for the marks by ids.
 pub fn record<'a>(
     table: &'a [u32],
     starts: &'a [u32; 65],
-    mut s: State,
+    owners: &mut [u32; 1024],
+    items: &mut [u32; 1024],
+    origins: &mut [u32; 1024],
+    mut n: usize,
+    mut next: u32,
     log: &'a [u32],
     ceiling: usize,
-    origins: &mut [u32; 4096],
+    wanted: &mut [u32],
     members: &mut [u32; 1024],
     ended: &mut [u32; 1024],
+    begun: &mut [u32; 1024],
 ) -> Ran
-    requires { ⌜ Recordable (now table) (now starts) (now log) s ceiling × (length (now origins) ≡ 4096) × (length (now members) ≡ 1024) × (length (now ended) ≡ 1024) ⌝ }
-    ensures { λ r. ⌜ RecordedAs r ceiling (tableOf (now (table .entry))) (now (log .entry)) (stateIn s) (now (origins .exit)) (now (members .exit)) (now (ended .entry)) (now (ended .exit)) ⌝ }
+    requires { ⌜ Recordable (now table) (now starts) (now log) (held (now owners) (now items) (now origins) n next) ceiling × RecordRoom (now log) (now wanted) (now members) (now ended) (now begun) ⌝ }
+    ensures { λ r. ⌜ RecordedAs (r .verdict) (r .place) ceiling (tableOf (now (table .entry))) (now (log .entry)) (held (now (owners .entry)) (now (items .entry)) (now (origins .entry)) n next) (held (now (owners .exit)) (now (items .exit)) (now (origins .exit)) (r .len) (r .next)) (now (wanted .exit)) (now (members .exit)) (now (ended .entry)) (now (ended .exit)) × RecordRoom (now (log .entry)) (now (wanted .exit)) (now (members .exit)) (now (ended .exit)) (now (begun .exit)) ⌝ }
 {
+    let first = next;
     let k = count_of(log);
     let mut i = 0;
     while i < k {
-        let m = move_at(table, starts, log, i);
-        let n = s.len;
-        let next = s.next;
-        let verdict = decided(table, &s.owners, &s.items, n, next, m, ceiling);
-        if let Verdict::Denied(refusal) = verdict {
+        let head = head_at(log, i);
+        let picks = picks_at(log, i);
+        note_move(
+            owners,
+            items,
+            origins,
+            n,
+            begun,
+            first,
+            head,
+            picks,
+            i,
+            wanted,
+            members,
+            ended,
+        );
+        let made = make(
+            table,
+            starts,
+            owners,
+            items,
+            origins,
+            n,
+            next,
+            head,
+            picks,
+            (i + 1) as u32,
+            ceiling,
+        );
+        let verdict = made.verdict;
+        let after = made.next;
+        n = made.len;
+        note_begin(begun, members, i, first, next, after);
+        next = after;
+        if let Verdict::Denied(_) = verdict {
             return Ran {
-                verdict: Verdict::Denied(refusal),
+                verdict,
                 place: i as u32,
-                state: s,
+                len: n,
+                next,
             };
         }
-        let picks = m.picks;
-        note_picks(&s.origins, picks, picks_used(m), i, origins);
-        members[i] = member_of(&s.owners, &s.items, &s.origins, n, m, i);
-        note_if_end(&s.owners, &s.items, &s.origins, n, m.head, i, ended);
-        let rule = m.rule;
-        s = applied(s, rule, m.head, picks, (i + 1) as u32);
         i += 1;
     }
     Ran {
         verdict: Verdict::Allowed,
-        place: k as u32,
-        state: s,
+        place: i as u32,
+        len: n,
+        next,
     }
 }

@@ -7,24 +7,17 @@ ghost use lib.ListN.{length, take, drop, set};
 ghost use Rattle.lists.specs.Padded.{padded};
 ghost use Rattle.lists.specs.Over.{Pasted};
 ghost use Rattle.lists.specs.Rows.{rows};
-ghost use Rattle.semantics.specs.Table.{sizesOf, numbersOf, tableOf};
+ghost use Rattle.semantics.specs.Table.{tableOf};
 ghost use Rattle.semantics.specs.Move.{picksUsed, entryAt};
 ghost use Rattle.semantics.specs.Log.{moveCount};
-ghost use Rattle.semantics.specs.Answers.{tableVerdict};
-ghost use Rattle.semantics.specs.declared.Verdict.the-variants.{Allowed};
-ghost use Rattle.table.specs.Index.{Starts};
-ghost use Rattle.state.specs.Working.{rowOf, stateIn};
-ghost use Rattle.step.specs.Working.{stateFrom, Columns};
-ghost use Rattle.serial.specs.Replay.{placeIn, headAgain, Words, DecidedAs, Readable, Replayable, ReplayedAs};
+ghost use Rattle.state.specs.Working.{rowOf, stateIn, held};
+ghost use Rattle.step.specs.Working.{Columns};
+ghost use Rattle.step.specs.Make.{Indexed};
+ghost use Rattle.serial.specs.Replay.{placeIn, headAgain, Words, Readable, Replayable, ReplayedAs};
+use crate::chunk::chunk_of;
 use log::head_at;
 use semantics::Verdict;
-use state::State;
-use step::moves::applied;
-use step::moves::form_ok;
-use step::moves::no_rule;
-use step::moves::rule_of;
-use step::moves::verdict;
-use table::decode::Rule;
+use step::make::make;
 use table::decode::consumes_at;
 use table::parts::sizes_of;
 
@@ -34,18 +27,12 @@ struct Again {
     picks: [u32; 4],
 }
 
-// Whether a move is made, and then the rule of a reaction.
-struct Decision {
-    ok: bool,
-    rule: Rule,
-}
-
 // The place of the first entry of that origin, n if there is none.
 fn place_of(origins: &[u32; 1024], n: usize, origin: u32) -> usize
     requires { ⌜ (n ≤ 1024) × (length (now origins) ≡ 1024) ⌝ }
     ensures { λ r. ⌜ ((os ws : List ℕ) → r ≡ placeIn (rows (rowOf os ws (now (origins .entry))) 0 n) origin) × (r ≤ n) ⌝ }
 {
-    let mut i = 0;
+    let mut i = chunk_of(origins, n, origin);
     while i < n {
         if origins[i] == origin {
             return i;
@@ -71,8 +58,8 @@ fn places_of(origins: &[u32; 1024], n: usize, wanted: [u32; 4], k: usize) -> [u3
 }
 
 // The origins recorded for the picks of the move at place p.
-fn wanted_at(origins: &[u32; 4096], p: usize) -> [u32; 4]
-    requires { ⌜ (p < 1024) × (length (now origins) ≡ 4096) ⌝ }
+fn wanted_at(origins: &[u32], p: usize) -> [u32; 4]
+    requires { ⌜ (p < 1024) × (4 * p + 4 ≤ length (now origins)) ⌝ }
     ensures { λ r. ⌜ r ≡ take 4 (drop (4 * p) (now (origins .entry))) ⌝ }
 {
     let at = 4 * p;
@@ -86,7 +73,7 @@ fn wanted_at(origins: &[u32; 4096], p: usize) -> [u32; 4]
 
 // How many picks a head uses.
 fn picks_used<'a>(table: &'a [u32], starts: &'a [u32; 65], head: u32) -> usize
-    requires { ⌜ (tableVerdict (now table) ≡ Allowed) × Starts (numbersOf (now table)) (sizesOf (now table) .rules) (now starts) ⌝ }
+    requires { ⌜ Indexed (now table) (now starts) ⌝ }
     ensures { λ r. ⌜ (r ≡ picksUsed (tableOf (now (table .entry))) head) × (r ≤ 4) ⌝ }
 {
     if head / 16777216 != 0 {
@@ -139,7 +126,7 @@ fn again_at<'a>(
     origins: &'a [u32; 1024],
     n: usize,
     log: &'a [u32],
-    wanted: &'a [u32; 4096],
+    wanted: &'a [u32],
     members: &'a [u32; 1024],
     p: usize,
 ) -> Again
@@ -154,45 +141,7 @@ fn again_at<'a>(
     Again { head, picks }
 }
 
-// 5, then 7 to 12.
-fn decided<'a>(
-    table: &'a [u32],
-    starts: &'a [u32; 65],
-    owners: &'a [u32; 1024],
-    items: &'a [u32; 1024],
-    n: usize,
-    next: u32,
-    head: u32,
-    picks: [u32; 4],
-    ceiling: usize,
-) -> Decision
-    requires { ⌜ (tableVerdict (now table) ≡ Allowed) × Starts (numbersOf (now table)) (sizesOf (now table) .rules) (now starts) × Columns (now owners) (now items) n × (n ≤ ceiling) ⌝ }
-    ensures { λ d. ⌜ ((gs : List ℕ) → DecidedAs d ceiling (tableOf (now (table .entry))) (stateFrom (now (owners .entry)) (now (items .entry)) gs n next) head picks) ⌝ }
-{
-    if !form_ok(table, starts, head, picks) {
-        let rule = no_rule();
-        return Decision { ok: false, rule };
-    }
-    let rule = rule_of(table, starts, head);
-    let sizes = sizes_of(table);
-    let v = verdict(
-        owners,
-        items,
-        n,
-        next,
-        sizes.globals,
-        rule,
-        head,
-        picks,
-        ceiling,
-    );
-    if let Verdict::Denied(refusal) = v {
-        return Decision { ok: false, rule };
-    }
-    Decision { ok: true, rule }
-}
-
-fn put_picks(out: &mut [u32], at: usize, picks: [u32; 4])
+pub fn put_picks(out: &mut [u32], at: usize, picks: [u32; 4])
     requires { ⌜ at + 4 ≤ length (now out) ⌝ }
     ensures { λ _. ⌜ Pasted (now (out .entry)) at picks 4 (now (out .exit)) ⌝ }
 {
@@ -217,54 +166,49 @@ fn put_move(out: &mut [u32], k: usize, j: usize, head: u32, picks: [u32; 4])
 pub fn replay<'a>(
     table: &'a [u32],
     starts: &'a [u32; 65],
-    mut s: State,
+    owners: &mut [u32; 1024],
+    items: &mut [u32; 1024],
+    origins: &mut [u32; 1024],
+    mut n: usize,
+    mut next: u32,
     log: &'a [u32],
     order: &'a [u32; 1024],
-    origins: &'a [u32; 4096],
+    wanted: &'a [u32],
     members: &'a [u32; 1024],
     ceiling: usize,
     out: &mut [u32],
 ) -> bool
-    requires { ⌜ Replayable (now table) (now starts) s (now log) (now order) (now origins) (now members) ceiling (now out) ⌝ }
-    ensures { λ r. ⌜ ReplayedAs r ceiling (tableOf (now (table .entry))) (stateIn s) (now (log .entry)) (now (order .entry)) (now (origins .entry)) (now (members .entry)) (now (out .entry)) (now (out .exit)) ⌝ }
+    requires { ⌜ Replayable (now table) (now starts) (held (now owners) (now items) (now origins) n next) (now log) (now order) (now wanted) (now members) ceiling (now out) ⌝ }
+    ensures { λ r. ⌜ ReplayedAs r ceiling (tableOf (now (table .entry))) (stateIn (held (now (owners .entry)) (now (items .entry)) (now (origins .entry)) n next)) (now (log .entry)) (now (order .entry)) (now (wanted .entry)) (now (members .entry)) (now (out .entry)) (now (out .exit)) ⌝ }
 {
     let k = log[0] as usize;
     out[0] = log[0];
     let mut j = 0;
     while j < k {
         let p = order[j] as usize;
-        let n = s.len;
-        let next = s.next;
-        let m = again_at(
-            table,
-            starts,
-            &s.owners,
-            &s.origins,
-            n,
-            log,
-            origins,
-            members,
-            p,
-        );
+        let m = again_at(table, starts, owners, origins, n, log, wanted, members, p);
         let head = m.head;
         let picks = m.picks;
-        let d = decided(
+        put_move(out, k, j, head, picks);
+        let made = make(
             table,
             starts,
-            &s.owners,
-            &s.items,
+            owners,
+            items,
+            origins,
             n,
             next,
             head,
             picks,
+            (p + 1) as u32,
             ceiling,
         );
-        if !d.ok {
+        let verdict = made.verdict;
+        if let Verdict::Denied(_) = verdict {
             return false;
         }
-        put_move(out, k, j, head, picks);
-        let rule = d.rule;
-        s = applied(s, rule, head, picks, (p + 1) as u32);
+        n = made.len;
+        next = made.next;
         j += 1;
     }
     true

@@ -1,25 +1,38 @@
 -- Laws of the working state: an entry of the start, and what its words are.
 use Prim.Native.Nat.{ℕ, _+_, _*_, _/_, _%_, _≤_, _<_}
-use mathlib.Core.Path.{_≡_, _∙_}
+use mathlib.Core.Path.{_≡_, refl, sym, _∙_}
 use mathlib.Core.List.{List, [], _∷_, _++_, map}
 use native.Mathlib.Omega.{arith}
 use lib.ListN.{length, getD, take, set, length-append}
 use lib.Seq.{length-take-le}
 use Rattle.lists.specs.Lists.{over}
 use Rattle.lists.specs.Over.{Pasted, over-two, over-column}
-use Rattle.lists.specs.Rows.{rows, length-rows, rows-ext, rows-take, map-rows}
+use Rattle.lists.specs.Rows.{rows, length-rows, rows-ext, rows-take, map-rows, tails-rows}
+use Rattle.lists.specs.Filled.{Filled}
 use Rattle.semantics.specs.Words.{itemKind, itemWord, portOf, valueOf}
-use Rattle.semantics.specs.State.{entryOf, stateWords}
-use Rattle.state.specs.Working.{entryFrom, entryIn, stateIn, Stored}
-use Rattle.state.specs.Arrays.{Arrays}
+use Rattle.semantics.specs.State.{entryOf, entriesOf, entryCount, nextOf, ownersOf, itemsOf, stateOf, stateWords}
+use Rattle.semantics.specs.Columns.{Sized, entryAt, entriesFrom, entries-tails}
+use Rattle.state.specs.Working.{entryFrom, rowOf, entryIn, stateIn, held, Stored}
+use Rattle.state.specs.Arrays.{HoldsIn, holds-of}
 use Rattle.state.specs.declared.State.{State}
 
 -- an entry of the start has its place as its origin
-pub from-place : (i o w : ℕ) → i < 1024 → entryFrom o w i ≡ entryOf i o w
+from-place : (i o w : ℕ) → i < 1024 → entryFrom o w i ≡ entryOf i o w
 from-place i o w h =
     let m : i / 1024 ≡ 0 = omega arith in
     let x : i % 1024 ≡ i = omega arith in
     rw (m, x)
+
+-- columns that hold those of the words, and each origin its place
+pub loaded : {s os ws gs : List ℕ} {n : ℕ} → Sized s → n ≡ entryCount s → Filled 0 (λ k. getD (ownersOf s) k 0) 1024 (length (ownersOf s)) os
+    → Filled 0 (λ k. getD (itemsOf s) k 0) 1024 (length (itemsOf s)) ws → Filled 0 (λ k. k) 1024 n gs → HoldsIn (held os ws gs n (nextOf s)) (stateOf s)
+unfolding stateOf entriesFrom
+loaded {s} {os} {ws} {gs} {n} q e o w g =
+    let all : length (ownersOf s) ≡ n = omega arith in
+    let same : rows (rowOf os ws gs) 0 n ≡ rows (entryAt (ownersOf s) (itemsOf s)) 0 n =
+    rows-ext _ _ 0 n (λ k l u. rw (o .each k (omega arith), w .each k (omega arith), g .each k (omega arith)) (from-place k _ _ (omega arith))) in
+    let whole : entriesOf 0 (ownersOf s) (itemsOf s) ≡ rows (entryAt (ownersOf s) (itemsOf s)) 0 n = rw (← all) (tails-rows (entries-tails (ownersOf s) (itemsOf s) (omega arith))) in
+    record { arrays = record { owners = o .size; items = w .size; origins = g .size }; holds = holds-of _ refl refl (omega arith) (same ∙ sym whole) }
 
 -- ---- words
 
@@ -44,10 +57,10 @@ module _ (s : State) where
   state-words ho hi = rw (length-rows, owner-words ho, item-words hi)
 
 -- n and next, then the two columns, one after another
-pub stored-words : (s : State) (before middle after : List ℕ) → Arrays (s .owners) (s .items) (s .origins) → s .len ≤ 1024 → 2 + 2 * s .len ≤ length before
+pub stored-words : (s : State) (before middle after : List ℕ) → length (s .owners) ≡ 1024 → length (s .items) ≡ 1024 → s .len ≤ 1024 → 2 + 2 * s .len ≤ length before
     → Pasted (set (set before 0 (s .len)) 1 (s .next)) 2 (s .owners) (s .len) middle → Pasted middle (2 + s .len) (s .items) (s .len) after
     → Stored s before after (2 + 2 * s .len)
-stored-words s before middle after c h room p q =
+stored-words s before middle after o i h room p q =
     let n = s .len in
     let ho : n ≤ length (s .owners) = omega arith in
     let hi : n ≤ length (s .items) = omega arith in

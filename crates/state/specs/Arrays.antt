@@ -18,6 +18,11 @@ pub record Arrays (os ws gs : List ℕ) : Type 0 where
   pub items : length ws ≡ 1024
   pub origins : length gs ≡ 1024
 
+-- lent columns that hold σ
+pub record HoldsIn (s : State) (σ : semantics.State) : Type 0 where
+  pub arrays : Arrays (s .owners) (s .items) (s .origins)
+  pub holds : Holds s σ
+
 module _ (os ws gs : List ℕ) (w o x g : ℕ) where
   -- the columns with an entry stored at w
   abbrev pub stored : ℕ → Entry

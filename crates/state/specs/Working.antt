@@ -28,6 +28,10 @@ entryIn s = rowOf (s .owners) (s .items) (s .origins)
 unfoldable pub stateIn : State → semantics.State
 stateIn s = record { next = s .next; entries = rows (entryIn s) 0 (s .len) }
 
+-- the state in lent columns
+abbrev pub held : List ℕ → List ℕ → List ℕ → ℕ → ℕ → State
+held os ws gs n next = record { owners = os; items = ws; origins = gs; len = n; next = next }
+
 -- s holds σ, and is within its limit
 pub record Holds (s : State) (σ : semantics.State) : Type 0 where
   pub value : stateIn s ≡ σ

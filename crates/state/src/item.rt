@@ -1,7 +1,9 @@
 // The fields of an item, kind × 2^24 + port × 2^16 + value: the only code that knows how it holds
 // them; and its kinds.
-ghost use Prim.Native.Nat.{_<_};
+ghost use Prim.Native.Nat.{ℕ, _<_};
 ghost use mathlib.Core.Path.{_≡_};
+ghost use mathlib.Core.Bool.{_&&_};
+ghost use lib.Dec.{eqb, ltb};
 ghost use Rattle.semantics.specs.Words.{itemKind, itemWord, portOf, valueOf};
 
 // 01's note
@@ -32,6 +34,16 @@ pub fn value_of(item: u32) -> u32
     ensures { λ r. ⌜ r ≡ valueOf item ⌝ }
 {
     item % 65536
+}
+
+// The first item beyond the messages on so many ports.
+pub fn messages_end(ports: u64) -> u32
+    ensures { λ r. ⌜ ((item : ℕ) → ltb item r ≡ (eqb (itemKind item) 0 && ltb (portOf item) ports)) ⌝ }
+{
+    if 256 <= ports {
+        return 16777216;
+    }
+    (ports * 65536) as u32
 }
 
 pub fn item_of(kind: u32, port: u32, value: u32) -> u32

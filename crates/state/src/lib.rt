@@ -6,15 +6,19 @@ mod words;
 use semantics::Refusal;
 use semantics::Sizes;
 use semantics::Verdict;
-ghost use Prim.Native.Nat.{_+_, _*_, _≤_};
+pub use words::entry_count;
+pub use words::owners_of;
+ghost use Prim.Native.Nat.{ℕ, _+_, _*_, _≤_};
 ghost use mathlib.Core.Path.{_≡_};
 ghost use mathlib.Core.Bool.{true};
-ghost use mathlib.Core.List.{[]};
-ghost use lib.ListN.{length};
+ghost use mathlib.Core.List.{List, []};
+ghost use lib.ListN.{length, getD};
 ghost use Rattle.lists.specs.Over.{Pasted};
-ghost use Rattle.semantics.specs.State.{stateSizesOk, stateOf, entriesOf};
+ghost use Rattle.lists.specs.Filled.{Filled};
+ghost use Rattle.semantics.specs.State.{stateSizesOk, stateOf};
 ghost use Rattle.semantics.specs.Answers.{stateOwnVerdict};
-ghost use Rattle.state.specs.Working.{Holds, Stored};
+ghost use Rattle.state.specs.Working.{Holds, Stored, held};
+ghost use Rattle.state.specs.Arrays.{Arrays, HoldsIn};
 
 // The entries in use are the first len of each column. Items are as 01 lays them out; an origin is
 // maker × 1024 + index, and next is 01's next ticket N.
@@ -57,42 +61,71 @@ pub fn check(z: Sizes, state: &[u32]) -> Verdict
     Verdict::Allowed
 }
 
-// The words need only have sizes in order: what `check` finds beyond that is not looked at again.
-pub fn load(state: &[u32]) -> State
-    requires { ⌜ stateSizesOk (now state) ≡ true ⌝ }
-    ensures { λ r. ⌜ Holds r (stateOf (now (state .entry))) ⌝ }
-{
-    from_columns(words::owners_of(state), words::items_of(state), state[1])
+// How many entries were loaded, and N.
+pub struct Loaded {
+    pub len: usize,
+    pub next: u32,
 }
 
+// The words need only have sizes in order: what `check` finds beyond that is not looked at again.
 // Each entry's origin is its place: maker 0.
-fn from_columns(owners: &[u32], items: &[u32], next: u32) -> State
-    requires { ⌜ (length (now owners) ≡ length (now items)) × (length (now owners) ≤ 1024) ⌝ }
-    ensures { λ r. ⌜ Holds r (record { next = next; entries = entriesOf 0 (now (owners .entry)) (now (items .entry)) }) ⌝ }
+pub fn load(
+    state: &[u32],
+    owners: &mut [u32; 1024],
+    items: &mut [u32; 1024],
+    origins: &mut [u32; 1024],
+) -> Loaded
+    requires { ⌜ (stateSizesOk (now state) ≡ true) × Arrays (now owners) (now items) (now origins) ⌝ }
+    ensures { λ r. ⌜ HoldsIn (held (now (owners .exit)) (now (items .exit)) (now (origins .exit)) (r .len) (r .next)) (stateOf (now (state .entry))) ⌝ }
 {
-    let mut s = State::empty();
-    s.next = next;
-    s.len = owners.len();
+    let len = words::entry_count(state);
+    fill_column(words::owners_of(state), owners);
+    fill_column(words::items_of(state), items);
+    number_column(len, origins);
+    Loaded {
+        len,
+        next: state[1],
+    }
+}
+
+fn fill_column(words: &[u32], column: &mut [u32; 1024])
+    requires { ⌜ (length (now words) ≤ 1024) × (length (now column) ≡ 1024) ⌝ }
+    ensures { λ _. ⌜ Filled 0 (λ k. getD (now (words .entry)) k 0) 1024 (length (now (words .entry))) (now (column .exit)) ⌝ }
+{
     let mut i = 0;
-    while i < owners.len() {
-        s.owners[i] = owners[i];
-        s.items[i] = items[i];
-        s.origins[i] = i as u32;
+    while i < words.len() {
+        column[i] = words[i];
         i += 1;
     }
-    s
 }
 
-// The words of s over the target's beginning; answers how many.
-pub fn store(s: State, target: &mut [u32]) -> u32
-    requires { ⌜ (s .len ≤ 1024) × (2 + 2 * s .len ≤ length (now target)) ⌝ }
-    ensures { λ r. ⌜ Stored s (now (target .entry)) (now (target .exit)) r ⌝ }
+// Each of the first n is its place.
+fn number_column(n: usize, column: &mut [u32; 1024])
+    requires { ⌜ (n ≤ 1024) × (length (now column) ≡ 1024) ⌝ }
+    ensures { λ _. ⌜ Filled 0 (λ k. k) 1024 n (now (column .exit)) ⌝ }
 {
-    let n = s.len;
+    let mut i = 0;
+    while i < n {
+        column[i] = i as u32;
+        i += 1;
+    }
+}
+
+// The words of n entries over the target's beginning; answers how many.
+pub fn store<'a>(
+    owners: &'a [u32; 1024],
+    items: &'a [u32; 1024],
+    n: usize,
+    next: u32,
+    target: &mut [u32],
+) -> u32
+    requires { ⌜ (n ≤ 1024) × (length (now owners) ≡ 1024) × (length (now items) ≡ 1024) × (2 + 2 * n ≤ length (now target)) ⌝ }
+    ensures { λ r. ⌜ ((gs : List ℕ) → Stored (held (now (owners .entry)) (now (items .entry)) gs n next) (now (target .entry)) (now (target .exit)) r) ⌝ }
+{
     target[0] = n as u32;
-    target[1] = s.next;
-    put_column(&s.owners, n, target, 2);
-    put_column(&s.items, n, target, 2 + n);
+    target[1] = next;
+    put_column(owners, n, target, 2);
+    put_column(items, n, target, 2 + n);
     (2 + 2 * n) as u32
 }
 

@@ -1,11 +1,13 @@
 -- The end of a transaction: an entry that stays, and the tests of what the transaction owns.
-use Prim.Native.Nat.{ℕ, _+_, _%_, _^_, _≤_, _<_}
+use Prim.Native.Nat.{ℕ, zero, suc, _+_, _%_, _^_, _≤_, _<_}
 use mathlib.Core.Path.{_≡_, refl, ap, _∙_}
 use mathlib.Core.Bool.{Bool, true, false, _&&_, _||_, not, cond, false≢true}
+use native.Mathlib.Numerals.{add-one}
 use native.Mathlib.Omega.{arith}
 use lib.Dec.{eqb, ltb, leb}
-use borrow.Author.Tests.{ltb-true, ltb-false, lt-leb, le-leb}
-use Rattle.lists.specs.Lists.{any}
+use borrow.Author.Tests.{ltb-true, ltb-false, lt-leb, le-leb, not-true}
+use Rattle.lists.specs.Lists.{any, allBelow}
+use Rattle.lists.specs.Tests.{and-both, or-true}
 use Rattle.lists.specs.Found.{Finding, finding-start, finding-next, finding-done, any-keep, all-neither}
 use Rattle.lists.specs.Rows.{rows, rowsFrom, rows-tails}
 use Rattle.semantics.specs.Words.{itemKind, portOf, valueOf}
@@ -13,7 +15,7 @@ use Rattle.semantics.specs.State.{Entry, State, isMessage, isAbortMark, owned}
 use Rattle.semantics.specs.Move.{unless, both, toGlobal, freed}
 use Rattle.semantics.specs.declared.Refusal.the-variants.{NoTransaction, EndNotAllowed}
 use Rattle.state.specs.Working.{entryFrom}
-use Rattle.step.specs.End.{Surveyed, commitVerdict, abortVerdict}
+use Rattle.step.specs.End.{NoneBefore, Surveyed, endVerdict}
 use Rattle.step.specs.declared.end.Survey.{Survey}
 
 -- an item without its kind is a message on the same port with the same value
@@ -33,6 +35,10 @@ freed-entry id kind o x g = go (eqb o id) (eqb (itemKind x) kind)
     go true false h = absurd (false≢true h)
     go false b h = refl
 
+-- what it does not own stays as it is
+pub stays-as-is : (id kind : ℕ) (e : Entry) → not (owned id e) ≡ true → (not (owned id e) || eqb (e .kind) kind ≡ true) × (e ≡ freed (λ e. eqb (e .kind) kind) id e)
+stays-as-is id kind e h = (or-true (eqb (e .kind) kind) h, rw (not-true (owned id e) h))
+
 -- ---- what the transaction owns
 
 -- a message on no global port
@@ -45,7 +51,7 @@ pub record Surveying (id globals : ℕ) (row : ℕ → Entry) (n : ℕ) (o a m :
   pub aborting-so-far : Finding (λ e. owned id e && isAbortMark e) (rowsFrom row n) n a i (any (λ e. owned id e && isAbortMark e) (rows row 0 n))
   pub inside-so-far : Finding (λ e. owned id e && inside globals e) (rowsFrom row n) n m i (any (λ e. owned id e && inside globals e) (rows row 0 n))
 
-pub surveying-start : (id globals : ℕ) (row : ℕ → Entry) (n : ℕ) → Surveying id globals row n false false false 0
+surveying-start : (id globals : ℕ) (row : ℕ → Entry) (n : ℕ) → Surveying id globals row n false false false 0
 surveying-start id globals row n = record {
   open-so-far = finding-start _ row n;
   aborting-so-far = finding-start _ row n;
@@ -68,6 +74,14 @@ module _ {id globals : ℕ} {row : ℕ → Entry} {n : ℕ} {o a m : Bool} {i : 
     inside-is = finding-done (rows-tails row n) (s .inside-so-far) l ∙ any-keep (inside globals) (owned id) (rows row 0 n);
   }
 
+-- the loop may begin at the first entry owned
+pub surveying-from : (id globals : ℕ) (row : ℕ → Entry) (n i : ℕ) → i ≤ n → allBelow i (λ k. not (owned id (row k))) ≡ true → Surveying id globals row n false false false i
+surveying-from id globals row n zero l none = surveying-start id globals row n
+surveying-from id globals row n (suc i) l none =
+    let (a, b) = and-both (allBelow i (λ k. not (owned id (row k)))) (not (owned id (row i))) none in
+    let before = surveying-from id globals row n i (omega arith) a in
+    rw (← add-one i) (rw (not-true (owned id (row i)) b) at (surveying-next before (omega arith)))
+
 -- ---- the verdicts by what was found
 
 -- either not a message, or on a global port
@@ -79,12 +93,8 @@ on-global globals e = go (isMessage e) (ltb (e .port) globals) refl
     go true false h = rw (le-leb globals (e .port) (ltb-false (e .port) globals h))
     go false b h = refl
 
-module _ {r : Survey} {s : State} {id globals : ℕ} (f : Surveyed r s id globals) where
-  pub commit-found : both (unless (ltb 0 id && r .open) NoTransaction) (unless (not (r .aborting || r .inside)) EndNotAllowed) ≡ commitVerdict globals id s
-  unfolding commitVerdict
-  commit-found =
-      rw (f .open-is, f .aborting-is, f .inside-is, all-neither isAbortMark (inside globals) _ (λ e. ap (λ b. not (isAbortMark e) && b) (on-global globals e)) _)
-
-  pub abort-found : both (unless (ltb 0 id && r .open) NoTransaction) (unless (r .aborting) EndNotAllowed) ≡ abortVerdict id s
-  unfolding abortVerdict
-  abort-found = rw (f .open-is, f .aborting-is)
+pub end-found : {r : Survey} {s : State} {id globals : ℕ} → Surveyed r s id globals → (kind : ℕ)
+    → both (unless (ltb 0 id && r .open) NoTransaction) (unless (cond (eqb kind 1) (not (r .aborting || r .inside)) (r .aborting)) EndNotAllowed) ≡ endVerdict kind globals id s
+unfolding endVerdict
+end-found {id = id} {globals = globals} f kind =
+    rw (f .open-is, f .aborting-is, f .inside-is, all-neither isAbortMark (inside globals) _ (λ e. ap (λ b. not (isAbortMark e) && b) (on-global globals e)) _)

@@ -1,21 +1,19 @@
--- The loop that appends a reaction's products to a state, one by one.
+-- The loop that appends a reaction's products to the columns, one by one.
 use Prim.Native.Nat.{ℕ, _+_, _-_, _*_, _/_, _%_, _≤_, _<_}
 use mathlib.Core.Path.{_≡_, refl, sym, _∙_}
 use mathlib.Core.List.{List, _++_, append-nil}
 use native.Mathlib.Nat.{add-zero}
 use native.Mathlib.Numerals.{add-one}
 use native.Mathlib.Omega.{arith}
-use lib.ListN.{getD, take, drop}
+use lib.ListN.{getD, take, drop, set}
 use Rattle.lists.specs.Ahead.{Tails, Ahead, ahead-next, ahead-done}
 use Rattle.lists.specs.Prefix.{part-tails}
 use Rattle.lists.specs.Rows.{rows}
 use Rattle.semantics.specs.State.{Entry}
 use Rattle.semantics.specs.declared.Atom.{Atom}
 use Rattle.table.specs.declared.decode.Rule.{Rule}
-use Rattle.state.specs.declared.State.{State}
-use Rattle.state.specs.Working.{entryFrom, entryIn, stateIn, Holds}
-use Rattle.state.specs.Arrays.{Arrays, stored-sized, stored-before, holds-of}
-use Rattle.state.specs.Compact.{storedIn}
+use Rattle.state.specs.Working.{entryFrom, rowOf, held}
+use Rattle.state.specs.Arrays.{Arrays, HoldsIn, stored-sized, stored-before, holds-of}
 use Rattle.step.specs.Narrow.{Ready}
 use Rattle.step.specs.Products.{ownerOfRole, ItemMade, productFrom, productsFrom}
 use Rattle.step.proofs.Decoded.{blank}
@@ -28,17 +26,16 @@ abbrev pub made : Rule → ℕ
 made x = x .count - x .consumes
 
 -- Before product q of a reaction that is appended from place `at` on; `all` is what is to be made.
-pub record Making (x : Rule) (next home maker : ℕ) (got : List ℕ) (at q : ℕ) (s : State) (all : List Entry) : Type 0 where
+pub record Making (x : Rule) (next home maker : ℕ) (got : List ℕ) (at q : ℕ) (os ws gs : List ℕ) (all : List Entry) : Type 0 where
   pub ready : Ready x next maker
-  pub arrays : Arrays (s .owners) (s .items) (s .origins)
+  pub arrays : Arrays os ws gs
   pub room : at + made x ≤ 1024
-  pub ahead : Ahead (λ j. drop j (makers x)) (made x) (λ atoms. rows (entryIn s) 0 (at + q) ++ productsFrom (x .class) next home got maker q atoms) q all
+  pub ahead : Ahead (λ j. drop j (makers x)) (made x) (λ atoms. rows (rowOf os ws gs) 0 (at + q) ++ productsFrom (x .class) next home got maker q atoms) q all
 
 module _ (x : Rule) (next home maker : ℕ) (got : List ℕ) where
-  pub making-start : (s : State) → Ready x next maker → Arrays (s .owners) (s .items) (s .origins) → s .len + made x ≤ 1024
-      → Making x next home maker got (s .len) 0 s (stateIn s .entries ++ productsFrom (x .class) next home got maker 0 (makers x))
-  unfolding stateIn
-  making-start s r a h = record { ready = r; arrays = a; room = h; ahead = record { within = omega arith; so-far = rw (add-zero (s .len)) } }
+  pub making-start : (os ws gs : List ℕ) (at : ℕ) → Ready x next maker → Arrays os ws gs → at + made x ≤ 1024
+      → Making x next home maker got at 0 os ws gs (rows (rowOf os ws gs) 0 at ++ productsFrom (x .class) next home got maker 0 (makers x))
+  making-start os ws gs at r a h = record { ready = r; arrays = a; room = h; ahead = record { within = omega arith; so-far = rw (add-zero at) } }
 
   entry-made : (o w q : ℕ) (a : Atom) → o ≡ ownerOfRole (x .class) next home (a .role) → ItemMade w got next a → q < 1024
       → entryFrom o w (maker * 1024 + q) ≡ productFrom (x .class) next home got (record { maker = maker; index = q }) a
@@ -47,12 +44,13 @@ module _ (x : Rule) (next home maker : ℕ) (got : List ℕ) where
       let n : (maker * 1024 + q) % 1024 ≡ q = omega arith in
       rw (e, i .kind, i .port, i .value, m, n)
 
-  module _ {at q : ℕ} {s : State} {all : List Entry} (m : Making x next home maker got at q s all) where
+  module _ {at q : ℕ} {os ws gs : List ℕ} {all : List Entry} (m : Making x next home maker got at q os ws gs all) where
     tails : Tails (λ i. getD (x .atoms) (x .consumes + i) blank) (λ j. drop j (makers x)) (made x)
     tails = part-tails blank (x .atoms) (x .consumes) (x .count) (omega (arith, m .ready .rule .room, m .ready .rule .few))
 
     pub making-next : q < made x → (o w : ℕ) → o ≡ ownerOfRole (x .class) next home (getD (x .atoms) (x .consumes + q) blank .role)
-        → ItemMade w got next (getD (x .atoms) (x .consumes + q) blank) → Making x next home maker got at (q + 1) (storedIn s (at + q) o w (maker * 1024 + q)) all
+        → ItemMade w got next (getD (x .atoms) (x .consumes + q) blank)
+        → Making x next home maker got at (q + 1) (set os (at + q) o) (set ws (at + q) w) (set gs (at + q) (maker * 1024 + q)) all
     making-next h o w e i =
         let low : at + q < 1024 = omega (arith, m .room) in
         let step : at + (q + 1) ≡ at + q + 1 = omega arith in
@@ -64,9 +62,8 @@ module _ (x : Rule) (next home maker : ℕ) (got : List ℕ) where
           ahead = ahead-next tails (m .ahead) h _ (λ atoms. rw (step, add-one q) (stored-before _ _ _ (at + q) o w (maker * 1024 + q) (m .arrays) low entry _));
         }
 
-    pub making-done : made x ≤ q → (n n′ : ℕ) → n ≡ n′
-        → Holds (record { owners = s .owners; items = s .items; origins = s .origins; len = at + made x; next = n }) (record { next = n′; entries = all })
-    making-done h n n′ same =
+    pub making-done : made x ≤ q → (n : ℕ) → HoldsIn (held os ws gs (at + made x) n) (record { next = n; entries = all })
+    making-done h n =
         let e : q ≡ made x = omega (arith, m .ahead .within) in
-        let done : rows (entryIn s) 0 (at + q) ≡ all = sym (append-nil _) ∙ ahead-done tails (m .ahead) h in
-        holds-of _ same refl (m .room) (rw e at done)
+        let done : rows (rowOf os ws gs) 0 (at + q) ≡ all = sym (append-nil _) ∙ ahead-done tails (m .ahead) h in
+        record { arrays = m .arrays; holds = holds-of _ refl refl (m .room) (rw e at done) }

@@ -1,12 +1,16 @@
 -- Four numbers, of which the first k count.
 use Prim.Native.Nat.{ℕ, zero, suc, _≤_}
-use mathlib.Core.Path.{_≡_, refl, sym, ap, _∙_}
-use mathlib.Core.Bool.{Bool, true, false, _&&_, _||_, not}
+use mathlib.Core.Path.{_≡_, refl, sym, ap, subst, _∙_}
+use mathlib.Core.Bool.{Bool, true, false, _&&_, _||_, not, cond}
 use mathlib.Core.List.{List, [], _∷_}
 use native.Mathlib.Omega.{arith}
 use lib.Dec.{eqb, ltb}
 use lib.ListN.{length, getD, take}
-use Rattle.lists.specs.Lists.{distinct}
+use lib.Seq.{take-all}
+use Rattle.lists.specs.Lists.{isIn, distinct}
+use Rattle.lists.specs.Choices.{by-bool}
+use Rattle.lists.specs.Gaps.{nearer, NextIn, next-none, next-more}
+use Rattle.lists.specs.Walk.{take-four}
 
 -- the pairs that `all_differ` compares
 abbrev pub pairsDiffer : List ℕ → ℕ → Bool
@@ -48,3 +52,28 @@ pairs-differ (a ∷ []) k l h = absurd (omega arith)
 pairs-differ (a ∷ b ∷ []) k l h = absurd (omega arith)
 pairs-differ (a ∷ b ∷ c ∷ []) k l h = absurd (omega arith)
 pairs-differ (a ∷ b ∷ c ∷ d ∷ e ∷ f) k l h = absurd (omega arith)
+
+-- ---- four numbers by place
+
+pub four-places : (f : List ℕ) → length f ≡ 4 → f ≡ getD f 0 0 ∷ getD f 1 0 ∷ getD f 2 0 ∷ getD f 3 0 ∷ []
+four-places f l = sym (take-four f 0 0 (omega arith) ∙ take-all 4 f (omega arith))
+
+pub four-next : (f : List ℕ) (from n : ℕ) → length f ≡ 4
+    → NextIn f from n (nearer from (getD f 0 0) (nearer from (getD f 1 0) (nearer from (getD f 2 0) (nearer from (getD f 3 0) n))))
+four-next f from n l =
+    subst (λ (g : List ℕ). NextIn g from n (nearer from (getD f 0 0) (nearer from (getD f 1 0) (nearer from (getD f 2 0) (nearer from (getD f 3 0) n))))) (sym (four-places f l))
+    (next-more _ (next-more _ (next-more _ (next-more _ (next-none from n)))))
+
+pub four-repeated : (f : List ℕ) (k : ℕ) → length f ≡ 4 → 1 ≤ k → k ≤ 4 → (x : ℕ)
+    → isIn x (getD f 0 0 ∷ cond (ltb 1 k) (getD f 1 0) (getD f 0 0) ∷ cond (ltb 2 k) (getD f 2 0) (getD f 0 0) ∷ cond (ltb 3 k) (getD f 3 0) (getD f 0 0) ∷ []) ≡ isIn x (take k f)
+four-repeated f k l h u x = go k h u ∙ sym (ap (λ g. isIn x (take k g)) (four-places f l))
+  where
+    go : (k : ℕ) → 1 ≤ k → k ≤ 4
+        → isIn x (getD f 0 0 ∷ cond (ltb 1 k) (getD f 1 0) (getD f 0 0) ∷ cond (ltb 2 k) (getD f 2 0) (getD f 0 0) ∷ cond (ltb 3 k) (getD f 3 0) (getD f 0 0) ∷ [])
+        ≡ isIn x (take k (getD f 0 0 ∷ getD f 1 0 ∷ getD f 2 0 ∷ getD f 3 0 ∷ []))
+    go zero h u = absurd (omega arith)
+    go (suc zero) h u = by-bool (eqb x (getD f 0 0)) (λ e. rw e) (λ e. rw e)
+    go (suc (suc zero)) h u = by-bool (eqb x (getD f 0 0)) (λ e. rw e) (λ e. rw e)
+    go (suc (suc (suc zero))) h u = by-bool (eqb x (getD f 0 0)) (λ e. rw e) (λ e. rw e)
+    go (suc (suc (suc (suc zero)))) h u = refl
+    go (suc (suc (suc (suc (suc k))))) h u = absurd (omega arith)

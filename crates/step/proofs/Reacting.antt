@@ -37,6 +37,10 @@ use Rattle.step.proofs.Making.{makers, made}
 
 -- ---- the verdict, test by test
 
+pub picks-found : (r : rules.Rule) (s : semantics.State) (ps : List ℕ) {a b : Bool} {ports : List ℕ} → a ≡ distinct ps → b ≡ onPorts ports (picked s ps) → ports ≡ consumed r
+    → a && b ≡ picksOk r s ps
+picks-found r s ps p q e = rw (p, q, e)
+
 pub picks-parts : (r : rules.Rule) (s : semantics.State) (ps : List ℕ) → picksOk r s ps ≡ true → (distinct ps ≡ true) × (onPorts (consumed r) (picked s ps) ≡ true)
 picks-parts r s ps h = and-both (distinct ps) (onPorts (consumed r) (picked s ps)) h
 
@@ -113,41 +117,3 @@ module _ (x : Rule) (d : Decodes x (ruleIn x)) (picks : List ℕ) (four : length
     products-found i home {found} e h least-is =
         rw (products-from (ruleIn x) σ (picked σ ps) i 0 (productAtoms (ruleIn x)), d .legal .products, least-is)
         (products-same (x .class) next (least (ownersAt σ ps)) (map valueOf found) (map (λ e. e .value) (picked σ ps)) (values-found e h) i 0 (makers x))
-
-  -- ---- what a reaction leaves, in the working state; s₁ has the picks taken out
-
-  module _ (s s₁ : State) (g : ReactGiven (ruleIn x) (stateIn s) ps) where
-    pub places-in : Places (s .len) ps
-    unfolding stateIn
-    places-in = places (s .owners) (s .items) (s .origins) (s .len) (s .next) (g .ports)
-
-    module _ (os : List ℕ) (left : Holds s₁ (record { next = s .next; entries = map (merged os) (without ps 0 (stateIn s .entries)) })) where
-      pub room-left : length (reacted (ruleIn x) 0 (stateIn s) ps .entries) ≤ 1024 → s₁ .len + made x ≤ 1024
-      room-left h =
-          omega (
-            arith,
-            held-len left,
-            length-map (without ps 0 (stateIn s .entries)) (merged os),
-            length-reacted (ruleIn x) 0 (stateIn s) ps,
-            count-products x d,
-          )
-
-      pub id-left : x .begins ≡ true → s₁ .next < 65536
-      unfolding stateIn
-      id-left h = rw (held-next left) (ltb-true (s .next) 65536 (given-holds (begins (ruleIn x)) (ltb (s .next) 65536) (g .ids) (sym (d .begins) ∙ h)))
-
-    pub reacted-is : (i home : ℕ) {owners items : List ℕ} → owners ≡ fourAt (s .owners) ps → items ≡ fourAt (s .items) ps → home ≡ least (take (x .consumes) owners)
-        → Holds s₁ (record { next = s .next; entries = map (merged (take (x .consumes) owners)) (without ps 0 (stateIn s .entries)) })
-        → _≡_ {A = semantics.State} (record { next = nextAfter (x .begins) (s₁ .next); entries = stateIn s₁ .entries ++ productsFrom (x .class) (s₁ .next) home (map valueOf items) i 0 (makers x) })
-        (reacted (ruleIn x) i (stateIn s) ps)
-    unfolding stateIn reacted
-    reacted-is i home {items = items} eo ei home-is left =
-        let σ = stateFrom (s .owners) (s .items) (s .origins) (s .len) (s .next) in
-        let next = held-next left in
-        let found = owners-found (s .owners) (s .items) (s .origins) (s .len) (s .next) eo places-in in
-        let kept : stateIn s₁ .entries ≡ map (merged (ownersAt σ ps)) (without ps 0 (σ .entries)) =
-        ap (λ (x : semantics.State). x .entries) (left .value) ∙ ap (λ (os : List ℕ). map (merged os) (without ps 0 (σ .entries))) found in
-        let new : productsFrom (x .class) (s₁ .next) home (map valueOf items) i 0 (makers x) ≡ products (ruleIn x) σ (picked σ ps) i 0 (productAtoms (ruleIn x)) =
-        ap (λ (n : ℕ). productsFrom (x .class) n home (map valueOf items) i 0 (makers x)) next
-        ∙ products-found (s .owners) (s .items) (s .origins) (s .len) (s .next) i home ei places-in (home-is ∙ ap least found) in
-        λ j. record { next = nextAfter (d .begins j) (next j); entries = kept j ++ new j }

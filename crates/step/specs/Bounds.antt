@@ -1,26 +1,22 @@
 -- What an allowed move keeps of a working state's limits.
 use Prim.Native.Nat.{ℕ, suc, _≤_}
 use mathlib.Core.Bool.{Bool, true, false, _||_, not, cond}
-use mathlib.Core.List.{List, _∷_}
 use mathlib.Core.Path.{_≡_}
 use native.Mathlib.Omega.{arith}
 use lib.Dec.{leb, ltb}
 use lib.ListN.{length}
 use borrow.Author.Tests.{leb-true, le-leb, ltb-true}
-use Rattle.semantics.specs.Table.{Table, tableOf, ruleAt, begins}
+use Rattle.semantics.specs.Table.{Table, ruleAt, begins}
 use Rattle.semantics.specs.State as semantics
-use Rattle.semantics.specs.Move.{unless, both, Move, react, commit, abort, moveOf, reacted, ended, allowed, applied, moveVerdict}
-use Rattle.semantics.specs.Answers.{tableVerdict}
+use Rattle.semantics.specs.Move.{unless, both, Move, react, commit, abort, reacted, ended, allowed, applied, moveVerdict}
 use Rattle.semantics.specs.declared.Refusal.the-variants.{TooManyEntries}
 use Rattle.semantics.specs.declared.Verdict.the-variants.{Allowed}
 use Rattle.wellformed.specs.Verdicts.{both-allowed, both-intro, unless-allowed, unless-intro}
 use Rattle.wellformed.specs.Picks.{react-given}
 use Rattle.wellformed.specs.Length.{length-maker}
-use Rattle.table.specs.declared.decode.Rule.{Rule}
 use Rattle.state.specs.declared.State.{State}
-use Rattle.state.specs.Working.{stateIn, Holds}
+use Rattle.state.specs.Working.{Holds}
 use Rattle.state.specs.Arrays.{held-next, held-len}
-use Rattle.step.specs.Moves.{IsMove, Applicable, applicable}
 
 -- a working state within a ceiling, its next id within 01's limit
 pub record Bounded (s : State) (ceiling : ℕ) : Type 0 where
@@ -61,11 +57,3 @@ module _ (ceiling : ℕ) (t : Table) (s : semantics.State) (m : Move) (h : moveV
     fits = let l = verdict-fits i in omega (arith, held-len k);
     next = let l = next-bounded t i s m verdict-allows n in omega (arith, held-next k);
   }
-
--- what `applied` asks, of a move allowed under a ceiling
-pub bounded-applicable : (T : List ℕ) → tableVerdict T ≡ Allowed → {ceiling : ℕ} → ceiling ≤ 1024 → {s : State} → Bounded s ceiling → {x : Rule} {head : ℕ} {picks : List ℕ}
-    → IsMove (tableOf T) x head picks → moveVerdict ceiling (tableOf T) (stateIn s) (moveOf (tableOf T) (head ∷ picks)) ≡ Allowed → (maker : ℕ) → maker ≤ 1024
-    → Applicable s x head picks maker
-bounded-applicable T v {ceiling} c {s} b {x} {head} {picks} m h maker l =
-    applicable T v s x head picks maker m (omega (arith, b .fits)) (b .next) l
-    (verdict-higher ceiling (tableOf T) (stateIn s) (moveOf (tableOf T) (head ∷ picks)) h 1024 c)

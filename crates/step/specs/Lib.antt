@@ -5,3 +5,4 @@ pub mod React
 pub mod Narrow
 pub mod Moves
 pub mod Bounds
+pub mod Make

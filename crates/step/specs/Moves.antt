@@ -1,20 +1,20 @@
 -- What the functions of a whole move ask and say, and laws for their callers.
-use Prim.Native.Nat.{ℕ, _≤_, _<_}
+use Prim.Native.Nat.{ℕ, _-_, _≤_, _<_}
 use mathlib.Core.Path.{_≡_, refl, sym, ap, _∙_}
-use mathlib.Core.Bool.{true, false, _&&_}
+use mathlib.Core.Bool.{Bool, true, false, _&&_, cond}
 use mathlib.Core.List.{List, _∷_}
 use native.Mathlib.Omega.{arith}
 use lib.Dec.{ltb, leb, eqb}
 use lib.ListN.{length, drop, take}
-use borrow.Author.Tests.{ltb-true, lt-ltb, le-ltb, eq-eqb, ne-eqb, le-leb}
+use borrow.Author.Tests.{ltb-true, lt-ltb, le-ltb, eqb-true, eqb-false, eq-eqb, ne-eqb, le-leb}
 use Rattle.lists.specs.Lists.{all}
-use Rattle.lists.specs.Choices.{and-three}
+use Rattle.lists.specs.Choices.{by-bool, and-three}
 use Rattle.lists.specs.Tests.{and-false, and-true}
 use Rattle.semantics.specs.Words.{headKind, headNumber}
 use Rattle.semantics.specs.Table.{Table, sizesOf, tableOf, ruleAt, consumed}
 use Rattle.semantics.specs.State as semantics
-use Rattle.semantics.specs.Move.{react, commit, abort, both, isZero, picksUsed, headOk, moveOk, moveOf, reacted, allowed, applied, moveVerdict}
-use Rattle.semantics.specs.Answers.{tableVerdict}
+use Rattle.semantics.specs.Move.{Move, react, commit, abort, unless, both, isZero, picksUsed, headOk, moveOk, moveOf, reacted, isOpen, mayCommit, mayAbort, ended, allowed, applied, moveVerdict}
+use Rattle.semantics.specs.declared.Refusal.the-variants.{NoTransaction, EndNotAllowed}
 use Rattle.semantics.specs.declared.Sizes.{Sizes}
 use Rattle.semantics.specs.declared.Verdict.{Verdict}
 use Rattle.semantics.specs.declared.Verdict.the-variants.{Allowed, Denied}
@@ -22,11 +22,8 @@ use Rattle.wellformed.specs.Verdicts.{length-rules}
 use Rattle.wellformed.specs.Length.{length-commit, length-abort}
 use Rattle.table.specs.declared.decode.Rule.{Rule}
 use Rattle.table.specs.Decode.{Decodes}
-use Rattle.state.specs.declared.State.{State}
-use Rattle.state.specs.Working.{stateIn}
 use Rattle.step.specs.Working.{ruleIn, rule-in, reactVerdict, react-verdict-is}
-use Rattle.step.specs.End.{commitVerdict, abortVerdict}
-use Rattle.step.specs.Narrow.{Ready, rule-ready}
+use Rattle.step.specs.End.{endVerdict}
 
 -- x is the rule of a reaction's head; an end has none
 abbrev pub RuleFor : Rule → Table → ℕ → Type 0
@@ -36,12 +33,6 @@ RuleFor x t head = headKind head ≡ 0 → Decodes x (ruleAt t (headNumber head)
 pub record IsMove (t : Table) (x : Rule) (head : ℕ) (picks : List ℕ) : Type 0 where
   pub form : moveOk t (head ∷ picks) ≡ true
   pub rule : RuleFor x t head
-
--- what `applied` asks: a reaction's rule is ready and the reaction allowed; an end asks nothing
-pub record Applicable (s : State) (x : Rule) (head : ℕ) (picks : List ℕ) (maker : ℕ) : Type 0 where
-  pub fits : s .len ≤ 1024
-  pub ready : headKind head ≡ 0 → Ready x (s .next) maker
-  pub permitted : headKind head ≡ 0 → reactVerdict 1024 (ruleIn x) (stateIn s) (take (x .consumes) picks) ≡ Allowed
 
 -- ---- form
 
@@ -93,14 +84,20 @@ module _ {t : Table} {x : Rule} {head : ℕ} {picks : List ℕ} (m : IsMove t x 
   unfolding moveOf
   move-react k = rw (eq-eqb (headKind head) 0 k, m .rule k .consumes)
 
+-- an end: kind 1 is a commit
+abbrev endMove : ℕ → ℕ → Move
+endMove kind b = cond (eqb kind 1) (commit b) (abort b)
+
 module _ (t : Table) (head : ℕ) (picks : List ℕ) (k : headKind head ≡ 0 → ⊥) where
-  pub move-commit : headKind head ≡ 1 → moveOf t (head ∷ picks) ≡ commit (headNumber head)
+  move-end : moveOf t (head ∷ picks) ≡ endMove (headKind head) (headNumber head)
   unfolding moveOf
-  move-commit e = rw (ne-eqb (headKind head) 0 k, eq-eqb (headKind head) 1 e)
+  move-end = rw (ne-eqb (headKind head) 0 k)
+
+  pub move-commit : headKind head ≡ 1 → moveOf t (head ∷ picks) ≡ commit (headNumber head)
+  move-commit e = move-end ∙ rw (eq-eqb (headKind head) 1 e)
 
   pub move-abort : (headKind head ≡ 1 → ⊥) → moveOf t (head ∷ picks) ≡ abort (headNumber head)
-  unfolding moveOf
-  move-abort e = rw (ne-eqb (headKind head) 0 k, ne-eqb (headKind head) 1 e)
+  move-abort e = move-end ∙ rw (ne-eqb (headKind head) 1 e)
 
 -- ---- the verdict
 
@@ -109,41 +106,42 @@ both-end Allowed = refl
 both-end (Denied r) = refl
 
 -- an end adds no entries
-module _ (ceiling : ℕ) (t : Table) (s : semantics.State) (head : ℕ) (picks : List ℕ) (room : length (s .entries) ≤ ceiling) (k : headKind head ≡ 0 → ⊥) where
-  pub verdict-commit : headKind head ≡ 1 → commitVerdict (t .sizes .globals) (headNumber head) s ≡ moveVerdict ceiling t s (moveOf t (head ∷ picks))
-  unfolding moveVerdict allowed commitVerdict
-  verdict-commit e =
-      let m = commit (headNumber head) in
-      let few : length (applied t 0 s m .entries) ≤ ceiling = omega (arith, length-commit t 0 s (headNumber head)) in
-      rw (move-commit t head picks k e, le-leb _ _ few) (sym (both-end (allowed t s m)))
+module _ (ceiling : ℕ) (t : Table) (s : semantics.State) (room : length (s .entries) ≤ ceiling) where
+  end-verdict : (b : ℕ) (c : Bool)
+      → both (unless (isOpen b s) NoTransaction) (unless (cond c (mayCommit t b s) (mayAbort b s)) EndNotAllowed) ≡ moveVerdict ceiling t s (cond c (commit b) (abort b))
+  unfolding moveVerdict allowed
+  end-verdict b true =
+      let few : length (applied t 0 s (commit b) .entries) ≤ ceiling = omega (arith, length-commit t 0 s b) in
+      rw (le-leb _ _ few) (sym (both-end (allowed t s (commit b))))
+  end-verdict b false =
+      let few : length (applied t 0 s (abort b) .entries) ≤ ceiling = omega (arith, length-abort t 0 s b) in
+      rw (le-leb _ _ few) (sym (both-end (allowed t s (abort b))))
 
-  pub verdict-abort : (headKind head ≡ 1 → ⊥) → abortVerdict (headNumber head) s ≡ moveVerdict ceiling t s (moveOf t (head ∷ picks))
-  unfolding moveVerdict allowed abortVerdict
-  verdict-abort e =
-      let m = abort (headNumber head) in
-      let few : length (applied t 0 s m .entries) ≤ ceiling = omega (arith, length-abort t 0 s (headNumber head)) in
-      rw (move-abort t head picks k e, le-leb _ _ few) (sym (both-end (allowed t s m)))
+  pub verdict-end : (head : ℕ) (picks : List ℕ) → (headKind head ≡ 0 → ⊥)
+      → endVerdict (headKind head) (t .sizes .globals) (headNumber head) s ≡ moveVerdict ceiling t s (moveOf t (head ∷ picks))
+  unfolding endVerdict
+  verdict-end head picks k = rw (move-end t head picks k) (end-verdict (headNumber head) (eqb (headKind head) 1))
 
 pub verdict-react : (ceiling : ℕ) {t : Table} {x : Rule} {head : ℕ} {picks : List ℕ} (m : IsMove t x head picks) (s : semantics.State) → headKind head ≡ 0
     → reactVerdict ceiling (ruleIn x) s (take (x .consumes) picks) ≡ moveVerdict ceiling t s (moveOf t (head ∷ picks))
 verdict-react ceiling {t} {x} {head} {picks} m s k =
     rw (move-react m k, rule-in x (ruleAt t (headNumber head)) (m .rule k)) (sym (react-verdict-is ceiling t s (headNumber head) (take (x .consumes) picks)))
 
--- ---- what a reaction leaves
+-- ---- what a move leaves
 
 pub applied-react : {t : Table} {x : Rule} {head : ℕ} {picks : List ℕ} (m : IsMove t x head picks) (i : ℕ) (s : semantics.State) → headKind head ≡ 0
     → applied t i s (moveOf t (head ∷ picks)) ≡ reacted (ruleIn x) i s (take (x .consumes) picks)
 unfolding applied
 applied-react {t} {x} {head} {picks} m i s k = rw (move-react m k, rule-in x (ruleAt t (headNumber head)) (m .rule k))
 
--- ---- from an accepted table and an allowed move to what `applied` asks
-pub applicable : (t : List ℕ) → tableVerdict t ≡ Allowed → (s : State) (x : Rule) (head : ℕ) (picks : List ℕ) (maker : ℕ)
-    → IsMove (tableOf t) x head picks → s .len ≤ 1024 → s .next ≤ 65536 → maker ≤ 1024
-    → moveVerdict 1024 (tableOf t) (stateIn s) (moveOf (tableOf t) (head ∷ picks)) ≡ Allowed → Applicable s x head picks maker
-applicable t v s x head picks maker m fits next makers ok =
-    let below = head-below t head (form-head (tableOf t) head picks (m .form)) in
-    record {
-      fits = fits;
-      ready = λ k. rule-ready t v (headNumber head) (below k) x (m .rule k) (s .next) maker next makers;
-      permitted = λ k. verdict-react 1024 m (stateIn s) k ∙ ok;
-    }
+-- a commit frees the messages (kind 0), an abort (kind 2) the compensations (kind 1)
+pub applied-end : (t : Table) (head : ℕ) (picks : List ℕ) (i : ℕ) (s : semantics.State) → (headKind head ≡ 0 → ⊥) → headKind head ≤ 2
+    → applied t i s (moveOf t (head ∷ picks)) ≡ ended (λ e. eqb (e .kind) (headKind head - 1)) (headNumber head) s
+unfolding applied
+applied-end t head picks i s k l =
+    by-bool (eqb (headKind head) 1)
+    (λ e. let one = eqb-true (headKind head) 1 e in rw (move-commit t head picks k one, one))
+    (λ e.
+    let ne = eqb-false (headKind head) 1 e in
+    let two : headKind head ≡ 2 = omega arith in
+    rw (move-abort t head picks k ne, two))

@@ -7,9 +7,9 @@ use lib.ListN.{getD}
 use Rattle.lists.specs.Members.{Among}
 use Rattle.lists.specs.Padded.{padded}
 
--- one owner by itself; home is the smallest of the owners found
+-- one owner by itself; all must be the same as one of them in a local rule
 abbrev pub ownerFits : ℕ → ℕ → ℕ → Bool
-ownerFits class home o = cond (eqb class 0) (eqb o 0) (cond (eqb class 1) (ltb 0 o && eqb o home) (ltb 0 o))
+ownerFits class one o = cond (eqb class 0) (eqb o 0) (cond (eqb class 1) (ltb 0 o && eqb o one) (ltb 0 o))
 
 -- the picks are among the first n places
 abbrev pub Places : ℕ → List ℕ → Type 0

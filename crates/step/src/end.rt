@@ -4,15 +4,31 @@ ghost use mathlib.Core.Path.{_≡_};
 ghost use mathlib.Core.Bool.{not, cond, _||_};
 ghost use mathlib.Core.List.{List};
 ghost use lib.Dec.{eqb};
+ghost use lib.ListN.{length};
 ghost use Rattle.lists.specs.Lists.{oneIf};
 ghost use Rattle.semantics.specs.Words.{itemKind};
 ghost use Rattle.semantics.specs.Move.{ended};
-ghost use Rattle.state.specs.Working.{Holds, stateIn};
+ghost use Rattle.state.specs.Working.{held, stateIn};
+ghost use Rattle.state.specs.Arrays.{Arrays, HoldsIn};
 ghost use Rattle.step.specs.Working.{stateFrom, Columns};
-ghost use Rattle.step.specs.End.{Surveyed, commitVerdict, abortVerdict};
+ghost use Rattle.step.specs.End.{NoneBefore, Surveyed, endVerdict};
 use semantics::Refusal;
 use semantics::Verdict;
-use state::State;
+
+// The place of the transaction's first entry, n where it has none: what is before it matters to no end.
+pub fn first_owned(owners: &[u32; 1024], n: usize, id: u32) -> usize
+    requires { ⌜ (n ≤ 1024) × (length (now owners) ≡ 1024) ⌝ }
+    ensures { λ r. ⌜ NoneBefore (now (owners .entry)) id n r ⌝ }
+{
+    let mut i = 0;
+    while i < n {
+        if owners[i] == id {
+            return i;
+        }
+        i += 1;
+    }
+    n
+}
 
 // What a transaction owns: anything, an abort mark (stop mark), a message that is on no global port.
 pub struct Survey {
@@ -24,17 +40,18 @@ pub struct Survey {
 fn surveyed<'a>(
     owners: &'a [u32; 1024],
     items: &'a [u32; 1024],
+    from: usize,
     n: usize,
     id: u32,
     globals: u32,
 ) -> Survey
-    requires { ⌜ Columns (now owners) (now items) n ⌝ }
+    requires { ⌜ Columns (now owners) (now items) n × NoneBefore (now owners) id n from ⌝ }
     ensures { λ r. ⌜ ((gs : List ℕ) (next : ℕ) → Surveyed r (stateFrom (now (owners .entry)) (now (items .entry)) gs n next) id globals) ⌝ }
 {
     let mut open = false;
     let mut aborting = false;
     let mut inside = false;
-    let mut i = 0;
+    let mut i = from;
     while i < n {
         let owned = owners[i] == id;
         let item = items[i];
@@ -52,40 +69,35 @@ fn surveyed<'a>(
     }
 }
 
-pub fn commit_verdict<'a>(
+// An abort mark, or a message inside, stops a commit (kind 1); an abort needs an abort mark.
+fn may_end(kind: u32, aborting: bool, inside: bool) -> bool
+    ensures { λ r. ⌜ r ≡ cond (eqb kind 1) (not (aborting || inside)) aborting ⌝ }
+{
+    if kind == 1 {
+        !(aborting | inside)
+    } else {
+        aborting
+    }
+}
+
+// 9, 10.
+pub fn end_verdict<'a>(
     owners: &'a [u32; 1024],
     items: &'a [u32; 1024],
+    from: usize,
     n: usize,
+    kind: u32,
     id: u32,
     globals: u32,
 ) -> Verdict
-    requires { ⌜ Columns (now owners) (now items) n ⌝ }
-    ensures { λ r. ⌜ ((gs : List ℕ) (next : ℕ) → r ≡ commitVerdict globals id (stateFrom (now (owners .entry)) (now (items .entry)) gs n next)) ⌝ }
+    requires { ⌜ Columns (now owners) (now items) n × NoneBefore (now owners) id n from ⌝ }
+    ensures { λ r. ⌜ ((gs : List ℕ) (next : ℕ) → r ≡ endVerdict kind globals id (stateFrom (now (owners .entry)) (now (items .entry)) gs n next)) ⌝ }
 {
-    let found = surveyed(owners, items, n, id, globals);
+    let found = surveyed(owners, items, from, n, id, globals);
     if !((0 < id) & found.open) {
         return Verdict::Denied(Refusal::NoTransaction);
     }
-    if found.aborting | found.inside {
-        return Verdict::Denied(Refusal::EndNotAllowed);
-    }
-    Verdict::Allowed
-}
-
-pub fn abort_verdict<'a>(
-    owners: &'a [u32; 1024],
-    items: &'a [u32; 1024],
-    n: usize,
-    id: u32,
-) -> Verdict
-    requires { ⌜ Columns (now owners) (now items) n ⌝ }
-    ensures { λ r. ⌜ ((gs : List ℕ) (next : ℕ) → r ≡ abortVerdict id (stateFrom (now (owners .entry)) (now (items .entry)) gs n next)) ⌝ }
-{
-    let found = surveyed(owners, items, n, id, 0);
-    if !((0 < id) & found.open) {
-        return Verdict::Denied(Refusal::NoTransaction);
-    }
-    if !found.aborting {
+    if !may_end(kind, found.aborting, found.inside) {
         return Verdict::Denied(Refusal::EndNotAllowed);
     }
     Verdict::Allowed
@@ -117,23 +129,29 @@ fn stays(owner: u32, item: u32, id: u32, kind: u32) -> usize
 }
 
 // The transaction's entries of this kind become the global owner's in their places; its others go.
-pub fn end_transaction(mut s: State, id: u32, kind: u32) -> State
-    requires { ⌜ s .len ≤ 1024 ⌝ }
-    ensures { λ r. ⌜ Holds r (ended (λ e. eqb (e .kind) kind) id (stateIn s)) ⌝ }
+pub fn end_transaction(
+    owners: &mut [u32; 1024],
+    items: &mut [u32; 1024],
+    origins: &mut [u32; 1024],
+    from: usize,
+    n: usize,
+    id: u32,
+    kind: u32,
+) -> usize
+    requires { ⌜ Arrays (now owners) (now items) (now origins) × (n ≤ 1024) × NoneBefore (now owners) id n from ⌝ }
+    ensures { λ r. ⌜ ((next : ℕ) → HoldsIn (held (now (owners .exit)) (now (items .exit)) (now (origins .exit)) r next) (ended (λ e. eqb (e .kind) kind) id (stateIn (held (now (owners .entry)) (now (items .entry)) (now (origins .entry)) n next)))) ⌝ }
 {
-    let n = s.len;
-    let mut i = 0;
-    let mut w = 0;
+    let mut i = from;
+    let mut w = from;
     while i < n {
-        let owner = s.owners[i];
-        let item = s.items[i];
-        let origin = s.origins[i];
-        s.owners[w] = owner_after(owner, id);
-        s.items[w] = item_after(owner, item, id);
-        s.origins[w] = origin;
+        let owner = owners[i];
+        let item = items[i];
+        let origin = origins[i];
+        owners[w] = owner_after(owner, id);
+        items[w] = item_after(owner, item, id);
+        origins[w] = origin;
         w += stays(owner, item, id, kind);
         i += 1;
     }
-    s.len = w;
-    s
+    w
 }

@@ -1,10 +1,10 @@
 // When a reaction is allowed. What it leaves is in `products`.
-ghost use Prim.Native.Nat.{ℕ, _≤_};
+ghost use Prim.Native.Nat.{ℕ, _≤_, _<_};
 ghost use mathlib.Core.Path.{_≡_};
-ghost use mathlib.Core.Bool.{_&&_};
+ghost use mathlib.Core.Bool.{true, _&&_, cond};
 ghost use mathlib.Core.List.{List, map};
 ghost use lib.Dec.{eqb};
-ghost use lib.ListN.{length, take};
+ghost use lib.ListN.{length, getD, take};
 ghost use Rattle.lists.specs.Rows.{rows};
 ghost use Rattle.semantics.specs.State.{isMessage};
 ghost use Rattle.semantics.specs.Table.{consumed};
@@ -12,9 +12,8 @@ ghost use Rattle.semantics.specs.Move.{entryAt, onPorts, ownersFit};
 ghost use Rattle.table.specs.Decode.{Decodes};
 ghost use Rattle.state.specs.Working.{rowOf};
 ghost use Rattle.step.specs.Working.{ruleIn, stateFrom, Columns, reactVerdict};
-ghost use Rattle.step.specs.React.{ownerFits, Places, fourAt};
+ghost use Rattle.step.specs.React.{ownerFits, Places, column, fourAt};
 use crate::few::all_differ;
-use crate::few::smallest;
 use semantics::Refusal;
 use semantics::Verdict;
 use state::item::MESSAGE;
@@ -23,7 +22,7 @@ use state::item::port_of;
 use table::decode::Rule;
 
 // Whether a message on this port stands at place p.
-fn message_on(items: &[u32; 1024], n: usize, p: usize, port: u32) -> bool
+fn message_on(items: &[u32; 1024], n: usize, p: usize, port: u16) -> bool
     requires { ⌜ (n ≤ 1024) × (length (now items) ≡ 1024) ⌝ }
     ensures { λ r. ⌜ ((os gs : List ℕ) → r ≡ isMessage (entryAt (rows (rowOf os (now (items .entry)) gs) 0 n) p) && eqb (entryAt (rows (rowOf os (now (items .entry)) gs) 0 n) p .port) port) ⌝ }
 {
@@ -31,20 +30,29 @@ fn message_on(items: &[u32; 1024], n: usize, p: usize, port: u32) -> bool
         return false;
     }
     let item = items[p];
-    (kind_of(item) == MESSAGE) & (port_of(item) == port)
+    (kind_of(item) == MESSAGE) & (port_of(item) == port as u32)
 }
 
-// Whether the picks are messages on the ports of the consumes (takes).
-fn on_ports(items: &[u32; 1024], n: usize, rule: Rule, picks: [u32; 4]) -> bool
-    requires { ⌜ (n ≤ 1024) × (length (now items) ≡ 1024) × Decodes rule (ruleIn rule) ⌝ }
-    ensures { λ r. ⌜ ((os gs : List ℕ) → r ≡ onPorts (consumed (ruleIn rule)) (map (entryAt (rows (rowOf os (now (items .entry)) gs) 0 n)) (take (rule .consumes) picks))) ⌝ }
+// The ports of the consumes (takes), which come first. By constant places, so that the atoms are not copied.
+fn consume_ports(rule: Rule) -> [u16; 4]
+    requires { ⌜ Decodes rule (ruleIn rule) ⌝ }
+    ensures { λ r. ⌜ (take (rule .consumes) r ≡ consumed (ruleIn rule)) × (length r ≡ 4) ⌝ }
 {
-    let k = rule.consumes;
-    let atoms = rule.atoms;
+    let a = rule.atoms[0];
+    let b = rule.atoms[1];
+    let c = rule.atoms[2];
+    let d = rule.atoms[3];
+    [a.port, b.port, c.port, d.port]
+}
+
+// Whether the first k picks are messages on these ports.
+fn on_ports(items: &[u32; 1024], n: usize, ports: [u16; 4], picks: [u32; 4], k: usize) -> bool
+    requires { ⌜ (n ≤ 1024) × (length (now items) ≡ 1024) × (k ≤ 4) ⌝ }
+    ensures { λ r. ⌜ ((os gs : List ℕ) → r ≡ onPorts (take k ports) (map (entryAt (rows (rowOf os (now (items .entry)) gs) 0 n)) (take k picks))) ⌝ }
+{
     let mut i = 0;
     while i < k {
-        let atom = atoms[i];
-        if !message_on(items, n, picks[i] as usize, atom.port) {
+        if !message_on(items, n, picks[i] as usize, ports[i]) {
             return false;
         }
         i += 1;
@@ -52,41 +60,47 @@ fn on_ports(items: &[u32; 1024], n: usize, rule: Rule, picks: [u32; 4]) -> bool
     true
 }
 
-// A column at the first k picks, and 0 after them.
+fn at_pick(column: &[u32; 1024], pick: u32, used: bool) -> u32
+    requires { ⌜ (length (now column) ≡ 1024) × (used ≡ true → pick < 1024) ⌝ }
+    ensures { λ r. ⌜ r ≡ cond used (getD (now (column .entry)) pick 0) 0 ⌝ }
+{
+    if used { column[pick as usize] } else { 0 }
+}
+
+// A column at the first k picks, and 0 after them. One by one, so that no array is filled in a loop.
 pub fn at_picks(column: &[u32; 1024], picks: [u32; 4], k: usize) -> [u32; 4]
     requires { ⌜ (k ≤ 4) × (length (now column) ≡ 1024) × Places 1024 (take k picks) ⌝ }
     ensures { λ r. ⌜ r ≡ fourAt (now (column .entry)) (take k picks) ⌝ }
 {
-    let mut found = [0u32; 4];
-    let mut i = 0;
-    while i < k {
-        found[i] = column[picks[i] as usize];
-        i += 1;
-    }
-    found
+    let a = at_pick(column, picks[0], 0 < k);
+    let b = at_pick(column, picks[1], 1 < k);
+    let c = at_pick(column, picks[2], 2 < k);
+    let d = at_pick(column, picks[3], 3 < k);
+    [a, b, c, d]
 }
 
-// The owner that a rule of this class wants; home is the smallest of the owners found.
-fn owner_fits(class: u32, owner: u32, home: u32) -> bool
-    ensures { λ r. ⌜ r ≡ ownerFits class home owner ⌝ }
+// The owner that a rule of this class wants; one stands for all where they must be the same.
+fn owner_fits(class: u32, owner: u32, one: u32) -> bool
+    ensures { λ r. ⌜ r ≡ ownerFits class one owner ⌝ }
 {
     if class == 0 {
         return owner == 0;
     }
     if class == 1 {
-        return (0 < owner) & (owner == home);
+        return (0 < owner) & (owner == one);
     }
     0 < owner
 }
 
-fn owners_fit(class: u32, owners: [u32; 4], k: usize) -> bool
-    requires { ⌜ (1 ≤ k) × (k ≤ 4) ⌝ }
-    ensures { λ r. ⌜ r ≡ ownersFit class (take k owners) ⌝ }
+// Whether a rule of this class may consume at the picks, by the owners there.
+fn owners_fit(class: u32, owners: &[u32; 1024], picks: [u32; 4], k: usize) -> bool
+    requires { ⌜ (1 ≤ k) × (k ≤ 4) × (length (now owners) ≡ 1024) × Places 1024 (take k picks) ⌝ }
+    ensures { λ r. ⌜ r ≡ ownersFit class (column (now (owners .entry)) (take k picks)) ⌝ }
 {
-    let home = smallest(owners, k);
+    let one = owners[picks[0] as usize];
     let mut i = 0;
     while i < k {
-        if !owner_fits(class, owners[i], home) {
+        if !owner_fits(class, owners[picks[i] as usize], one) {
             return false;
         }
         i += 1;
@@ -108,10 +122,10 @@ pub fn react_verdict<'a>(
     ensures { λ r. ⌜ ((gs : List ℕ) → r ≡ reactVerdict ceiling (ruleIn rule) (stateFrom (now (owners .entry)) (now (items .entry)) gs n next) (take (rule .consumes) picks)) ⌝ }
 {
     let k = rule.consumes;
-    if !(all_differ(picks, k) & on_ports(items, n, rule, picks)) {
+    if !(all_differ(picks, k) & on_ports(items, n, consume_ports(rule), picks, k)) {
         return Verdict::Denied(Refusal::WrongPick);
     }
-    if !owners_fit(rule.class, at_picks(owners, picks, k), k) {
+    if !owners_fit(rule.class, owners, picks, k) {
         return Verdict::Denied(Refusal::WrongOwner);
     }
     if rule.begins & (65536 <= next) {

@@ -1,41 +1,43 @@
 -- A rule decoded from its words, and the words of a rule of a well-formed table.
 use Prim.Native.Nat.{ℕ, _<_, _≤_}
+use mathlib.Core.Bool.{Bool}
 use mathlib.Core.List.{List, map}
 use mathlib.Core.Path.{_≡_, refl, sym, ap, _∙_}
-use lib.Dec.{leb}
-use lib.ListN.{length, take}
-use Rattle.lists.specs.Lists.{count}
-use Rattle.semantics.specs.Table.{sizesOf, numbersOf, atomWordsOf, ruleWords, shapeOf, atomOf, ruleOf, tableOf, ruleAt, isRole, consumed}
-use Rattle.semantics.specs.TableLaws.{WellFormed, well-formed, numbers-length, words-length, numbers-rise, RuleFits, rule-fits, rule-at, rule-begins, consumed-length, rule-legal}
+use native.Mathlib.Omega.{arith}
+use lib.ListN.{length, getD, take}
+use Rattle.lists.specs.Lists.{any, count}
+use Rattle.lists.specs.Runs.{RunEnd, keys-count}
+use Rattle.semantics.specs.Words.{atomRole, portOf}
+use Rattle.semantics.specs.Table.{sizesOf, numbersOf, atomWordsOf, ruleWords, classOf, atomOf, ruleOf, tableOf, ruleAt, isRole, consumed}
+use Rattle.semantics.specs.TableLaws.{WellFormed, well-formed, numbers-length, words-length, numbers-rise, RuleFits, rule-fits, rule-at, rule-has, consumed-length, rule-legal}
 use Rattle.semantics.specs.Answers.{tableVerdict}
 use Rattle.semantics.specs.declared.Atom.{Atom}
-use Rattle.semantics.specs.declared.Shape.{Shape}
 use Rattle.semantics.specs.declared.Sizes.{Sizes}
 use Rattle.semantics.specs.declared.Verdict.the-variants.{Allowed}
 use Rattle.table.specs.Index.{Starts, Cut, cut, starts-within, starts-cut}
 use Rattle.table.specs.Decode.{Decodes}
 
-pub decodes :
-    (z : Sizes) (ws : List ℕ) (s : Shape) (atoms : List Atom)
-    → RuleFits z ws
-    → s ≡ shapeOf z ws
-    → length atoms ≡ 16
-    → take (length ws) atoms ≡ map atomOf ws
-    → Decodes
-    (record { atoms = atoms; count = length ws; consumes = s .consumes; class = s .class; begins = leb 1 (s .begins) })
-    (ruleOf z ws)
-unfolding ruleOf
-decodes z ws s atoms f e room same =
-    rw e
-    (record {
-      room = room;
-      few = f .few;
-      atoms = same;
-      class = refl;
-      begins = sym (rule-begins z ws);
-      consumes = sym (consumed-length z ws);
-      legal = rule-legal z ws f;
-    })
+module _ (z : Sizes) (ws : List ℕ) (f : RuleFits z ws) {k : ℕ} (r : RunEnd (isRole 0) ws 0 k) where
+  pub consumes-first : count (isRole 0) ws ≡ k
+  consumes-first = omega (arith, keys-count atomRole 0 r (f .rises))
+
+  pub decodes :
+      {b : Bool} {class : ℕ} {atoms : List Atom}
+      → b ≡ any (isRole 2) ws
+      → class ≡ classOf z (portOf (getD ws 0 0))
+      → length atoms ≡ 16
+      → take (length ws) atoms ≡ map atomOf ws
+      → Decodes (record { atoms = atoms; count = length ws; consumes = k; class = class; begins = b }) (ruleOf z ws)
+  unfolding ruleOf
+  decodes eb ec room same = record {
+    room = room;
+    few = f .few;
+    atoms = same;
+    class = ec;
+    begins = eb ∙ sym (rule-has z ws 2);
+    consumes = sym (consumed-length z ws ∙ consumes-first);
+    legal = rw consumes-first at (rule-legal z ws f);
+  }
 
 module _ (t starts : List ℕ) (r : ℕ) (v : tableVerdict t ≡ Allowed) (l : r < sizesOf t .rules) (s : Starts (numbersOf t) (sizesOf t .rules) starts) where
   good : WellFormed t
@@ -58,5 +60,7 @@ module _ (t starts : List ℕ) (r : ℕ) (v : tableVerdict t ≡ Allowed) (l : r
       pub cut-rule : ruleOf z xs ≡ ruleAt (tableOf t) r
       cut-rule = rw (ez, rule-cut ex) (sym (rule-at t r l))
 
-    pub cut-consumes : {xs : List ℕ} → xs ≡ cut starts r ws → (count (isRole 0) xs ≡ length (consumed (ruleAt (tableOf t) r))) × (count (isRole 0) xs ≤ 4)
-    cut-consumes {xs} e = (sym (consumed-length (sizesOf t) xs) ∙ ap (λ x. length (consumed x)) (cut-rule refl e), cut-fits refl e .most)
+    pub cut-consumes : {xs : List ℕ} {k : ℕ} → xs ≡ cut starts r ws → RunEnd (isRole 0) xs 0 k → (k ≡ length (consumed (ruleAt (tableOf t) r))) × (k ≤ 4)
+    cut-consumes {xs} e end =
+        rw (← consumes-first (sizesOf t) xs (cut-fits refl e) end)
+        (sym (consumed-length (sizesOf t) xs) ∙ ap (λ x. length (consumed x)) (cut-rule refl e), cut-fits refl e .most)

@@ -1,17 +1,15 @@
 -- The rules of a well-formed table, tried one by one: whether one begins a transaction and emits.
 use Prim.Native.Nat.{ℕ, _+_, _≤_, _<_}
 use mathlib.Core.Bool.{Bool, true, false, _&&_}
-use mathlib.Core.List.{List, map}
+use mathlib.Core.List.{List}
 use mathlib.Core.Path.{_≡_, refl, sym, ap, _∙_}
 use native.Mathlib.Omega.{arith}
-use lib.Dec.{leb}
 use lib.ListN.{length, drop}
-use Rattle.lists.specs.Lists.{any, count}
+use Rattle.lists.specs.Lists.{any}
 use Rattle.lists.specs.Tests.{or-true, or-false}
-use Rattle.lists.specs.Counting.{count-map, any-count}
 use Rattle.lists.specs.Ahead.{Tails, slice-tails, Ahead, ahead-start, ahead-here, ahead-next, ahead-done}
-use Rattle.semantics.specs.Table.{sizesOf, numbersOf, atomWordsOf, atomOf, isRole, hasRole, begins, emits, Rule, ruleOf, tableOf, ruleAt, noRule}
-use Rattle.semantics.specs.TableLaws.{rule-begins, table-rules}
+use Rattle.semantics.specs.Table.{sizesOf, numbersOf, atomWordsOf, isRole, begins, emits, Rule, ruleOf, tableOf, ruleAt, noRule}
+use Rattle.semantics.specs.TableLaws.{rule-has, table-rules}
 use Rattle.semantics.specs.Serial.{beginsEmit}
 use Rattle.semantics.specs.Answers.{tableVerdict}
 use Rattle.semantics.specs.declared.Sizes.{Sizes}
@@ -23,13 +21,8 @@ use Rattle.table.proofs.Decoding.{rule-within, cut-rule}
 abbrev pub both : Rule → Bool
 both x = begins x && emits x
 
-module _ (z : Sizes) (ws : List ℕ) where
-  rule-emits : emits (ruleOf z ws) ≡ leb 1 (count (isRole 1) ws)
-  unfolding ruleOf
-  rule-emits = any-count (hasRole 1) (map atomOf ws) ∙ ap (leb 1) (count-map atomOf (hasRole 1) ws)
-
-  pub both-counts : leb 1 (count (isRole 2) ws) && leb 1 (count (isRole 1) ws) ≡ both (ruleOf z ws)
-  both-counts = rw (rule-begins z ws, rule-emits)
+pub both-roles : (z : Sizes) (ws : List ℕ) → any (isRole 2) ws && any (isRole 1) ws ≡ both (ruleOf z ws)
+both-roles z ws = rw (rule-has z ws 2, rule-has z ws 1)
 
 -- r rules are tried
 pub record Trying (t starts : List ℕ) (rules : ℕ) (words : List ℕ) (r : ℕ) : Type 0 where

@@ -132,9 +132,9 @@ pub record Marked (numbers : List ℕ) (i seen : ℕ) (starts : List ℕ) : Type
   pub under : all (λ n. ltb n seen) (take i numbers) ≡ true
   pub each : (r : ℕ) → r ≤ seen → getD starts r 0 ≡ count (λ n. ltb n r) (take i numbers)
 
-pub marked-start : (numbers : List ℕ) → Marked numbers 0 0 (replicate 65 0)
-marked-start numbers =
-    record { room = refl; under = refl; each = λ r l. getD-replicate 65 r 0 0 (omega arith) }
+pub marked-start : (numbers : List ℕ) {starts : List ℕ} → starts ≡ replicate 65 0 → Marked numbers 0 0 starts
+marked-start numbers e =
+    rw e (record { room = refl; under = refl; each = λ r l. getD-replicate 65 r 0 0 (omega arith) })
 
 module _ (numbers : List ℕ) (i seen : ℕ) (starts : List ℕ) (was : Marked numbers i seen starts) where
   module _ (n : ℕ) (here : n ≡ getD numbers i 0) (l : i < length numbers) (rules : ℕ) (few : rules ≤ 64) (f : Follows rules seen n) where

@@ -10,17 +10,16 @@ use Rattle.lists.specs.Lists.{count, risesFrom}
 use Rattle.lists.specs.Counting.{count-le}
 use Rattle.lists.specs.Rising.{starts-rise, beside-part}
 use Rattle.semantics.specs.Table.{ruleWords}
-use Rattle.table.specs.declared.index.Index.{Index}
 
 -- Rule r begins after the atoms of smaller numbers; the place after the last rule is there too.
 pub record Starts (numbers : List ℕ) (rules : ℕ) (starts : List ℕ) : Type 0 where
   pub room : length starts ≡ 65
   pub each : (r : ℕ) → r ≤ rules → getD starts r 0 ≡ count (λ n. ltb n r) numbers
 
--- an index that is ok where the test holds, and then is right
-pub record Indexed (test : Bool) (numbers : List ℕ) (rules : ℕ) (x : Index) : Type 0 where
-  pub ok : x .ok ≡ test
-  pub starts : test ≡ true → Starts numbers rules (x .starts)
+-- an answer that says whether the test holds, with an index that is right where it does
+pub record Indexed (test : Bool) (numbers : List ℕ) (rules : ℕ) (ok : Bool) (starts : List ℕ) : Type 0 where
+  pub answer : ok ≡ test
+  pub right : test ≡ true → Starts numbers rules starts
 
 -- the words of rule r
 abbrev pub cut : List ℕ → ℕ → List ℕ → List ℕ

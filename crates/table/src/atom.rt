@@ -1,6 +1,9 @@
 // The conditions of a single atom, which is a word.
+ghost use Prim.Native.Nat.{_≤_};
 ghost use mathlib.Core.Path.{_≡_};
-ghost use Rattle.semantics.specs.Table.{classOf, atomOk};
+ghost use Rattle.lists.specs.Runs.{inRun};
+ghost use Rattle.semantics.specs.Words.{atomRole};
+ghost use Rattle.semantics.specs.Table.{classOf, modeOk, atomOk};
 use semantics::Shape;
 use semantics::Sizes;
 
@@ -17,7 +20,19 @@ pub fn class_of(z: Sizes, port: u32) -> u32
     2
 }
 
-pub fn atom_ok(z: Sizes, s: Shape, w: u32) -> bool
+// A constant (mode 0), or the value that one of the rule's consumes (takes) received (mode 1): with
+// the mode in front of the value both are below one bound.
+fn value_ok(s: Shape, w: u32) -> bool
+    requires { ⌜ s .consumes ≤ 16 ⌝ }
+    ensures { λ r. ⌜ r ≡ modeOk s w ⌝ }
+{
+    let mode = w / 16777216 % 16;
+    let value = mode * 65536 + w % 65536;
+    (value as usize) < 65536 + s.consumes
+}
+
+fn atom_ok(z: Sizes, s: Shape, w: u32) -> bool
+    requires { ⌜ s .consumes ≤ 16 ⌝ }
     ensures { λ r. ⌜ r ≡ atomOk z s w ⌝ }
 {
     let role = w / 268435456;
@@ -26,10 +41,8 @@ pub fn atom_ok(z: Sizes, s: Shape, w: u32) -> bool
     let value = w % 65536;
     let globals = z.globals;
     let ports = z.globals as usize + z.locals as usize + z.merges as usize;
-    let consumes = s.consumes;
     let begins = s.begins;
     let class = s.class;
-    let mode_ok = (mode == 0) | (mode == 1) & ((value as usize) < consumes);
     let consume_ok = !(role == 0) | (mode == 0) & (value == 0) & (class_of(z, port) == class);
     let emit_ok = !((role == 1) & (class == 0)) | (port < globals);
     let mark_ok = !((role == 2) | (role == 5)) | (mode == 0) & (port == 0) & (value == 0);
@@ -37,7 +50,7 @@ pub fn atom_ok(z: Sizes, s: Shape, w: u32) -> bool
     let inner_ok = !(class != 0) | ((role == 0) | (role == 1) | (role == 5));
     let compensate_ok = !(role == 4) | (port < globals);
     (role <= 5)
-        & mode_ok
+        & value_ok(s, w)
         & ((port as usize) < ports)
         & consume_ok
         & emit_ok
@@ -45,4 +58,16 @@ pub fn atom_ok(z: Sizes, s: Shape, w: u32) -> bool
         & begin_ok
         & inner_ok
         & compensate_ok
+}
+
+// An atom of a role that is right. The role goes first: where it is given, the compiler leaves out
+// the conditions of the others.
+pub fn in_run(z: Sizes, s: Shape, role: u32, w: u32) -> bool
+    requires { ⌜ s .consumes ≤ 16 ⌝ }
+    ensures { λ r. ⌜ r ≡ inRun atomRole (atomOk z s) role w ⌝ }
+{
+    if w / 268435456 != role {
+        return false;
+    }
+    atom_ok(z, s, w)
 }

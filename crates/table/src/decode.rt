@@ -14,8 +14,9 @@ ghost use Rattle.table.specs.Decode.{Decodes};
 use crate::parts::atom_words_of;
 use crate::parts::rule_words;
 use crate::parts::sizes_of;
-use crate::rule::count_role;
-use crate::rule::shape_of;
+use crate::rule::consumes_of;
+use crate::rule::has_role;
+use crate::rule::rule_class;
 use semantics::Atom;
 use semantics::AtomValue;
 use semantics::Sizes;
@@ -33,7 +34,7 @@ fn value_of(w: u32) -> AtomValue
     ensures { λ r. ⌜ r ≡ atomValue (eqb (atomMode w) 1) (valueOf w) ⌝ }
 {
     if w / 16777216 % 16 == 1 {
-        AtomValue::Received((w % 65536) as usize)
+        AtomValue::Received((w % 65536) as u16)
     } else {
         AtomValue::Constant((w % 65536) as u16)
     }
@@ -44,8 +45,8 @@ pub fn atom_of(w: u32) -> Atom
 {
     let value = value_of(w);
     Atom {
-        role: w / 268435456,
-        port: w / 65536 % 256,
+        role: (w / 268435456) as u16,
+        port: (w / 65536 % 256) as u16,
         value: value,
     }
 }
@@ -68,12 +69,11 @@ fn rule_of(ws: &[u32], z: Sizes) -> Rule
     requires { ⌜ RuleFits z (now ws) ⌝ }
     ensures { λ x. ⌜ Decodes x (ruleOf z (now (ws .entry))) ⌝ }
 {
-    let s = shape_of(ws, z);
     let atoms = atoms_of(ws);
     let count = ws.len();
-    let consumes = s.consumes;
-    let class = s.class;
-    let begins = 1 <= s.begins;
+    let consumes = consumes_of(ws);
+    let class = rule_class(ws, z);
+    let begins = has_role(ws, 2);
     Rule {
         atoms,
         count,
@@ -96,5 +96,5 @@ pub fn consumes_at<'a>(table: &'a [u32], starts: &'a [u32; 65], r: u32) -> usize
     requires { ⌜ (tableVerdict (now table) ≡ Allowed) × (r < sizesOf (now table) .rules) × Starts (numbersOf (now table)) (sizesOf (now table) .rules) (now starts) ⌝ }
     ensures { λ n. ⌜ (n ≡ length (consumed (ruleAt (tableOf (now (table .entry))) r))) × (n ≤ 4) ⌝ }
 {
-    count_role(rule_words(atom_words_of(table), starts, r as usize), 0)
+    consumes_of(rule_words(atom_words_of(table), starts, r as usize))
 }

@@ -10,12 +10,12 @@ ghost use Rattle.table.specs.Index.{Starts};
 use crate::parts::atom_words_of;
 use crate::parts::rule_words;
 use crate::parts::sizes_of;
-use crate::rule::count_role;
+use crate::rule::has_role;
 
 fn rule_begins_emits(ws: &[u32]) -> bool
     ensures { λ r. ⌜ ((z : Sizes) → r ≡ (begins (ruleOf z (now (ws .entry))) && emits (ruleOf z (now (ws .entry))))) ⌝ }
 {
-    (1 <= count_role(ws, 2)) & (1 <= count_role(ws, 1))
+    has_role(ws, 2) & has_role(ws, 1)
 }
 
 pub fn begins_emit<'a>(table: &'a [u32], starts: &'a [u32; 65]) -> bool

@@ -1,13 +1,12 @@
 // The check of a whole table. The index that it makes on the way serves later calls.
 ghost use mathlib.Core.Path.{_≡_};
 ghost use Prim.Native.Nat.{ℕ, _<_};
-ghost use lib.ListN.{length};
+ghost use lib.ListN.{length, replicate};
 ghost use Rattle.lists.specs.Lists.{allBelow};
 ghost use Rattle.semantics.specs.Table.{sizesOf, numbersOf, tableSizesOk, tableContentsOk, ruleOk};
 ghost use Rattle.semantics.specs.TableLaws.{Sized};
 ghost use Rattle.table.specs.Index.{Cut, cut, Indexed};
 ghost use Rattle.table.specs.Check.{CheckedAs};
-use crate::index::Index;
 use crate::index::index_rules;
 use crate::parts::atom_words_of;
 use crate::parts::numbers_of;
@@ -52,40 +51,37 @@ fn rules_ok<'a>(words: &'a [u32], starts: &'a [u32; 65], z: Sizes) -> bool
     true
 }
 
-// The rule numbers, then the rules.
-fn contents(table: &[u32]) -> Index
-    requires { ⌜ Sized (now table) ⌝ }
-    ensures { λ x. ⌜ Indexed (tableContentsOk (now (table .entry))) (numbersOf (now (table .entry))) (sizesOf (now (table .entry)) .rules) x ⌝ }
+// The rule numbers, then the rules. Fills the index, which is right where the contents are.
+fn contents_ok(table: &[u32], starts: &mut [u32; 65]) -> bool
+    requires { ⌜ Sized (now table) × (now starts ≡ replicate 65 0) ⌝ }
+    ensures { λ b. ⌜ Indexed (tableContentsOk (now (table .entry))) (numbersOf (now (table .entry))) (sizesOf (now (table .entry)) .rules) b (now (starts .exit)) ⌝ }
 {
     let z = sizes_of(table);
-    let found = index_rules(numbers_of(table), z.rules);
-    let starts = found.starts;
-    if !found.ok {
-        return Index { ok: false, starts };
+    if !index_rules(numbers_of(table), z.rules, starts) {
+        return false;
     }
-    let ok = rules_ok(atom_words_of(table), &starts, z);
-    Index { ok, starts }
+    rules_ok(atom_words_of(table), starts, z)
 }
 
+// 1, 2.
+fn verdict_of(table: &[u32], starts: &mut [u32; 65]) -> Verdict
+    requires { ⌜ now starts ≡ replicate 65 0 ⌝ }
+    ensures { λ v. ⌜ CheckedAs (now (table .entry)) (record { verdict = v; starts = now (starts .exit) }) ⌝ }
+{
+    if !sizes_ok(table) {
+        return Verdict::Denied(Refusal::TableSizes);
+    }
+    if !contents_ok(table, starts) {
+        return Verdict::Denied(Refusal::TableContents);
+    }
+    Verdict::Allowed
+}
+
+// The index is filled in place, so that it is copied only once.
 pub fn check(table: &[u32]) -> Checked
     ensures { λ c. ⌜ CheckedAs (now (table .entry)) c ⌝ }
 {
-    if !sizes_ok(table) {
-        return Checked {
-            verdict: Verdict::Denied(Refusal::TableSizes),
-            starts: [0u32; 65],
-        };
-    }
-    let found = contents(table);
-    let starts = found.starts;
-    if found.ok {
-        return Checked {
-            verdict: Verdict::Allowed,
-            starts,
-        };
-    }
-    Checked {
-        verdict: Verdict::Denied(Refusal::TableContents),
-        starts,
-    }
+    let mut starts = [0u32; 65];
+    let verdict = verdict_of(table, &mut starts);
+    Checked { verdict, starts }
 }

@@ -97,7 +97,7 @@ pub next-stateOf : (S : List ℕ) → stateOf S .next ≡ nextOf S
 unfolding stateOf
 next-stateOf S = refl
 
-owners-entriesOf : (q : ℕ) (os ws : List ℕ) → length os ≡ length ws → map (λ e. e .owner) (entriesOf q os ws) ≡ os
+pub owners-entriesOf : (q : ℕ) (os ws : List ℕ) → length os ≡ length ws → map (λ e. e .owner) (entriesOf q os ws) ≡ os
 owners-entriesOf q [] ws h = refl
 owners-entriesOf q (o ∷ os) [] h = absurd (omega arith)
 owners-entriesOf q (o ∷ os) (w ∷ ws) h = rw (owners-entriesOf (suc q) os ws (omega arith))

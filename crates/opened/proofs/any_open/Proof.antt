@@ -1,48 +1,34 @@
--- `any_open` meets its contract: no entry before i is a transaction's.
-use Prim.Native.Nat.{ℕ, _-_}
-use mathlib.Core.Bool.{Bool, true, not}
-use mathlib.Core.List.{List}
-use mathlib.Core.Path.{ap}
+-- `any_open` meets its contract: `found` is of the owners before i.
+use Prim.Native.Nat.{_-_, _≤_}
+use mathlib.Core.Bool.{not}
+use mathlib.Core.Path.{ap, _∙_}
 use borrow.Author.Needs.{needs}
-use borrow.Author.Tests.{eq-eqb, ne-eqb}
-use Rattle.lists.specs.Lists.{any}
-use Rattle.lists.specs.Tests.{or-true, or-false}
-use Rattle.lists.specs.Ahead.{Ahead, ahead-start, ahead-here, ahead-next, ahead-done}
-use Rattle.lists.specs.Rows.{rows, rowsFrom, rows-tails, rows-whole}
-use Rattle.semantics.specs.State.{Entry, owned}
-use Rattle.state.specs.Working.{rowOf}
+use lib.Dec.{eqb}
+use lib.ListN.{length, getD}
+use Rattle.lists.specs.Rows.{rows, rowsFrom, rows-tails, rows-take}
+use Rattle.lists.specs.Found.{Finding, finding-start, finding-next, finding-done}
+use Rattle.opened.specs.Owners.{someOwned}
 use Rattle.opened.proofs.any_open.Statement.{statement}
 use Rattle.opened.proofs.any_open.Tie as tie
 
-abbrev inner : Entry → Bool
-inner e = not (owned 0 e)
-
 abbrev Inv : tie.InvT-loop
-Inv owners n i₀ i = (ws gs : List ℕ) → Ahead (rowsFrom (rowOf owners ws gs) n) n (any inner) i (any inner (rows (rowOf owners ws gs) 0 n))
+Inv owners n found₀ i₀ found i =
+    (n ≤ length owners) × Finding (λ o. not (eqb o 0)) (rowsFrom (λ k. getD owners k 0) n) n found i (someOwned (rows (λ k. getD owners k 0) 0 n))
 
 abbrev μ : tie.MeasureT-loop
-μ owners n i₀ i = n - i
-
-start : (f : ℕ → Entry) (n : ℕ) → Ahead (rowsFrom f n) n (any inner) 0 (any inner (rows f 0 n))
-start f n = rw (← rows-whole f n) (ahead-start (rowsFrom f n) n (any inner))
-
-loop-holds : tie.Need-loop-holds Inv μ
-loop-holds c ws gs = start _ _
-
-returns : tie.Need-returns Inv μ
-returns c ws gs next =
-    let l = c .before .before .before .loop in
-    ahead-here (rows-tails _ _) (l .inv ws gs) (c .before .before .loop-test .taken) true (λ xs. or-true (any inner xs) (ap not (ne-eqb _ 0 (c .if1 .taken))))
+μ owners n found₀ i₀ found i = n - i
 
 loop-again : tie.Need-loop-again Inv μ
-loop-again c ws gs =
-    let l = c .before .before .before .loop in
-    ahead-next (rows-tails _ _) (l .inv ws gs) (c .before .before .loop-test .taken) (any inner) (λ xs. or-false (any inner xs) (ap not (eq-eqb _ 0 (c .if1 .left))))
+loop-again c =
+    let l = c .before .before .loop in
+    (l .inv .0, finding-next (rows-tails _ _) (l .inv .1) (c .before .loop-test .taken))
 
-returns-2 : tie.Need-returns-2 Inv μ
-returns-2 c ws gs next = ahead-done (rows-tails _ _) (c .before .loop .inv ws gs) (c .loop-test .left)
+returns : tie.Need-returns Inv μ
+returns c =
+    let l = c .before .loop in
+    finding-done (rows-tails _ _) (l .inv .1) (c .loop-test .left) ∙ ap someOwned (rows-take 0 _ _ (l .inv .0))
 
 pub any-open-spec : {M : Type 1} → statement M
 any-open-spec =
     tie.close
-    (tie.spec Inv μ loop-holds (λ c. search needs) (λ c. search needs) returns (λ c. search needs) (λ c. search needs) loop-again returns-2)
+    (tie.spec Inv μ (λ c. (c .pre, finding-start _ _ _)) (λ c. search needs) (λ c. search needs) (λ c. search needs) (λ c. search needs) loop-again returns)

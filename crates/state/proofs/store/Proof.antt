@@ -11,23 +11,22 @@ slice-write-target-2 : tie.Need-slice-write-target-2
 slice-write-target-2 c = simp length-set (omega arith)
 
 put-column-requires : tie.Need-put-column-requires
-put-column-requires c κs = (c .before .before .before .before .pre .0, search needs, simp length-set (omega arith))
+put-column-requires c κs = let start = c .before .before .pre in (start .0, start .1, simp length-set (omega arith))
 
 put-column-requires-2 : tie.Need-put-column-requires-2
-put-column-requires-2 c κs = (
-  c .before .before .before .before .before .before .before .before .before .before .pre .0,
-  search needs,
-  omega (arith, simp length-set at (c .before .before .before .before .before .put-column .ensures .size)),
-)
+put-column-requires-2 c κs =
+    let first = c .before .before .before in
+    let start = first .before .before .before .pre in
+    (start .0, start .2, omega (arith, simp length-set at (first .put-column .ensures .size)))
 
 same-length : tie.Need-same-length
-same-length c = simp length-set at (c .before .before .put-column2 .ensures .size ∙ c .before .before .before .before .before .before .before .before .put-column .ensures .size)
+same-length c = simp length-set at (c .before .before .put-column2 .ensures .size ∙ c .before .before .before .before .before .before .put-column .ensures .size)
 
 returns : tie.Need-returns
 returns c =
-    let first = c .before .before .before .before .before .before .before .before in
-    let start = first .before .before .before .before .before in
-    stored-words (start .args .t1) _ _ _ (search needs) (start .pre .0) (start .pre .1) (first .put-column .ensures) (c .before .before .put-column2 .ensures)
+    let first = c .before .before .before .before .before .before in
+    let start = first .before .before .before .pre in
+    λ gs. stored-words _ _ _ _ (start .1) (start .2) (start .0) (start .3) (first .put-column .ensures) (c .before .before .put-column2 .ensures)
 
 pub store-spec : {M : Type 1} → statement M
 store-spec =

@@ -11,26 +11,26 @@ use Rattle.report.proofs.figures.of_parts.Tie as tie
 
 trace-requires : tie.Need-trace-requires
 trace-requires c κs =
-    let pre = c .before .before .before .before .before .pre in
-    traceable (pre .0) _ (pre .1) (c .before .load .ensures) _ (length-replicate {A = ℕ} 4096 0)
+    let pre = c .before .before .before .before .before .before .before .before .before .before .before .before .before .before .before .pre in
+    traceable (pre .0) _ (pre .1) (c .before .before .before .before .load .ensures) (length-replicate {A = ℕ} 4096 0)
 
-shared-slice-read-t14 : tie.Need-shared-slice-read-t14
-shared-slice-read-t14 c =
-    let pre = c .before .before .before .before .before .before .before .before .before .pre in
+shared-slice-read-t24 : tie.Need-shared-slice-read-t24
+shared-slice-read-t24 c =
+    let pre = c .before .before .before .before .before .before .before .before .before .before .before .before .before .before .before .before .before .before .before .pre in
     omega (arith, Columns.sized _ (pre .1) .size)
 
-shared-slice-read-t16 : tie.Need-shared-slice-read-t16
-shared-slice-read-t16 c =
-    let pre = c .before .before .before .before .before .before .before .before .before .before .pre in
+shared-slice-read-t26 : tie.Need-shared-slice-read-t26
+shared-slice-read-t26 c =
+    let pre = c .before .before .before .before .before .before .before .before .before .before .before .before .before .before .before .before .before .before .before .before .pre in
     omega (arith, Columns.sized _ (pre .1) .size)
 
 returns : tie.Need-returns
 returns c =
     let traced = c .before .before .before .before in
-    let (room, shown) = shows _ _ _ (traced .before .before .load .ensures) _ (traced .trace .ensures) refl refl refl in
+    let (room, shown) = shows _ _ _ (traced .before .before .before .before .before .load .ensures) _ (traced .trace .ensures) refl refl refl in
     (refl, room, shown)
 
 pub of-parts-spec : {M : Type 1} → statement M
 of-parts-spec =
     tie.close
-    (tie.spec (λ c κs. search needs) (λ c. search needs) trace-requires (λ c. search needs) shared-slice-read-t14 shared-slice-read-t16 returns)
+    (tie.spec (λ c κs. search needs) (λ c κs. search needs) (λ c. search needs) trace-requires (λ c. search needs) shared-slice-read-t24 shared-slice-read-t26 returns)

@@ -1,33 +1,32 @@
--- `note_picks` meets its contract: the origins of the first j picks stand.
-use Prim.Native.Nat.{_-_}
-use native.Mathlib.Omega.{arith}
+use Prim.Native.Nat.{ℕ, _*_}
+use mathlib.Core.List.{List, [], _∷_}
+use mathlib.Core.Path.{_≡_, subst}
 use borrow.Author.Needs.{needs}
-use Rattle.serial.proofs.Copying.{Copying, copying-start, copying-place, copying-next, copying-done}
+use lib.ListN.{length}
+use Rattle.lists.specs.Over.{Pasted}
+use Rattle.serial.specs.Recordings.{wordsAt}
+use Rattle.serial.proofs.Copying.{four-words}
 use Rattle.serial.proofs.record.note_picks.Statement.{statement}
 use Rattle.serial.proofs.record.note_picks.Tie as tie
 
-abbrev Inv : tie.InvT-loop
-Inv column k i origins₀ picks at j₀ origins j = Copying column picks k i j origins₀ origins
+four-picks : (c : tie.Start) → length (c .args .t2) ≡ 4
+four-picks c = search needs
 
-abbrev μ : tie.MeasureT-loop
-μ column k i origins₀ picks at j₀ origins j = k - j
-
-loop-holds : tie.Need-loop-holds Inv μ
-loop-holds c =
-    let p = c .pre in
-    copying-start (p .0) (search needs) (p .1) (p .2) (p .3) (p .4)
-
-loop-again : tie.Need-loop-again Inv μ
-loop-again c = copying-next (c .before .before .loop .inv) (c .before .loop-test .taken)
-
-returns : tie.Need-returns Inv μ
-returns c = copying-done (c .before .loop .inv) (c .loop-test .left)
+returns : tie.Need-returns
+returns c =
+    let put = c .before .before in
+    let fourth = put .before .before in
+    let third = fourth .before in
+    let second = third .before in
+    let first = second .before in
+    let a = first .before .before .args in
+    let e : first .word-at .result ∷ second .word-at2 .result ∷ third .word-at3 .result ∷ fourth .word-at4 .result ∷ [] ≡ wordsAt (a .column .now) (a .t2) =
+    rw (first .word-at .ensures, second .word-at2 .ensures, third .word-at3 .ensures, fourth .word-at4 .ensures) (four-words (a .column .now) (a .t2) (four-picks (first .before .before))) in
+    subst (λ (found : List ℕ). Pasted (a .wanted .now) (4 * a .i) found 4 (put .put-picks .last .0)) e (put .put-picks .ensures)
 
 pub note-picks-spec : {M : Type 1} → statement M
 note-picks-spec =
     tie.close
-    (tie.spec Inv μ (λ c. search needs) loop-holds (λ c. search needs) (λ c. search needs)
-    (λ c. omega (arith, copying-place (c .before .loop .inv) (c .loop-test .taken)))
-    (λ c. omega (arith, copying-place (c .before .loop .inv) (c .loop-test .taken)))
-    (λ c. omega (arith, copying-place (c .before .loop .inv) (c .loop-test .taken)))
-    (λ c. search needs) (λ c. search needs) (λ c. search needs) (λ c. search needs) (λ c. search needs) loop-again returns)
+    (tie.spec
+    (λ c. search needs) (λ c κs. search needs) (λ c. search needs) (λ c κs. search needs) (λ c. search needs) (λ c κs. search needs)
+    (λ c. search needs) (λ c κs. search needs) (λ c. search needs) (λ c κs. search needs) (λ c. c .before .before .put-picks .ensures .size) returns)

@@ -20,7 +20,7 @@ returns-2 c =
 consumes-at-requires : tie.Need-consumes-at-requires
 consumes-at-requires c κs =
     let s = c .before .before .before .before .before in
-    (s .pre .0, below-rules (s .args .table .now) (c .before .before .sizes-of .ensures) (c .if2 .left), s .pre .1)
+    (s .pre .table, below-rules (s .args .table .now) (c .before .before .sizes-of .ensures) (c .if2 .left), s .pre .starts)
 
 returns-3 : tie.Need-returns-3
 returns-3 c =
@@ -29,4 +29,4 @@ returns-3 c =
 
 pub picks-used-spec : {M : Type 1} → statement M
 picks-used-spec =
-    tie.close (tie.spec returns (λ c κs. well-formed _ (c .before .before .pre .0) .sizes .long) returns-2 consumes-at-requires returns-3)
+    tie.close (tie.spec returns (λ c κs. well-formed _ (c .before .before .pre .table) .sizes .long) returns-2 consumes-at-requires returns-3)

@@ -1,31 +1,39 @@
 -- `end_transaction` meets its contract: the compaction that frees the transaction's entries of one kind and leaves its others out.
 use borrow.Author.Needs.{needs}
 use Prim.Native.Nat.{_-_}
+use mathlib.Core.Path.{refl, ap}
 use mathlib.Core.Bool.{_||_, not}
 use lib.Dec.{eqb}
 use lib.ListN.{getD}
 use Rattle.lists.specs.Sift.{sift-keep}
+use Rattle.lists.specs.Walk.{below-each}
+use Rattle.semantics.specs.State as semantics
 use Rattle.semantics.specs.State.{owned}
 use Rattle.semantics.specs.Move.{freed, ended}
-use Rattle.state.specs.Working.{stateIn}
-use Rattle.state.specs.Compact.{Compacting, compacting-start, compacting-turn, compacting-done}
-use Rattle.step.proofs.Ending.{freed-entry}
+use Rattle.state.specs.Working.{held, stateIn, rowOf}
+use Rattle.state.specs.Arrays.{holds-of}
+use Rattle.state.specs.Compact.{Compacting, compacting-from, compacting-turn, compacting-done}
+use Rattle.step.proofs.Ending.{freed-entry, stays-as-is}
 use Rattle.step.proofs.end.end_transaction.Statement.{statement}
 use Rattle.step.proofs.end.end_transaction.Tie as tie
 
+-- the next id is in no column
 abbrev Inv : tie.InvT-loop
-Inv id kind s₀ n i₀ w₀ s i w =
-    Compacting (λ p e. not (owned id e) || eqb (e .kind) kind) (freed (λ e. eqb (e .kind) kind) id) s n i w (ended (λ e. eqb (e .kind) kind) id (stateIn s₀))
+Inv owners₀ items₀ origins₀ from n id kind i₀ w₀ owners items origins i w =
+    Compacting (λ p e. not (owned id e) || eqb (e .kind) kind) (freed (λ e. eqb (e .kind) kind) id) (held owners items origins n 0) n i w
+    (ended (λ e. eqb (e .kind) kind) id (stateIn (held owners₀ items₀ origins₀ n 0)))
 
 abbrev μ : tie.MeasureT-loop
-μ id kind s₀ n i₀ w₀ s i w = n - i
+μ owners₀ items₀ origins₀ from n id kind i₀ w₀ owners items origins i w = n - i
 
 loop-holds : tie.Need-loop-holds Inv μ
 unfolding ended stateIn
 loop-holds c =
     let a = c .args in
-    compacting-start _ _ (a .t1) _
-    (sift-keep (λ e. not (owned (a .id) e) || eqb (e .kind) (a .kind)) (freed (λ e. eqb (e .kind) (a .kind)) (a .id)) 0 (stateIn (a .t1) .entries)) (search needs) (c .pre)
+    let s = held (a .owners .now) (a .items .now) (a .origins .now) (a .n) 0 in
+    compacting-from _ _ s _
+    (sift-keep (λ e. not (owned (a .id) e) || eqb (e .kind) (a .kind)) (freed (λ e. eqb (e .kind) (a .kind)) (a .id)) 0 (stateIn s .entries)) (c .pre .0) (c .pre .1) (a .from) (c .pre .2 .within)
+    (λ k l. stays-as-is (a .id) (a .kind) _ (below-each _ (a .from) k (c .pre .2 .none) l))
 
 loop-again : tie.Need-loop-again Inv μ
 loop-again c =
@@ -33,10 +41,14 @@ loop-again c =
     let a = c .before .before .before .before .before .before .before .before .args in
     compacting-turn _ _ (l .inv) (c .before .before .before .before .before .before .loop-test .taken) _ _ _ _ (c .stays .ensures .0)
     (λ h. rw (c .before .before .owner-after .ensures, c .before .item-after .ensures)
-    (freed-entry (a .id) (a .kind) (getD (l .s .owners) (l .i) 0) (getD (l .s .items) (l .i) 0) (getD (l .s .origins) (l .i) 0) h))
+    (freed-entry (a .id) (a .kind) (getD (l .owners) (l .i) 0) (getD (l .items) (l .i) 0) (getD (l .origins) (l .i) 0) h))
 
 returns : tie.Need-returns Inv μ
-returns c = compacting-done _ _ (c .before .loop .inv) (c .loop-test .left)
+unfolding ended stateIn
+returns c next =
+    let l = c .before .loop in
+    let done = compacting-done _ _ (l .inv) (c .loop-test .left) in
+    record { arrays = l .inv .arrays; holds = holds-of _ refl refl (done .fits) (ap (λ (x : semantics.State). x .entries) (done .value)) }
 
 pub end-transaction-spec : {M : Type 1} → statement M
 end-transaction-spec =

@@ -2,19 +2,19 @@ use borrow.Author.Needs.{needs}
 use Prim.Native.Nat.{ℕ, _-_}
 use mathlib.Core.List.{List}
 use Rattle.state.specs.Working.{rowOf}
-use Rattle.step.proofs.Ending.{Surveying, surveying-start, surveying-next, surveying-done}
+use Rattle.step.proofs.Ending.{Surveying, surveying-from, surveying-next, surveying-done}
 use Rattle.step.proofs.end.surveyed.Statement.{statement}
 use Rattle.step.proofs.end.surveyed.Tie as tie
 
 abbrev Inv : tie.InvT-loop
-Inv owners items n id globals open₀ aborting₀ inside₀ i₀ «open» aborting inside i =
+Inv owners items from n id globals open₀ aborting₀ inside₀ i₀ «open» aborting inside i =
     (gs : List ℕ) → Surveying id globals (rowOf owners items gs) n «open» aborting inside i
 
 abbrev μ : tie.MeasureT-loop
-μ owners items n id globals open₀ aborting₀ inside₀ i₀ «open» aborting inside i = n - i
+μ owners items from n id globals open₀ aborting₀ inside₀ i₀ «open» aborting inside i = n - i
 
 loop-holds : tie.Need-loop-holds Inv μ
-loop-holds c gs = surveying-start _ _ _ _
+loop-holds c gs = surveying-from _ _ _ _ _ (c .pre .1 .within) (c .pre .1 .none)
 
 loop-again : tie.Need-loop-again Inv μ
 loop-again c gs = surveying-next (c .before .before .before .loop .inv gs) (c .before .before .loop-test .taken)

@@ -12,8 +12,7 @@ use Rattle.step.proofs.moves.form_ok.Tie as tie
 returns : tie.Need-returns
 returns c =
     let a = c .before .before .before .args in
-    let four : length (a .picks) ≡ 4 = search needs in
-    rw (c .unused-zero .ensures) (form-end _ (a .head) (a .picks) four (c .before .if1 .taken))
+    c .end-form .ensures ∙ form-end _ (a .head) (a .picks) (search needs) (c .before .if1 .taken)
 
 returns-2 : tie.Need-returns-2
 returns-2 c =
@@ -31,7 +30,7 @@ returns-3 : tie.Need-returns-3
 returns-3 c =
     let a = c .before .before .before .before .before .before .before .args in
     let four : length (a .picks) ≡ 4 = search needs in
-    c .unused-zero2 .ensures
+    c .unused-zero .ensures
     ∙ ap (λ (k : ℕ). all isZero (drop k (a .picks))) (c .before .consumes-at .ensures .0)
     ∙ form-rule _ (c .before .before .before .before .sizes-of .ensures) (a .head) (a .picks) four (c .before .before .before .before .before .if1 .left) (c .before .before .if2 .left)
 

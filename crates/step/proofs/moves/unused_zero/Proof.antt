@@ -1,49 +1,36 @@
-use borrow.Author.Needs.{needs}
-use Prim.Native.Nat.{_-_, _<_, _≤_}
-use mathlib.Core.Path.{_≡_, refl}
-use mathlib.Core.Bool.{false}
+use Prim.Native.Nat.{ℕ, zero, suc, _≤_}
+use mathlib.Core.Path.{_≡_, refl, sym, ap, _∙_}
+use mathlib.Core.Bool.{Bool, true, false, _&&_, _||_}
+use mathlib.Core.List.{[], _∷_}
 use native.Mathlib.Omega.{arith}
-use borrow.Author.Tests.{eq-eqb, ne-eqb}
-use lib.ListN.{length, drop}
+use borrow.Author.Needs.{needs}
+use lib.Dec.{eqb, leb}
+use lib.ListN.{length, getD, drop}
 use Rattle.lists.specs.Lists.{all}
-use Rattle.lists.specs.Tests.{and-false, and-true}
-use Rattle.lists.specs.Ahead.{Ahead, slice-tails, ahead-here, ahead-next, ahead-done}
 use Rattle.semantics.specs.Move.{isZero}
+use Rattle.step.proofs.Pairs.{four-places}
 use Rattle.step.proofs.moves.unused_zero.Statement.{statement}
 use Rattle.step.proofs.moves.unused_zero.Tie as tie
 
-abbrev Inv : tie.InvT-loop
-Inv k picks i₀ i = Ahead (λ j. drop j picks) (length picks) (all isZero) i (all isZero (drop k picks)) × (length picks ≡ 4)
+last : (a : Bool) → a && true ≡ a
+last true = refl
+last false = refl
 
-abbrev μ : tie.MeasureT-loop
-μ k picks i₀ i = 4 - i
+-- four numbers from k on, one by one
+tested : (a b c d k : ℕ) → k ≤ 4
+    → (leb 1 k || eqb a 0) && ((leb 2 k || eqb b 0) && ((leb 3 k || eqb c 0) && (leb 4 k || eqb d 0))) ≡ all isZero (drop k (a ∷ b ∷ c ∷ d ∷ []))
+tested a b c d zero h = rw (last (eqb d 0))
+tested a b c d (suc zero) h = rw (last (eqb d 0))
+tested a b c d (suc (suc zero)) h = rw (last (eqb d 0))
+tested a b c d (suc (suc (suc zero))) h = rw (last (eqb d 0))
+tested a b c d (suc (suc (suc (suc zero)))) h = refl
+tested a b c d (suc (suc (suc (suc (suc k))))) h = absurd (omega arith)
 
-loop-holds : tie.Need-loop-holds Inv μ
-loop-holds c =
-    let four : length (c .args .t1) ≡ 4 = search needs in
-    (record { within = omega (arith, c .pre, four); so-far = refl }, four)
-
-returns : tie.Need-returns Inv μ
+returns : tie.Need-returns
 returns c =
-    let l = c .before .before .loop in
-    let more : l .i < length (c .before .before .before .args .t1) = omega (arith, l .inv .1, c .before .loop-test .taken) in
-    ahead-here (slice-tails 0 _) (l .inv .0) more false (λ xs. and-false (all isZero xs) (ne-eqb _ _ (c .if1 .taken)))
-
-loop-again : tie.Need-loop-again Inv μ
-loop-again c =
-    let l = c .before .before .loop in
-    let more : l .i < length (c .before .before .before .args .t1) = omega (arith, l .inv .1, c .before .loop-test .taken) in
-    (ahead-next (slice-tails 0 _) (l .inv .0) more (all isZero) (λ xs. and-true (all isZero xs) (eq-eqb _ _ (c .if1 .left))), l .inv .1)
-
-returns-2 : tie.Need-returns-2 Inv μ
-returns-2 c =
-    let l = c .before .loop in
-    let end : length (c .before .before .args .t1) ≤ l .i = omega (arith, l .inv .1, c .loop-test .left) in
-    ahead-done (slice-tails 0 _) (l .inv .0) end
+    let a = c .args in
+    let four : length (a .t1) ≡ 4 = search needs in
+    tested (getD (a .t1) 0 0) (getD (a .t1) 1 0) (getD (a .t1) 2 0) (getD (a .t1) 3 0) (a .k) (c .pre) ∙ sym (ap (λ ps. all isZero (drop (a .k) ps)) (four-places (a .t1) four))
 
 pub unused-zero-spec : {M : Type 1} → statement M
-unused-zero-spec =
-    tie.close
-    (tie.spec
-    Inv μ loop-holds (λ c. search needs) (λ c. search needs) returns (λ c. search needs) (λ c. search needs)
-    loop-again returns-2)
+unused-zero-spec = tie.close (tie.spec (λ c. search needs) (λ c. search needs) (λ c. search needs) (λ c. search needs) returns)

@@ -1,43 +1,32 @@
--- `at_picks` meets its contract: the column at the first i picks, then zeros.
-use Prim.Native.Nat.{_-_, _≤_, _<_}
-use mathlib.Core.Path.{_≡_, _∙_}
-use native.Mathlib.Omega.{arith}
 use borrow.Author.Needs.{needs}
-use lib.ListN.{length, getD, take}
-use Rattle.lists.specs.Padded.{fill-padded}
-use Rattle.step.specs.React.{Places, fourAt}
-use Rattle.step.proofs.Picks.{place-at}
+use borrow.Author.Tests.{ltb-true}
+use Prim.Native.Nat.{ℕ, _<_}
+use mathlib.Core.Path.{_≡_}
+use mathlib.Core.Bool.{true}
+use native.Mathlib.Omega.{arith}
+use lib.Dec.{ltb}
+use lib.ListN.{length, getD}
+use Rattle.step.proofs.Picks.{place-at, four-at}
 use Rattle.step.proofs.react.at_picks.Statement.{statement}
 use Rattle.step.proofs.react.at_picks.Tie as tie
 
-abbrev Inv : tie.InvT-loop
-Inv column k picks found₀ i₀ found i = (i ≤ k) × (k ≤ 4) × (length picks ≡ 4) × (length column ≡ 1024) × Places 1024 (take k picks) × (found ≡ fourAt column (take i picks))
+four : (c : tie.Start) → length (c .args .t2) ≡ 4
+four c = search needs
 
-abbrev μ : tie.MeasureT-loop
-μ column k picks found₀ i₀ found i = k - i
+-- a pick in use is a place
+place : (c : tie.Start) (i : ℕ) → ltb i (c .args .k) ≡ true → getD (c .args .t2) i 0 < 1024
+place c i h = place-at 1024 (c .args .k) (c .args .t2) (c .pre .2) (omega (arith, four c, c .pre .0)) i (ltb-true i (c .args .k) h)
 
--- the pick is a place
-pick : (c : tie.In-loop Inv μ) → getD (c .before .before .args .t2) (c .before .loop .i) 0 < 1024
-pick c =
-    let v = c .before .loop .inv in
-    place-at 1024 _ _ (v .4) (omega arith) _ (c .loop-test .taken)
-
-loop-again : tie.Need-loop-again Inv μ
-loop-again c =
-    let l = c .before .before .loop in
-    let a = c .before .before .before .args in
-    let v = l .inv in
-    (search needs, v .1, v .2, v .3, v .4, fill-padded (λ p. getD (a .column .now) p 0) (a .t2) 4 (l .i) 0 0 (omega arith) (omega arith) (v .5))
-
-returns : tie.Need-returns Inv μ
+returns : tie.Need-returns
 returns c =
-    let v = c .before .loop .inv in
-    let a = c .before .before .args in
-    let e : c .before .loop .i ≡ a .k = omega arith in
-    v .5 ∙ rw e
+    let start = c .before .before .before .before in
+    let a = start .args in
+    rw (c .at-pick4 .ensures, c .before .at-pick3 .ensures, c .before .before .at-pick2 .ensures, c .before .before .before .at-pick .ensures)
+    (four-at (a .column .now) (a .t2) (a .k) (four start) (start .pre .0))
 
 pub at-picks-spec : {M : Type 1} → statement M
 at-picks-spec =
     tie.close
-    (tie.spec Inv μ (λ c. search needs) (λ c. search needs) (λ c. search needs) (λ c. search needs) (λ c. omega (arith, pick c)) pick
-    (λ c. search needs) (λ c. search needs) (λ c. search needs) (λ c. search needs) loop-again returns)
+    (tie.spec
+    (λ c. search needs) (λ c κs. (c .pre .1, place c 0)) (λ c. search needs) (λ c κs. (c .before .pre .1, place (c .before) 1)) (λ c. search needs) (λ c κs. (c .before .before .pre .1, place (c .before .before) 2))
+    (λ c. search needs) (λ c κs. (c .before .before .before .pre .1, place (c .before .before .before) 3)) returns)

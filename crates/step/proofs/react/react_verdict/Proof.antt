@@ -1,19 +1,20 @@
 -- `react_verdict` meets its contract: the first fault counts, and the tests are the definition's (`Reacting`).
-use Prim.Native.Nat.{ℕ, _≤_}
+use Prim.Native.Nat.{ℕ, _+_, _-_, _≤_}
 use mathlib.Core.Path.{_≡_, sym, ap, _∙_}
 use mathlib.Core.Bool.{true, _&&_, not}
 use mathlib.Core.List.{List, []}
 use native.Mathlib.Omega.{arith}
 use borrow.Author.Needs.{needs}
 use borrow.Author.Tests.{not-true, not-false}
-use lib.ListN.{take}
+use lib.ListN.{length, take}
 use Rattle.semantics.specs.State.{State}
-use Rattle.semantics.specs.Move.{picksOk, ownersAt, ownersFit}
+use Rattle.semantics.specs.Move.{picksOk, ownersAt, ownersFit, reacted}
 use Rattle.wellformed.specs.Picks.{ReactGiven}
 use Rattle.step.specs.Working.{ruleIn, stateFrom}
 use Rattle.step.specs.React.{Places}
 use Rattle.step.proofs.Decoded.{consumes-within}
-use Rattle.step.proofs.Reacting.{picks-parts, wrong-pick, wrong-owner, no-more-ids, too-many, allowed-is, id-test, places, owners-found, picks-fit, count-left}
+use Rattle.step.proofs.Picks.{owners-at}
+use Rattle.step.proofs.Reacting.{picks-found, picks-parts, wrong-pick, wrong-owner, no-more-ids, too-many, allowed-is, id-test, places, picks-fit, count-left}
 use Rattle.step.proofs.react.react_verdict.Statement.{statement}
 use Rattle.step.proofs.react.react_verdict.Tie as tie
 
@@ -24,32 +25,39 @@ abbrev σ : tie.Start → List ℕ → State
 abbrev ps : tie.Start → List ℕ
 ps c = take (c .args .rule .consumes) (c .args .picks)
 
+-- where the tests began
+abbrev tested : tie.After-on-ports → tie.Start
+tested c = c .before .before .before
+
+abbrev placed : tie.After-owners-fit → tie.Start
+placed c = tested (c .before .before)
+
+abbrev allowed : tie.Else3 → tie.Start
+allowed c = placed (c .before .before .before)
+
 -- ---- what each test says
 
-picks : (c : tie.After-on-ports) (gs : List ℕ) → c .before .all-differ .result && c .on-ports .result ≡ picksOk (ruleIn (c .before .before .args .rule)) (σ (c .before .before) gs) (ps (c .before .before))
-picks c gs = rw (c .before .all-differ .ensures, c .on-ports .ensures (c .before .before .args .owners .now) gs)
+picks : (c : tie.After-on-ports) (gs : List ℕ) → c .before .before .all-differ .result && c .on-ports .result ≡ picksOk (ruleIn (tested c .args .rule)) (σ (tested c) gs) (ps (tested c))
+picks c gs = picks-found (ruleIn (tested c .args .rule)) (σ (tested c) gs) (ps (tested c)) (c .before .before .all-differ .ensures) (c .on-ports .ensures (tested c .args .owners .now) gs) (c .before .consume-ports .ensures .0)
 
-picks-pass : (c : tie.Else1) (gs : List ℕ) → picksOk (ruleIn (c .before .before .before .args .rule)) (σ (c .before .before .before) gs) (ps (c .before .before .before)) ≡ true
+picks-pass : (c : tie.Else1) (gs : List ℕ) → picksOk (ruleIn (tested (c .before) .args .rule)) (σ (tested (c .before)) gs) (ps (tested (c .before))) ≡ true
 picks-pass c gs = sym (picks (c .before) gs) ∙ not-false _ (c .if1 .left)
 
-in-place : (c : tie.Else1) → Places (c .before .before .before .args .n) (ps (c .before .before .before))
+in-place : (c : tie.Else1) → Places (tested (c .before) .args .n) (ps (tested (c .before)))
 in-place c =
-    let start = c .before .before .before in
+    let start = tested (c .before) in
     let a = start .args in
     places (a .rule) (start .pre .1) (a .picks) (search needs) (a .owners .now) (a .items .now) [] (a .n) (a .next) (picks-parts (ruleIn (a .rule)) (σ start []) (ps start) (picks-pass c []) .1)
 
-owners : (c : tie.After-owners-fit) (gs : List ℕ)
-    → c .owners-fit .result ≡ ownersFit (c .before .before .before .before .before .args .rule .class) (ownersAt (σ (c .before .before .before .before .before) gs) (ps (c .before .before .before .before .before)))
+owners : (c : tie.After-owners-fit) (gs : List ℕ) → c .owners-fit .result ≡ ownersFit (placed c .args .rule .class) (ownersAt (σ (placed c) gs) (ps (placed c)))
 owners c gs =
-    let start = c .before .before .before .before .before in
-    let a = start .args in
-    c .owners-fit .ensures
-    ∙ ap (ownersFit (a .rule .class)) (owners-found (a .rule) (start .pre .1) (a .picks) (search needs) (a .owners .now) (a .items .now) gs (a .n) (a .next) (c .before .at-picks .ensures) (in-place (c .before .before)))
+    let a = placed c .args in
+    c .owners-fit .ensures ∙ ap (ownersFit (a .rule .class)) (sym (owners-at (a .owners .now) (a .items .now) gs (a .n) (ps (placed c)) (in-place (c .before))))
 
-given : (c : tie.Else3) (gs : List ℕ) → ReactGiven (ruleIn (c .before .before .before .before .before .before .before .before .args .rule)) (σ (c .before .before .before .before .before .before .before .before) gs) (ps (c .before .before .before .before .before .before .before .before))
+given : (c : tie.Else3) (gs : List ℕ) → ReactGiven (ruleIn (allowed c .args .rule)) (σ (allowed c) gs) (ps (allowed c))
 given c gs =
-    let start = c .before .before .before .before .before .before .before .before in
-    let (a, b) = picks-parts (ruleIn (start .args .rule)) (σ start gs) (ps start) (picks-pass (c .before .before .before .before .before) gs) in
+    let start = allowed c in
+    let (a, b) = picks-parts (ruleIn (start .args .rule)) (σ start gs) (ps start) (picks-pass (c .before .before .before .before) gs) in
     record {
       different = a;
       ports = b;
@@ -57,50 +65,44 @@ given c gs =
       ids = id-test (start .args .rule) (start .pre .1) (σ start gs) ∙ ap not (c .if3 .left);
     }
 
+left : (c : tie.Else3) (gs : List ℕ)
+    → length (reacted (ruleIn (allowed c .args .rule)) 0 (σ (allowed c) gs) (ps (allowed c)) .entries)
+    ≡ allowed c .args .n - allowed c .args .rule .consumes + (allowed c .args .rule .count - allowed c .args .rule .consumes)
+left c gs =
+    let start = allowed c in
+    let a = start .args in
+    count-left (a .rule) (start .pre .1) (a .picks) (search needs) (a .owners .now) (a .items .now) gs (a .n) (a .next) 0 (given c gs)
+
 -- ---- needs
 
 returns : tie.Need-returns
 returns c = λ gs. wrong-pick _ _ _ _ (sym (picks (c .before) gs) ∙ not-true _ (c .if1 .taken))
 
-at-picks-requires : tie.Need-at-picks-requires
-at-picks-requires c κs = (search needs, search needs, λ p m. let l = in-place c p m in omega arith)
+owners-fit-requires : tie.Need-owners-fit-requires
+owners-fit-requires c κs = (search needs, search needs, search needs, λ p m. let l = in-place c p m in omega arith)
 
 returns-2 : tie.Need-returns-2
-returns-2 c = λ gs. wrong-owner _ _ _ _ (picks-pass (c .before .before .before) gs) (sym (owners (c .before) gs) ∙ not-true _ (c .if2 .taken))
+returns-2 c = λ gs. wrong-owner _ _ _ _ (picks-pass (c .before .before) gs) (sym (owners (c .before) gs) ∙ not-true _ (c .if2 .taken))
 
 returns-3 : tie.Need-returns-3
 returns-3 c = λ gs.
-    let start = c .before .before .before .before .before .before .before .before in
-    no-more-ids _ _ _ _ (picks-pass (c .before .before .before .before .before) gs) (sym (owners (c .before .before .before) gs) ∙ not-false _ (c .before .before .if2 .left))
+    let start = placed (c .before .before .before) in
+    no-more-ids _ _ _ _ (picks-pass (c .before .before .before .before) gs) (sym (owners (c .before .before .before) gs) ∙ not-false _ (c .before .before .if2 .left))
     (id-test (start .args .rule) (start .pre .1) (σ start gs) ∙ ap not (c .if3 .taken))
 
-fits : (c : tie.Else3) → c .before .before .before .before .before .before .before .before .args .rule .consumes ≤ c .before .before .before .before .before .before .before .before .args .n
+fits : (c : tie.Else3) → allowed c .args .rule .consumes ≤ allowed c .args .n
 fits c =
-    let start = c .before .before .before .before .before .before .before .before in
+    let start = allowed c in
     let a = start .args in
     picks-fit (a .rule) (start .pre .1) (a .picks) (search needs) (a .owners .now) (a .items .now) [] (a .n) (a .next) (given c [])
 
 sub-if4-2 : tie.Need-sub-if4-2
-sub-if4-2 c =
-    let start = c .before .before .before .before .before .before .before .before in
-    omega (arith, consumes-within (start .args .rule) (start .pre .1))
-
-returns-4 : tie.Need-returns-4
-returns-4 c = λ gs.
-    let start = c .before .before .before .before .before .before .before .before .before in
-    let a = start .args in
-    too-many _ _ _ _ (given (c .before) gs)
-    (omega (arith, count-left (a .rule) (start .pre .1) (a .picks) (search needs) (a .owners .now) (a .items .now) gs (a .n) (a .next) 0 (given (c .before) gs), c .if4 .taken))
-
-returns-5 : tie.Need-returns-5
-returns-5 c = λ gs.
-    let start = c .before .before .before .before .before .before .before .before .before in
-    let a = start .args in
-    allowed-is _ _ _ _ (given (c .before) gs)
-    (omega (arith, count-left (a .rule) (start .pre .1) (a .picks) (search needs) (a .owners .now) (a .items .now) gs (a .n) (a .next) 0 (given (c .before) gs), c .if4 .left))
+sub-if4-2 c = let start = allowed c in omega (arith, consumes-within (start .args .rule) (start .pre .1))
 
 pub react-verdict-spec : {M : Type 1} → statement M
 react-verdict-spec =
     tie.close
-    (tie.spec (λ c κs. search needs) (λ c κs. search needs) returns at-picks-requires (λ c κs. search needs) returns-2 returns-3
-    (λ c. omega (arith, fits c)) sub-if4-2 (λ c. search needs) returns-4 returns-5)
+    (tie.spec (λ c κs. search needs) (λ c κs. search needs) (λ c κs. search needs) returns owners-fit-requires returns-2 returns-3
+    (λ c. omega (arith, fits c)) sub-if4-2 (λ c. search needs)
+    (λ c gs. too-many _ _ _ _ (given (c .before) gs) (omega (arith, left (c .before) gs, c .if4 .taken)))
+    (λ c gs. allowed-is _ _ _ _ (given (c .before) gs) (omega (arith, left (c .before) gs, c .if4 .left))))

@@ -6,7 +6,7 @@ use Rattle.table.proofs.atom.atom_ok.Tie as tie
 
 returns : tie.Need-returns
 unfolding atomOk
-returns c = rw (c .class-of .ensures)
+returns c = rw (c .value-ok .ensures, c .before .class-of .ensures)
 
 pub atom-ok-spec : {M : Type 1} → statement M
 atom-ok-spec =
@@ -17,7 +17,7 @@ atom-ok-spec =
     (λ c. search needs)
     (λ c. search needs)
     (λ c. search needs)
-    (λ c. search needs)
+    (λ c κs. search needs)
     (λ c κs. search needs)
     (λ c. search needs)
     returns)

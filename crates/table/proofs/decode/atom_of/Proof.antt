@@ -7,4 +7,4 @@ returns : tie.Need-returns
 returns c = rw (c .value-of .ensures)
 
 pub atom-of-spec : {M : Type 1} → statement M
-atom-of-spec = tie.close (tie.spec (λ c κs. search needs) returns)
+atom-of-spec = tie.close (tie.spec (λ c κs. search needs) (λ c. search needs) (λ c. search needs) returns)

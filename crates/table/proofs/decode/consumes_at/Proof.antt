@@ -16,7 +16,7 @@ rule-words-requires c κs =
 returns : tie.Need-returns
 returns c =
     let p = c .before .before .before .before .pre in
-    rw (c .count-role .ensures) (cut-consumes _ _ _ (p .0) (p .1) (p .2) (c .before .before .atom-words-of .ensures) (c .before .rule-words .ensures))
+    cut-consumes _ _ _ (p .0) (p .1) (p .2) (c .before .before .atom-words-of .ensures) (c .before .rule-words .ensures) (c .consumes-of .ensures)
 
 pub consumes-at-spec : {M : Type 1} → statement M
 consumes-at-spec = tie.close (tie.spec atom-words-of-requires rule-words-requires (λ c κs. search needs) returns)

@@ -6,17 +6,9 @@ use Rattle.table.proofs.decode.rule_of.Tie as tie
 
 returns : tie.Need-returns
 returns c =
-    let a = c .before .before .before .before .args in
-    let atoms = c .before .atoms-of in
-    decodes
-    (a .z)
-    (a .ws .now)
-    (c .before .before .shape-of .result)
-    (atoms .result)
-    (c .before .before .before .before .pre)
-    (c .before .before .shape-of .ensures)
-    (atoms .ensures .0)
-    (atoms .ensures .1)
+    let b = c .before .before in
+    let atoms = b .before .atoms-of .ensures in
+    decodes _ _ (b .before .before .before .pre) (b .consumes-of .ensures) (c .has-role .ensures) (c .before .rule-class .ensures) (atoms .0) (atoms .1)
 
 pub rule-of-spec : {M : Type 1} → statement M
-rule-of-spec = tie.close (tie.spec (λ c κs. search needs) (λ c κs. search needs) returns)
+rule-of-spec = tie.close (tie.spec (λ c κs. search needs) (λ c κs. search needs) (λ c κs. search needs) (λ c κs. search needs) returns)

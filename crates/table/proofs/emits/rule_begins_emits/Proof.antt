@@ -1,11 +1,11 @@
--- `emits::rule_begins_emits` meets its contract: an atom of a role is there where their count is not 0.
+-- `emits::rule_begins_emits` meets its contract.
 use borrow.Author.Needs.{needs}
-use Rattle.table.proofs.Emitting.{both-counts}
+use Rattle.table.proofs.Emitting.{both-roles}
 use Rattle.table.proofs.emits.rule_begins_emits.Statement.{statement}
 use Rattle.table.proofs.emits.rule_begins_emits.Tie as tie
 
 returns : tie.Need-returns
-returns c z = rw (c .count-role2 .ensures, c .before .count-role .ensures) (both-counts z _)
+returns c z = rw (c .has-role2 .ensures, c .before .has-role .ensures) (both-roles z _)
 
 pub rule-begins-emits-spec : {M : Type 1} → statement M
 rule-begins-emits-spec = tie.close (tie.spec (λ c κs. search needs) (λ c κs. search needs) returns)

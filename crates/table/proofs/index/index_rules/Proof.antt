@@ -15,13 +15,13 @@ use Rattle.table.proofs.index.index_rules.Reads as reads
 use Rattle.table.proofs.index.index_rules.Lts as lts
 
 abbrev Inv-loop : tie.InvT-loop
-Inv-loop numbers rules limit starts₀ seen₀ i₀ starts seen i = (i ≤ length numbers) × (numbersOk rules numbers ≡ dense rules seen (drop i numbers)) × Marked numbers i seen starts
+Inv-loop numbers rules starts₀ limit seen₀ i₀ starts seen i = (i ≤ length numbers) × (numbersOk rules numbers ≡ dense rules seen (drop i numbers)) × Marked numbers i seen starts
 
 abbrev μ-loop : tie.MeasureT-loop
-μ-loop numbers rules limit starts₀ seen₀ i₀ starts seen i = length numbers - i
+μ-loop numbers rules starts₀ limit seen₀ i₀ starts seen i = length numbers - i
 
 loop-holds : tie.Need-loop-holds Inv-loop μ-loop
-loop-holds c = (search needs, numbers-dense _ _, marked-start _)
+loop-holds c = (search needs, numbers-dense _ _, marked-start _ (c .pre .2))
 
 cast-n : tie.Need-cast-n Inv-loop μ-loop
 cast-n c = omega (arith, c .shared-slice-known .given (c .before .before .loop .i))
@@ -35,7 +35,7 @@ returns c =
     let l = c .before .before .before .loop in
     let no : false ≡ numbersOk (a .rules) (a .numbers .now) =
     sym (l .inv .1 ∙ dense-step (a .rules) (l .seen) (a .numbers .now) (l .i) (search needs) (not-true _ (c .if1 .taken))) in
-    record { ok = no; starts = λ yes. absurd (false≢true (no ∙ yes)) }
+    record { answer = no; right = λ yes. absurd (false≢true (no ∙ yes)) }
 
 -- what the test says of the number at hand
 followed :
@@ -54,8 +54,8 @@ add-seen c = omega (arith, followed c .under)
 mul-starts : tie.Need-mul-starts Inv-loop μ-loop
 mul-starts c = omega (arith, followed c .under)
 
-array-write-starts : tie.Need-array-write-starts Inv-loop μ-loop
-array-write-starts c = omega (arith, followed c .under)
+write-starts : tie.Need-element-write-starts Inv-loop μ-loop
+write-starts c = omega (arith, followed c .under)
 
 loop-again : tie.Need-loop-again Inv-loop μ-loop
 loop-again c =
@@ -71,7 +71,7 @@ returns-2 c =
     let a = c .before .before .args in
     let l = c .before .loop in
     let end = l .inv .1 ∙ done (dense (a .rules) (l .seen)) (a .numbers .now) (l .i) (search needs) in
-    record { ok = sym end; starts = λ yes. marked-done _ _ _ _ (l .inv .2) _ (search needs) (eqb-true _ _ (sym end ∙ yes)) }
+    record { answer = sym end; right = λ yes. marked-done _ _ _ _ (l .inv .2) _ (search needs) (eqb-true _ _ (sym end ∙ yes)) }
 
 pub index-rules-spec : {M : Type 1} → statement M
 index-rules-spec =
@@ -89,7 +89,7 @@ index-rules-spec =
     (λ c. search needs)
     (λ c. search needs)
     mul-starts
-    array-write-starts
+    write-starts
     (λ c. search needs)
     loop-again
     returns-2)

@@ -1,0 +1,68 @@
+-- What making a move in words asks of the lent columns, and what it leaves in them.
+use Prim.Native.Nat.{ℕ, _≤_}
+use mathlib.Core.Path.{_≡_, refl, sym, _∙_}
+use mathlib.Core.Bool.{true, false}
+use mathlib.Core.List.{List}
+use Rattle.semantics.specs.Table.{Table, sizesOf, numbersOf}
+use Rattle.semantics.specs.State as semantics
+use Rattle.semantics.specs.Move.{moveOk, moveOf, applied, refused, steppedBy, stepWords, moveVerdict}
+use Rattle.semantics.specs.Answers.{tableVerdict}
+use Rattle.semantics.specs.declared.Refusal.{Refusal}
+use Rattle.semantics.specs.declared.Refusal.the-variants.{MoveForm}
+use Rattle.semantics.specs.declared.Verdict.{Verdict}
+use Rattle.semantics.specs.declared.Verdict.the-variants.{Allowed, Denied}
+use Rattle.wellformed.specs.Verdicts.{denied≢allowed}
+use Rattle.wellformed.specs.Step.{stepWords-verdict}
+use Rattle.table.specs.Index.{Starts}
+use Rattle.state.specs.declared.State.{State}
+use Rattle.state.specs.Working.{stateIn}
+use Rattle.state.specs.Arrays.{Arrays, HoldsIn}
+use Rattle.step.specs.Bounds.{Bounded, applied-bounded}
+
+-- a table that is accepted, with the index of its rules
+pub record Indexed (t index : List ℕ) : Type 0 where
+  pub table : tableVerdict t ≡ Allowed
+  pub starts : Starts (numbersOf t) (sizesOf t .rules) index
+
+-- a working state that a move may be made on: columns of the right length, within the ceiling
+pub record Workable (s : State) (ceiling : ℕ) : Type 0 where
+  pub arrays : Arrays (s .owners) (s .items) (s .origins)
+  pub bounds : Bounded s ceiling
+  pub limit : ceiling ≤ 1024
+
+-- s′ is what the move w, of this maker, leaves of s; v says why it is refused, and then s is as it was
+pub record MadeAs (v : Verdict) (ceiling : ℕ) (t : Table) (maker : ℕ) (w : List ℕ) (s s′ : State) : Type 0 where
+  pub step : stepWords ceiling t maker (stateIn s) w ≡ steppedBy v (stateIn s′)
+  pub same : (q : Refusal) → v ≡ Denied q → s′ ≡ s
+  pub workable : Workable s′ ceiling
+
+-- ---- from the tests to the step
+
+module _ (ceiling : ℕ) (t : Table) (i : ℕ) (s : semantics.State) (w : List ℕ) where
+  step-malformed : moveOk t w ≡ false → stepWords ceiling t i s w ≡ refused MoveForm
+  step-malformed h = stepWords-verdict ceiling t i s w ∙ rw h
+
+  step-formed : moveOk t w ≡ true → stepWords ceiling t i s w ≡ steppedBy (moveVerdict ceiling t s (moveOf t w)) (applied t i s (moveOf t w))
+  step-formed h = stepWords-verdict ceiling t i s w ∙ rw h
+
+module _ {ceiling : ℕ} {t : Table} {i : ℕ} {w : List ℕ} {s : State} (k : Workable s ceiling) where
+  -- 5
+  pub made-malformed : moveOk t w ≡ false → MadeAs (Denied MoveForm) ceiling t i w s s
+  made-malformed h = record { step = step-malformed ceiling t i (stateIn s) w h; same = λ q e. refl; workable = k }
+
+  module _ (form : moveOk t w ≡ true) where
+    -- 7 to 12
+    pub made-refused : {q : Refusal} → moveVerdict ceiling t (stateIn s) (moveOf t w) ≡ Denied q → MadeAs (Denied q) ceiling t i w s s
+    made-refused h = record { step = step-formed ceiling t i (stateIn s) w form ∙ rw h; same = λ q e. refl; workable = k }
+
+    pub made-allowed : moveVerdict ceiling t (stateIn s) (moveOf t w) ≡ Allowed → {s′ : State} → HoldsIn s′ (applied t i (stateIn s) (moveOf t w)) → MadeAs Allowed ceiling t i w s s′
+    unfolding stateIn
+    made-allowed h {s′} held = record {
+      step = step-formed ceiling t i (stateIn s) w form ∙ rw (h, held .holds .value);
+      same = λ q e. absurd (denied≢allowed (sym e));
+      workable = record {
+        arrays = held .arrays;
+        bounds = applied-bounded ceiling t (stateIn s) (moveOf t w) h (k .bounds .next) i (held .holds);
+        limit = k .limit;
+      };
+    }

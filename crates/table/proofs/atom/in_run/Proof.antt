@@ -1,0 +1,14 @@
+-- `atom::in_run` meets its contract: by the test of the role.
+use borrow.Author.Needs.{needs}
+use borrow.Author.Tests.{eq-eqb, ne-eqb}
+use Rattle.table.proofs.atom.in_run.Statement.{statement}
+use Rattle.table.proofs.atom.in_run.Tie as tie
+
+returns : tie.Need-returns
+returns c = rw (ne-eqb _ _ (c .if1 .taken))
+
+returns-2 : tie.Need-returns-2
+returns-2 c = rw (c .atom-ok .ensures, eq-eqb _ _ (c .before .if1 .left))
+
+pub in-run-spec : {M : Type 1} → statement M
+in-run-spec = tie.close (tie.spec returns (λ c κs. search needs) returns-2)

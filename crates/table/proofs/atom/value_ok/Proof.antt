@@ -1,0 +1,11 @@
+-- `atom::value_ok` meets its contract: a value with its mode in front (`Atoms`).
+use borrow.Author.Needs.{needs}
+use Rattle.table.proofs.Atoms.{value-with-mode}
+use Rattle.table.proofs.atom.value_ok.Statement.{statement}
+use Rattle.table.proofs.atom.value_ok.Tie as tie
+
+returns : tie.Need-returns
+returns c = value-with-mode (c .before .args .s) _ (search needs)
+
+pub value-ok-spec : {M : Type 1} → statement M
+value-ok-spec = tie.close (tie.spec (λ c. search needs) (λ c. search needs) (λ c. search needs) (λ c. search needs) returns)
