@@ -4,7 +4,6 @@ use mathlib.Core.Bool.{Bool, true, false, cond}
 use mathlib.Core.List.{List}
 use mathlib.Core.Path.{_≡_, refl, sym, ap, _∙_}
 use lib.ListN.{replicate, length-replicate}
-use native.Mathlib.Omega.{arith}
 use Rattle.semantics.specs.Table.{tableOf}
 use Rattle.semantics.specs.State.{stateOf}
 use Rattle.semantics.specs.Move.{unless}
@@ -22,11 +21,16 @@ use Rattle.wellformed.specs.Held.{stateOf-held}
 use Rattle.state.specs.declared.State.{State}
 use Rattle.state.specs.Working.{stateIn}
 use Rattle.state.specs.Arrays.{HoldsIn}
-use Rattle.log.specs.Form.{sized}
 use Rattle.run.specs.Runs.{ranBy}
 use Rattle.run.specs.Whole.{words-prepared, loaded-workable, ran-whole}
 use Rattle.serial.specs.Recordings.{Recordable, RecordRoom, RecordedAs}
-use Rattle.calls.specs.Serials.{Serializable, afterRun, SerializedAs, Reorderable, reorderedResult, ReorderedAs}
+use Rattle.calls.specs.Serials.{Serializable, Roomy, afterRun, SerializedAs, Reorderable, reorderedResult, ReorderedAs}
+
+-- the arrays of the first pass
+pub record-room : (l wanted out : List ℕ) → Roomy l wanted out → RecordRoom l wanted (replicate 1024 0) (replicate 1024 0) (replicate 1024 0)
+record-room l wanted out r =
+    let one = length-replicate {A = ℕ} 1024 0 in
+    record { origins = r .notes; members = one; ended = one; begun = one }
 
 fitting : (b : Bool) (q : Refusal) (x : Result) → unlessDenied (unless b q) x ≡ cond b x (refuse q)
 fitting true q x = refl
@@ -42,12 +46,6 @@ module _ (t index s l target : List ℕ) (k : Serializable t index s l target) {
         closed = rw (loaded .holds .value) (k .closed);
         workable = loaded-workable s (state-given s t (k .state) .1) loaded;
       }
-
-  pub record-room : RecordRoom l (replicate 4096 0) (replicate 1024 0) (replicate 1024 0) (replicate 1024 0)
-  record-room =
-      let few = sized l (k .sizes) .few in
-      let one = length-replicate {A = ℕ} 1024 0 in
-      record { origins = omega (arith, length-replicate {A = ℕ} 4096 0); members = one; ended = one; begun = one }
 
   module _ {v : Verdict} {place : ℕ} {x′ : State} {origins members before ends : List ℕ} (done : RecordedAs v place lineCeiling (tableOf t) l x x′ origins members before ends) where
     run-by : {u : Verdict} → v ≡ u → runOf lineCeiling t s l ≡ ranBy u place (stateIn x′)

@@ -141,9 +141,8 @@ module _ (t index s l origins members ends target : List ℕ) (k : Reorderable t
         sorted = subst (λ (j : ℕ). take j order ≡ arrangedBy (take j keys)) e (arranged .1)
 
         module _ {x : State} (loaded : HoldsIn x (stateOf s)) where
-          pub replay-asked : (out : List ℕ) → length out ≡ 5121 → Replayable t index x l order origins members lineCeiling out
+          pub replay-asked : (out : List ℕ) → 1 + 5 * moveCount l ≤ length out → Replayable t index x l order origins members lineCeiling out
           replay-asked out m =
-              let f = sized l (k .begun .sizes) .few in
               record {
                 read = record {
                   indexed = words-indexed t s (k .begun .state) (k .begun .starts);
@@ -154,7 +153,7 @@ module _ (t index s l origins members ends target : List ℕ) (k : Reorderable t
                 workable = loaded-workable s (state-given s t (k .begun .state) .1) loaded;
                 places = order-below keys found order sorted (arranged .0);
                 ordered = arranged .0;
-                room = omega arith;
+                room = m;
               }
 
           module _ {fits : Bool} {before after : List ℕ} (done : ReplayedAs fits lineCeiling (tableOf t) (stateIn x) l order origins members before after) where
@@ -175,8 +174,11 @@ module _ (t index s l origins members ends target : List ℕ) (k : Reorderable t
             pub replay-outgrown : fits ≡ false → ReorderedAs t s l target target (Refused SerialTooManyEntries)
             replay-outgrown h = outgrown fits fits-are h
 
-            pub copy-asked : length before ≡ 5121 → (1 + 5 * n ≤ 5121) × (length after ≡ 5121) × (1 + 5 * n ≤ length target)
-            copy-asked m = let r = k .begun .room in (let f = few in omega arith, done .size ∙ m, omega arith)
+            pub copy-asked : 1 + 5 * moveCount l ≤ length before → (1 + 5 * n ≤ length after) × (1 + 5 * n ≤ length target)
+            copy-asked m =
+                let r = k .begun .room in
+                let z = done .size in
+                (omega arith, omega arith)
 
             pub replay-written : fits ≡ true → {written-to : List ℕ} → written-to ≡ over (take (1 + 5 * n) after) target → ReorderedAs t s l target written-to (Written (1 + 5 * n))
             replay-written h {written-to} c = written fits fits-are h before after written-to (1 + 5 * n) (omega arith) (out-is h) c

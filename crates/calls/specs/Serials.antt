@@ -26,6 +26,11 @@ pub record Serializable (t index s l target : List ℕ) : Type 0 where
   pub quiet : beginsEmit (tableOf t) ≡ false
   pub closed : anyOpen (stateOf s) ≡ false
 
+-- arrays that hold four words a move, and the words of the log
+pub record Roomy (l wanted out : List ℕ) : Type 0 where
+  pub notes : 4 * moveCount l ≤ length wanted
+  pub words : 1 + 5 * moveCount l ≤ length out
+
 abbrev pub afterRun : List ℕ → List ℕ → List ℕ → Result
 afterRun t s l = serialAfter lineCeiling t s l (runOf lineCeiling t s l)
 

@@ -1,11 +1,14 @@
 // The serial log.
+ghost use Prim.Native.Nat.{_+_, _*_, _≤_};
 ghost use mathlib.Core.Bool.{true};
 ghost use mathlib.Core.Path.{_≡_};
 ghost use Rattle.semantics.specs.State.{stateSizesOk, stateOf};
+ghost use lib.ListN.{length};
+ghost use Rattle.semantics.specs.Log.{moveCount};
 ghost use Rattle.semantics.specs.Serial.{anyOpen};
 ghost use Rattle.semantics.specs.Answers.{answerOf, serialize, serializeTarget};
 ghost use Rattle.state.specs.Arrays.{Arrays};
-ghost use Rattle.calls.specs.Serials.{Serializable, SerializedAs, Reorderable, ReorderedAs};
+ghost use Rattle.calls.specs.Serials.{Serializable, Roomy, SerializedAs, Reorderable, ReorderedAs};
 use crate::checks::ready;
 use log::count_of;
 use opened::any_open;
@@ -45,9 +48,10 @@ fn reordered<'a>(
     owners: &mut [u32; 1024],
     items: &mut [u32; 1024],
     origins: &mut [u32; 1024],
+    out: &mut [u32],
     target: &mut [u32],
 ) -> Outcome
-    requires { ⌜ Reorderable (now table) (now starts) (now state) (now log) (now wanted) (now members) (now ended) (now target) × Arrays (now owners) (now items) (now origins) ⌝ }
+    requires { ⌜ Reorderable (now table) (now starts) (now state) (now log) (now wanted) (now members) (now ended) (now target) × Arrays (now owners) (now items) (now origins) × (1 + 5 * moveCount (now log) ≤ length (now out)) ⌝ }
     ensures { λ r. ⌜ ReorderedAs (now (table .entry)) (now (state .entry)) (now (log .entry)) (now (target .entry)) (now (target .exit)) r ⌝ }
 {
     let k = count_of(log);
@@ -57,7 +61,6 @@ fn reordered<'a>(
     let mut order = [0u32; 1024];
     order_of(&keys, k, &mut starts_by_key, &mut order);
     let at = load(state, owners, items, origins);
-    let mut out = [0u32; 5121];
     let fits = replay(
         table,
         starts,
@@ -71,13 +74,13 @@ fn reordered<'a>(
         wanted,
         members,
         State::MAX_ENTRIES,
-        &mut out,
+        out,
     );
     if !fits {
         return Outcome::Refused(Refusal::SerialTooManyEntries);
     }
     let n = 1 + 5 * k;
-    copy_words(&out, n, target);
+    copy_words(out, n, target);
     Outcome::Written(n as u32)
 }
 
@@ -87,9 +90,11 @@ fn serialized<'a>(
     starts: &'a [u32; 65],
     state: &'a [u32],
     log: &'a [u32],
+    wanted: &mut [u32],
+    out: &mut [u32],
     target: &mut [u32],
 ) -> Outcome
-    requires { ⌜ Serializable (now table) (now starts) (now state) (now log) (now target) ⌝ }
+    requires { ⌜ Serializable (now table) (now starts) (now state) (now log) (now target) × Roomy (now log) (now wanted) (now out) ⌝ }
     ensures { λ r. ⌜ SerializedAs (now (table .entry)) (now (state .entry)) (now (log .entry)) (now (target .entry)) (now (target .exit)) r ⌝ }
 {
     let s = State::empty();
@@ -97,7 +102,6 @@ fn serialized<'a>(
     let mut items = s.items;
     let mut origins = s.origins;
     let at = load(state, &mut owners, &mut items, &mut origins);
-    let mut wanted = [0u32; 4096];
     let mut members = [0u32; 1024];
     let mut ended = [0u32; 1024];
     let mut begun = [0u32; 1024];
@@ -111,7 +115,7 @@ fn serialized<'a>(
         at.next,
         log,
         State::MAX_ENTRIES,
-        &mut wanted,
+        wanted,
         &mut members,
         &mut ended,
         &mut begun,
@@ -128,14 +132,37 @@ fn serialized<'a>(
         starts,
         state,
         log,
-        &wanted,
+        wanted,
         &members,
         &ended,
         &mut owners,
         &mut items,
         &mut origins,
+        out,
         target,
     )
+}
+
+// The arrays that grow with the log are small for a short one: it would cost more to clear large ones
+// than to serialize it.
+fn roomed<'a>(
+    table: &'a [u32],
+    starts: &'a [u32; 65],
+    state: &'a [u32],
+    log: &'a [u32],
+    target: &mut [u32],
+) -> Outcome
+    requires { ⌜ Serializable (now table) (now starts) (now state) (now log) (now target) ⌝ }
+    ensures { λ r. ⌜ SerializedAs (now (table .entry)) (now (state .entry)) (now (log .entry)) (now (target .entry)) (now (target .exit)) r ⌝ }
+{
+    if count_of(log) <= 128 {
+        let mut wanted = [0u32; 512];
+        let mut out = [0u32; 641];
+        return serialized(table, starts, state, log, &mut wanted, &mut out, target);
+    }
+    let mut wanted = [0u32; 4096];
+    let mut out = [0u32; 5121];
+    serialized(table, starts, state, log, &mut wanted, &mut out, target)
 }
 
 // The log's batches one after another: the words written, or 1 to 4, 13, 6, 14, 15, 16, 15, 17. What
@@ -167,5 +194,5 @@ pub fn serialize<'a>(
     if open_in(state) {
         return Outcome::Refused(Refusal::TransactionOpen);
     }
-    serialized(table, &starts, state, log, target)
+    roomed(table, &starts, state, log, target)
 }

@@ -4,8 +4,8 @@ ghost use mathlib.Core.Path.{_≡_};
 ghost use lib.ListN.{length, take};
 ghost use Rattle.lists.specs.Lists.{over};
 
-pub fn copy_words(from: &[u32; 5121], n: usize, target: &mut [u32])
-    requires { ⌜ (n ≤ 5121) × (length (now from) ≡ 5121) × (n ≤ length (now target)) ⌝ }
+pub fn copy_words(from: &[u32], n: usize, target: &mut [u32])
+    requires { ⌜ (n ≤ length (now from)) × (n ≤ length (now target)) ⌝ }
     ensures { λ _. ⌜ now (target .exit) ≡ over (take n (now (from .entry))) (now (target .entry)) ⌝ }
 {
     let mut i = 0;

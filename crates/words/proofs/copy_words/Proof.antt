@@ -11,22 +11,22 @@ use Rattle.words.proofs.copy_words.Statement.{statement}
 use Rattle.words.proofs.copy_words.Tie as tie
 
 abbrev Inv : tie.InvT-loop
-Inv from n target₀ i₀ target i = (length from ≡ 5121) × Pasting target₀ 0 from n i target
+Inv from n target₀ i₀ target i = Pasting target₀ 0 from n i target
 
 abbrev μ : tie.MeasureT-loop
 μ from n target₀ i₀ target i = n - i
 
 loop-holds : tie.Need-loop-holds Inv μ
-loop-holds c = (c .pre .1, pasting-start _ _ _ _ (omega arith) (omega arith))
+loop-holds c = let p = c .pre in pasting-start _ _ _ _ (omega (arith, p)) (omega (arith, p))
 
 loop-again : tie.Need-loop-again Inv μ
 loop-again c =
     let l = c .before .before .loop in
-    (l .inv .0, rw (zero-add (l .i)) at (pasting-next (l .inv .1) 0 (c .before .loop-test .taken)))
+    rw (zero-add (l .i)) at (pasting-next (l .inv) 0 (c .before .loop-test .taken))
 
 returns : tie.Need-returns Inv μ
 returns c =
-    let p = c .before .loop .inv .1 in
+    let p = c .before .loop .inv in
     pasting-done p (c .loop-test .left) .value ∙ over-column [] _ _ _ (p .enough)
 
 pub copy-words-spec : {M : Type 1} → statement M
