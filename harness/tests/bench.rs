@@ -1,4 +1,4 @@
-//! The benchmark on small sizes; nothing is timed here.
+//! The benchmark and the count on small sizes; nothing is timed here.
 use std::process::Command;
 
 // Catches a benchmark that no longer runs, leaves out a call, or whose inputs the library and the
@@ -10,5 +10,15 @@ fn the_benchmark_runs() {
     assert!(run.status.success(), "{printed}{}", String::from_utf8_lossy(&run.stderr));
     for name in ["check_table", "check_state", "move", "run", "serialize"] {
         assert!(printed.contains(&format!("| {name} ")), "{name} in\n{printed}");
+    }
+}
+
+#[test]
+fn the_count_runs() {
+    for call in ["run", "serialize"] {
+        for kind in ["merges", "global"] {
+            let run = Command::new(env!("CARGO_BIN_EXE_count")).args([call, kind, "16", "16"]).output().unwrap();
+            assert!(run.status.success(), "{call} {kind}: {}", String::from_utf8_lossy(&run.stderr));
+        }
     }
 }
