@@ -2,18 +2,16 @@
 use Prim.Native.Nat.{ℕ, _*_, _≤_}
 use mathlib.Core.Bool.{true}
 use mathlib.Core.List.{List}
-use mathlib.Core.Path.{_≡_, sym, ap, _∙_}
+use mathlib.Core.Path.{_≡_, _∙_}
 use native.Mathlib.Omega.{arith}
 use lib.ListN.{length}
-use borrow.Author.Tests.{le-leb}
 use Rattle.semantics.specs.Table.{sizesOf, numbersOf, tableOf}
-use Rattle.semantics.specs.State.{stateOf, stateWords, stateSizesOk}
+use Rattle.semantics.specs.State.{stateOf, stateSizesOk}
 use Rattle.semantics.specs.Columns as Columns
 use Rattle.semantics.specs.Log.{moveCount, logSizesOk}
-use Rattle.semantics.specs.Answers.{stateVerdict, logVerdict, lineCeiling, write, refuseMove, ranResult, runOf, runResult}
-use Rattle.semantics.specs.declared.Refusal.{Refusal}
+use Rattle.semantics.specs.Answers.{stateVerdict, lineCeiling, runOf}
 use Rattle.semantics.specs.declared.Verdict.{Verdict}
-use Rattle.semantics.specs.declared.Verdict.the-variants.{Allowed, Denied}
+use Rattle.semantics.specs.declared.Verdict.the-variants.{Allowed}
 use Rattle.wellformed.specs.Verdicts.{state-given}
 use Rattle.table.specs.Index.{Starts}
 use Rattle.state.specs.declared.State.{State}
@@ -50,18 +48,3 @@ module _ (S : List ℕ) (z : stateSizesOk S ≡ true) {s : State} (h : HoldsIn s
 module _ (T S L : List ℕ) {s : State} (h : HoldsIn s (stateOf S)) {ceiling : ℕ} {v : Verdict} {place : ℕ} {s′ : State} (ran : RanAs v place ceiling (tableOf T) L s s′) where
   pub ran-whole : ranBy v place (stateIn s′) ≡ runOf ceiling T S L
   ran-whole = ran .value ∙ rw (h .holds .value)
-
-  module _ (given : logVerdict T S L ≡ Allowed) (target : List ℕ) (room : 2050 ≤ length target) where
-    result-by : {w : Verdict} → v ≡ w → runResult ceiling T S L target ≡ ranResult (ranBy w place (stateIn s′))
-    unfolding runResult
-    result-by e =
-        rw (given, le-leb 2050 (length target) room)
-        (ap ranResult (sym ran-whole) ∙ ap (λ (w : Verdict). ranResult (ranBy w place (stateIn s′))) e)
-
-    -- an accepted log's words
-    pub result-ended : v ≡ Allowed → runResult ceiling T S L target ≡ write (stateWords (stateIn s′))
-    result-ended e = result-by e
-
-    -- 16 with the place and the own number
-    pub result-refused : {q : Refusal} → v ≡ Denied q → runResult ceiling T S L target ≡ refuseMove place q
-    result-refused e = result-by e

@@ -6,7 +6,7 @@ use mathlib.Core.List.{List}
 use native.Mathlib.Omega.{arith}
 use lib.ListN.{set}
 use Rattle.lists.specs.Lists.{oneIf}
-use Rattle.lists.specs.Sift.{sift, Sifting, sifting-start, sifting-from, sifting-turn, sifting-done}
+use Rattle.lists.specs.Sift.{sift, Sifting, sifting-from, sifting-turn, sifting-done}
 use Rattle.semantics.specs.State as semantics
 use Rattle.semantics.specs.State.{Entry}
 use Rattle.state.specs.Working.{entryFrom, entryIn, stateIn, Holds}
@@ -31,11 +31,6 @@ pub record Compacting (q : ℕ → Entry → Bool) (f : Entry → Entry) (s : St
   pub next : s .next ≡ σ .next
 
 module _ (q : ℕ → Entry → Bool) (f : Entry → Entry) where
-  pub compacting-start : (s : State) (es : List Entry) → sift q f 0 (stateIn s .entries) ≡ es → Arrays (s .owners) (s .items) (s .origins) → s .len ≤ 1024
-      → Compacting q f s (s .len) 0 0 (record { next = s .next; entries = es })
-  unfolding stateIn
-  compacting-start s es e a h = record { arrays = a; sifting = rw (← e) (sifting-start q f (entryIn s) (s .len)); small = h; next = refl }
-
   -- the loop may begin behind entries that stay as they are
   pub compacting-from : (s : State) (es : List Entry) → sift q f 0 (stateIn s .entries) ≡ es → Arrays (s .owners) (s .items) (s .origins) → s .len ≤ 1024
       → (i : ℕ) → i ≤ s .len → ((k : ℕ) → k < i → (q k (entryIn s k) ≡ true) × (entryIn s k ≡ f (entryIn s k)))

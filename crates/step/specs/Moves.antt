@@ -6,14 +6,14 @@ use mathlib.Core.List.{List, _∷_}
 use native.Mathlib.Omega.{arith}
 use lib.Dec.{ltb, leb, eqb}
 use lib.ListN.{length, drop, take}
-use borrow.Author.Tests.{ltb-true, lt-ltb, le-ltb, eqb-true, eqb-false, eq-eqb, ne-eqb, le-leb}
+use borrow.Author.Tests.{lt-ltb, le-ltb, eqb-true, eqb-false, eq-eqb, ne-eqb, le-leb}
 use Rattle.lists.specs.Lists.{all}
-use Rattle.lists.specs.Choices.{by-bool, and-three}
+use Rattle.lists.specs.Choices.{by-bool}
 use Rattle.lists.specs.Tests.{and-false, and-true}
 use Rattle.semantics.specs.Words.{headKind, headNumber}
 use Rattle.semantics.specs.Table.{Table, sizesOf, tableOf, ruleAt, consumed}
 use Rattle.semantics.specs.State as semantics
-use Rattle.semantics.specs.Move.{Move, react, commit, abort, unless, both, isZero, picksUsed, headOk, moveOk, moveOf, reacted, isOpen, mayCommit, mayAbort, ended, allowed, applied, moveVerdict}
+use Rattle.semantics.specs.Move.{Move, react, commit, abort, unless, both, isZero, moveOk, moveOf, reacted, isOpen, mayCommit, mayAbort, ended, allowed, applied, moveVerdict}
 use Rattle.semantics.specs.declared.Refusal.the-variants.{NoTransaction, EndNotAllowed}
 use Rattle.semantics.specs.declared.Sizes.{Sizes}
 use Rattle.semantics.specs.declared.Verdict.{Verdict}
@@ -37,10 +37,6 @@ pub record IsMove (t : Table) (x : Rule) (head : ℕ) (picks : List ℕ) : Type 
 -- ---- form
 
 module _ (t : Table) (head : ℕ) (picks : List ℕ) where
-  pub form-head : moveOk t (head ∷ picks) ≡ true → headOk t head ≡ true
-  unfolding moveOk
-  form-head h = and-three (eqb (length (head ∷ picks)) 5) (headOk t head) (all isZero (drop (picksUsed t head) picks)) h .1
-
   module _ (four : length picks ≡ 4) where
     pub form-end : (headKind head ≡ 0 → ⊥)
         → leb (headKind head) 2 && leb 1 (headNumber head) && leb (headNumber head) 65535 && all isZero (drop 0 picks) ≡ moveOk t (head ∷ picks)
@@ -70,12 +66,6 @@ module _ (t : List ℕ) {z : Sizes} (e : z ≡ sizesOf t) where
     form-rule h =
         let l : headNumber head < length (tableOf t .rules) = omega (arith, rules-read, length-rules t) in
         sym (and-true _ (lt-ltb _ _ l)) ∙ form-react (tableOf t) head picks four k
-
--- a reaction's head names a rule
-pub head-below : (t : List ℕ) (head : ℕ) → headOk (tableOf t) head ≡ true → headKind head ≡ 0 → headNumber head < sizesOf t .rules
-head-below t head h k =
-    let e : ltb (headNumber head) (length (tableOf t .rules)) ≡ true = rw (eq-eqb (headKind head) 0 k) at h in
-    ltb-true (headNumber head) (sizesOf t .rules) (rw (length-rules t) at e)
 
 -- ---- the move in the words
 
