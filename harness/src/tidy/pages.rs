@@ -21,8 +21,40 @@ pub fn stale_edits(tree: &Tree) -> Vec<Finding> {
         if !edit.text.lines().any(|line| line.starts_with("old: ")) {
             found.push(edit.at(1, "replaces nothing"));
         }
+        if !edit.text.starts_with("# ") {
+            found.push(edit.at(1, "does not say what it breaks"));
+        }
     }
     found
+}
+
+/// Crates that stand above one that they depend on, and dependencies that no file of theirs names.
+pub fn layers(tree: &Tree) -> Vec<Finding> {
+    let page = tree.file("crates.txt").unwrap_or_else(|| panic!("no crates.txt"));
+    let crates = tree.crates();
+    let mut found = Vec::new();
+    for (number, line) in page.lines().filter(|(_, line)| !line.starts_with('#')) {
+        let Some((own, needs)) = line.split_once(':') else { continue };
+        for need in needs.split_whitespace() {
+            let Some((below, _)) = crates.iter().find(|(_, name)| *name == need) else { continue };
+            if *below > number {
+                found.push(page.at(number, format!("{own} stands above {need}, which it needs")));
+            }
+            if !names_crate(tree, own, need) {
+                found.push(page.at(number, format!("{own} names nothing of {need}")));
+            }
+        }
+    }
+    found
+}
+
+/// Whether a file of this crate names something of that one.
+fn names_crate(tree: &Tree, own: &str, need: &str) -> bool {
+    let (in_code, in_theory) = (format!("{need}::"), format!("Rattle.{need}."));
+    let is_path = |before: &str| !before.ends_with(|sign: char| sign.is_alphanumeric() || sign == '_' || sign == ':');
+    let named = |text: &str| text.match_indices(&in_code).any(|(place, _)| is_path(&text[..place]));
+    let files = tree.files.iter().filter(|file| file.place().is_some_and(|(name, _)| name == own));
+    files.into_iter().any(|file| file.text.contains(&in_theory) || named(&file.text))
 }
 
 const ARCHITECTURE: &str = "docs/ARCHITECTURE.md";
@@ -93,13 +125,33 @@ mod tests {
             ("crates/a/must-fail/twice.edit", "# why\nfile: src/lib.rt\nold: one\nnew: x\nold: two\nnew: x\n"),
             ("crates/a/must-fail/gone.edit", "# why\nfile: src/other.rt\nold: one\nnew: x\n"),
             ("crates/a/must-fail/empty.edit", "# why\nfile: src/lib.rt\n"),
+            ("crates/a/must-fail/silent.edit", "file: src/lib.rt\nold: one\nnew: x\n"),
         ]);
         let wanted = [
             "crates/a/must-fail/twice.edit:5: the old text stands 2 times in crates/a/src/lib.rt",
             "crates/a/must-fail/gone.edit:3: the old text stands 0 times in crates/a/src/other.rt",
             "crates/a/must-fail/empty.edit:1: replaces nothing",
+            "crates/a/must-fail/silent.edit:1: does not say what it breaks",
         ];
         assert_eq!(shown(stale_edits(&tree)), wanted);
+    }
+
+    // Catches a layer out of its order, and a dependency that is no longer one.
+    #[test]
+    fn layers_are_held() {
+        let tree = Tree::of(&[
+            ("crates.txt", "# all\nhigh: low mid none io\nlow:\nmid: low\nnone:\n"),
+            ("crates/high/src/lib.rt", "use low::f;\nuse other_none::f;\nuse crate::none::f;\n"),
+            ("crates/high/proofs/f/Proof.antt", "use Rattle.mid.specs.A.{x}\n"),
+            ("crates/mid/src/lib.rt", "low::f()\n"),
+        ]);
+        let wanted = [
+            "crates.txt:2: high stands above low, which it needs",
+            "crates.txt:2: high stands above mid, which it needs",
+            "crates.txt:2: high stands above none, which it needs",
+            "crates.txt:2: high names nothing of none",
+        ];
+        assert_eq!(shown(layers(&tree)), wanted);
     }
 
     // Catches a crate that the page forgets, and one that it goes on naming.
