@@ -31,4 +31,5 @@ pub mod Decoded
 pub mod LogWords
 pub mod RunWords
 pub mod Demand3
+pub mod PublicCalls
 pub mod Instances

@@ -1,7 +1,7 @@
 use mathlib.Core.Path.{sym, ap, _∙_}
 use native.Mathlib.Omega.{arith}
 use Rattle.semantics.specs.Table.{tableOf}
-use Rattle.semantics.specs.TableLaws.{well-formed}
+use Rattle.wellformed.specs.Tables.{well-formed}
 use Rattle.semantics.specs.declared.Sizes.{Sizes}
 use Rattle.step.specs.Moves.{below-rules}
 use Rattle.serial.proofs.Used.{used-end, used-no-rule, used-rule}
