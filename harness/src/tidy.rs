@@ -140,7 +140,7 @@ pub struct Rule {
     pub find: fn(&Tree) -> Vec<Finding>,
 }
 
-pub const RULES: [Rule; 16] = [
+pub const RULES: [Rule; 17] = [
     Rule { name: "cited", says: "something cites every definition and law", find: cites::uncited },
     Rule {
         name: "theorems",
@@ -176,6 +176,7 @@ pub const RULES: [Rule; 16] = [
     },
     Rule { name: "crates", says: "docs/ARCHITECTURE.md has the crates of crates.txt", find: pages::crates_named },
     Rule { name: "layers", says: "crates.txt goes from low to high and has only what is needed", find: pages::layers },
+    Rule { name: "pages", says: "the files and names that a page shows are there", find: pages::stale_names },
     Rule { name: "outside", says: "no text points outside the repository", find: pages::outside },
 ];
 

@@ -102,6 +102,12 @@ fn crates_stand_in_layers() {
 }
 
 #[test]
+#[ignore = "the tree has findings"]
+fn pages_name_what_is_there() {
+    holds("pages");
+}
+
+#[test]
 fn nothing_points_outside() {
     holds("outside");
 }

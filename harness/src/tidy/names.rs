@@ -102,11 +102,7 @@ mod tests {
         assert_eq!(declared_twice(&tree).len(), 2);
     }
 
-    // Catches a law that is proved again under other names of its variables or with other brackets,
-    // and two statements that only look alike.
-    #[test]
-    fn statements_of_two_files_are_found() {
-        let low = "\
+    const LOW_LAWS: &str = "\
 law : {A : Type 0} (xs ys : List A) → xs ≡ ys
 law = x
 apart : (n m : ℕ) → n + m ≡ n
@@ -120,7 +116,7 @@ type = x
 function : (n : ℕ) → ℕ
 function = x
 ";
-        let high = "\
+    const HIGH_LAWS: &str = "\
 module _ {B : Type 0} (unused : T) where
   module _ (us : List B) where
     mine : (vs : List B)
@@ -142,9 +138,14 @@ function = x
 abbrev short : (n m : ℕ) → n + m ≡ n
 short = x
 ";
+
+    // Catches a law that is proved again under other names of its variables or with other brackets,
+    // and two statements that only look alike.
+    #[test]
+    fn statements_of_two_files_are_found() {
         let tree = Tree::of(&[
-            ("crates/high/specs/High.antt", high),
-            ("crates/low/specs/Low.antt", low),
+            ("crates/high/specs/High.antt", HIGH_LAWS),
+            ("crates/low/specs/Low.antt", LOW_LAWS),
             ("crates.txt", CRATES),
         ]);
         let wanted = [

@@ -1,5 +1,7 @@
 //! Texts that name other files: the edits of must-fail/, the architecture, and all that is committed.
-use super::{Finding, Part, Tree};
+use std::collections::BTreeSet;
+
+use super::{File, Finding, Part, Tree};
 use crate::markdown::{prose, rows};
 
 /// Edits whose old text does not stand once in the file that they change.
@@ -79,6 +81,59 @@ pub fn crates_named(tree: &Tree) -> Vec<Finding> {
     let row = |name: &str| page.lines().find(|(_, line)| line.starts_with('|') && line.contains(&format!("`{name}`")));
     let gone = gone.map(|name| page.at(row(name).map_or(1, |row| row.0), format!("{name} is no crate")));
     unnamed.chain(gone).collect()
+}
+
+/// Files and names that a page shows as code and that are not there. A path with a part of one letter
+/// is a pattern, and only a name that has the form of ours is looked for.
+pub fn stale_names(tree: &Tree) -> Vec<Finding> {
+    let (pages, others): (Vec<&File>, Vec<&File>) = tree.files.iter().partition(|file| file.path.ends_with(".md"));
+    let is_part = |sign: char| sign.is_alphanumeric() || "_-′".contains(sign);
+    let words = others.iter().flat_map(|file| file.text.split(|sign| !is_part(sign)));
+    let paths = others.iter().flat_map(|file| file.path.split(['/', '.']));
+    let known: BTreeSet<&str> = words.chain(paths).collect();
+    let there = |path: &str| others.iter().any(|file| file.path == path || file.path.ends_with(&format!("/{path}")));
+    let mut found = Vec::new();
+    for page in pages {
+        for (number, shown) in code_in(page) {
+            let gone = if is_path(shown) { !there(shown) } else { is_name(shown) && !known.contains(shown) };
+            if gone {
+                found.push(page.at(number, format!("{shown} is not there")));
+            }
+        }
+    }
+    found
+}
+
+/// What the lines of a page outside its blocks show as code.
+fn code_in(page: &File) -> Vec<(usize, &str)> {
+    let mut inside = false;
+    let mut found = Vec::new();
+    for (number, line) in page.lines() {
+        inside ^= line.starts_with("```");
+        if !inside {
+            found.extend(line.split('`').skip(1).step_by(2).map(|shown| (number, shown)));
+        }
+    }
+    found
+}
+
+/// Whether this is the path of a file of code, definitions or proofs.
+fn is_path(shown: &str) -> bool {
+    let plain = shown.chars().all(|sign| sign.is_ascii_alphanumeric() || "/_.".contains(sign));
+    let is_file = [".rt", ".antt", ".rs"].iter().any(|ending| shown.ends_with(ending));
+    plain && is_file && !shown.starts_with("..") && shown.split(['/', '.']).all(|part| part.len() > 1)
+}
+
+/// Whether this is a name of more than one word, and none of C's.
+fn is_name(shown: &str) -> bool {
+    let begins = shown.starts_with(|sign: char| sign.is_ascii_alphabetic());
+    let plain = shown.chars().all(|sign| sign.is_ascii_alphanumeric() || "_-".contains(sign));
+    let has_small = shown.contains(|sign: char| sign.is_ascii_lowercase());
+    let signs: Vec<char> = shown.chars().collect();
+    let joined = signs
+        .windows(2)
+        .any(|pair| pair[0].is_ascii_lowercase() && !pair[1].is_ascii_lowercase() && !pair[1].is_ascii_digit());
+    begins && plain && has_small && joined
 }
 
 /// Folders that are not the repository's, but for the toolchain's own.
@@ -162,6 +217,21 @@ mod tests {
         let wanted =
             ["crates.txt:3: b is not in the table of docs/ARCHITECTURE.md", "docs/ARCHITECTURE.md:5: gone is no crate"];
         assert_eq!(shown(crates_named(&tree)), wanted);
+    }
+
+    // Catches a page that goes on naming what was renamed.
+    #[test]
+    fn stale_names_are_found() {
+        let page = "`a_one`, `a-two`, `aThree`, `AFour`\n```\n`gone_here`\n```\n`src/m.rt`, `gone_name`, `is-gone`, `goneName`\n\
+            `a/src/lib.rt`, `src/gone.rt`, `NOT_OURS`, `x`, `rt dev x-y`, `u32`, `gone-`\n";
+        let tree = Tree::of(&[
+            ("docs/A.md", page),
+            ("crates/a/src/lib.rt", "fn a_one(x: &u32) requires { ⌜ AFour ⌝ }\n"),
+            ("crates/a/specs/A.antt", "a-two : aThree [] ≡ x\n"),
+        ]);
+        let gone = |line: usize, name: &str| format!("docs/A.md:{line}: {name} is not there");
+        let wanted = [(5, "gone_name"), (5, "is-gone"), (5, "goneName"), (6, "src/gone.rt"), (6, "gone-")];
+        assert_eq!(shown(stale_names(&tree)), wanted.map(|(line, name)| gone(line, name)));
     }
 
     // Catches a path of the machine on which something was written.
