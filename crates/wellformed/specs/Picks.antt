@@ -99,8 +99,8 @@ module _ {R : Rule} {s : State} {ps : List ℕ} (g : ReactGiven R s ps) where
       go true h = ltb-true 0 o (and-left (ltb 0 o) (eqb o (least (ownersAt s ps))) (all-each (λ o. ltb 0 o && eqb o (least (ownersAt s ps))) (ownersAt s ps) h o m))
       go false h = ltb-true 0 o (all-each (λ o. ltb 0 o) (ownersAt s ps) h o m)
 
-  pub least-zero : R .class ≡ 0 → least (ownersAt s ps) ≡ 0
-  least-zero c = go (ownersAt s ps) (owners-zero c)
+  pub home-zero : R .class ≡ 0 → least (ownersAt s ps) ≡ 0
+  home-zero c = go (ownersAt s ps) (owners-zero c)
     where
       go : (os : List ℕ) → ((o : ℕ) → Among o os → o ≡ 0) → least os ≡ 0
       go [] f = refl
