@@ -15,10 +15,10 @@ use Rattle.lists.specs.Smallest.{least-among}
 use Rattle.lists.specs.Removed.{keep-without, length-without}
 use Rattle.semantics.specs.Table.{Rule, consumed}
 use Rattle.semantics.specs.State.{Entry, State, isMessage, isMemberMark}
-use Rattle.semantics.specs.Move.{unless, both, isZero, nothing, entryAt, picked, onPorts, picksOk, ownersAt, ownersFit, hasId, reactAllowed}
+use Rattle.semantics.specs.Move.{isZero, nothing, entryAt, picked, onPorts, picksOk, ownersAt, ownersFit, hasId, reactFaults, reactAllowed}
 use Rattle.semantics.specs.declared.Refusal.the-variants.{WrongPick, WrongOwner, NoMoreIds}
 use Rattle.semantics.specs.declared.Verdict.the-variants.{Allowed}
-use Rattle.wellformed.specs.Verdicts.{both-allowed, unless-allowed}
+use Rattle.wellformed.specs.Verdicts.{unless-allowed, passed-each}
 
 pub onPorts-messages : (ports : List ℕ) (es : List Entry) → onPorts ports es ≡ true → (e : Entry) → Among e es → e .kind ≡ 0
 onPorts-messages [] [] h e m = absurd m
@@ -54,8 +54,7 @@ module _ (R : Rule) (s : State) (ps : List ℕ) where
 
   pub react-given : reactAllowed R s ps ≡ Allowed → ReactGiven
   react-given h =
-      let (a, l) = both-allowed (unless (picksOk R s ps) WrongPick) (both (unless (ownersFit (R .class) (ownersAt s ps)) WrongOwner) (unless (hasId R s) NoMoreIds)) h in
-      let (b, c) = both-allowed (unless (ownersFit (R .class) (ownersAt s ps)) WrongOwner) (unless (hasId R s) NoMoreIds) l in
+      let (a, (b, (c, _))) = passed-each (reactFaults R s ps) h in
       let k = unless-allowed (picksOk R s ps) WrongPick a in
       record {
         different = and-left (distinct ps) (onPorts (consumed R) (picked s ps)) k;

@@ -16,11 +16,10 @@ use Rattle.lists.specs.Walk.{drop-step}
 use Rattle.lists.specs.Ahead.{Tails}
 use Rattle.semantics.specs.Table.{sizesOf}
 use Rattle.semantics.specs.State.{Entry, entryOf, entriesOf, entryCount, nextOf, ownersOf, itemsOf, stateOf, stateSizesOk, entriesOk}
-use Rattle.semantics.specs.Move.{unless}
-use Rattle.semantics.specs.Answers.{tableVerdict, stateOwnVerdict, stateVerdict}
+use Rattle.semantics.specs.Answers.{tableVerdict, stateOwnFaults, stateOwnVerdict, stateVerdict}
 use Rattle.semantics.specs.declared.Refusal.the-variants.{StateSizes, StateContents}
 use Rattle.semantics.specs.declared.Verdict.the-variants.{Allowed}
-use Rattle.wellformed.specs.Verdicts.{both-allowed, unless-allowed}
+use Rattle.wellformed.specs.Verdicts.{both-allowed, unless-allowed, passed-each}
 
 -- ---- entries
 
@@ -79,10 +78,9 @@ pub state-given : (s t : List ℕ) → stateVerdict t s ≡ Allowed
     → (tableVerdict t ≡ Allowed) × (stateSizesOk s ≡ true) × (entriesOk (sizesOf t) (stateOf s) ≡ true)
 unfolding stateVerdict stateOwnVerdict
 state-given s t h =
-    let entries = entriesOk (sizesOf t) (stateOf s) in
     let (table, own) = both-allowed (tableVerdict t) (stateOwnVerdict (sizesOf t) s) h in
-    let (sizes, contents) = both-allowed (unless (stateSizesOk s) StateSizes) (unless entries StateContents) own in
-    (table, unless-allowed (stateSizesOk s) StateSizes sizes, unless-allowed entries StateContents contents)
+    let (sizes, (contents, _)) = passed-each (stateOwnFaults (sizesOf t) s) own in
+    (table, unless-allowed (stateSizesOk s) StateSizes sizes, unless-allowed (entriesOk (sizesOf t) (stateOf s)) StateContents contents)
 
 -- ---- the columns, as code cuts them out
 pub owners-part : (s : List ℕ) (n : ℕ) → n ≡ entryCount s → take (2 + n - 2) (drop 2 s) ≡ ownersOf s

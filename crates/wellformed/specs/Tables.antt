@@ -20,14 +20,13 @@ use Rattle.semantics.specs.Words.{atomRole, portOf}
 use Rattle.semantics.specs.Table.{sizesOf, numbersOf, atomWordsOf, ruleWords, portCount, sizesWithin, tableSizesOk, occurs, numbersOk}
 use Rattle.semantics.specs.Table.{isRole, modeOk, consumeOk, emitOk, markOk, beginOk, innerOk, compensateOk, atomOk, shapeOf, ruleOk, rulesOk, tableContentsOk}
 use Rattle.semantics.specs.Table.{atomOf, Rule, ruleOf, tableOf, noRule, ruleAt, hasRole, consumed, productAtoms}
-use Rattle.semantics.specs.Move.{unless}
-use Rattle.semantics.specs.Answers.{tableVerdict}
+use Rattle.semantics.specs.Answers.{tableFaults, tableVerdict}
 use Rattle.semantics.specs.declared.Sizes.{Sizes}
 use Rattle.semantics.specs.declared.Shape.{Shape}
 use Rattle.semantics.specs.declared.Atom.{Atom}
 use Rattle.semantics.specs.declared.Refusal.the-variants.{TableSizes, TableContents}
 use Rattle.semantics.specs.declared.Verdict.the-variants.{Allowed}
-use Rattle.wellformed.specs.Verdicts.{both-allowed, unless-allowed}
+use Rattle.wellformed.specs.Verdicts.{unless-allowed, passed-each}
 
 -- ---- sizes and length
 
@@ -86,7 +85,7 @@ pub record WellFormed (t : List ℕ) : Type 0 where
 pub table-given : (t : List ℕ) → tableVerdict t ≡ Allowed → (tableSizesOk t ≡ true) × (tableContentsOk t ≡ true)
 unfolding tableVerdict
 table-given t h =
-    let (sizes, contents) = both-allowed (unless (tableSizesOk t) TableSizes) (unless (tableContentsOk t) TableContents) h in
+    let (sizes, (contents, _)) = passed-each (tableFaults t) h in
     (unless-allowed (tableSizesOk t) TableSizes sizes, unless-allowed (tableContentsOk t) TableContents contents)
 
 pub well-formed : (t : List ℕ) → tableVerdict t ≡ Allowed → WellFormed t
@@ -188,6 +187,7 @@ module _ (t : List ℕ) where
 
 -- the n consumes of a rule come first
 pub record LegalRule (n : ℕ) (r : Rule) : Type 0 where
+  pub some : 1 ≤ n
   pub most : n ≤ 4
   pub within : n ≤ length (r .atoms)
   pub consumed : consumed r ≡ map (λ a. a .port) (take n (r .atoms))
@@ -210,6 +210,7 @@ module _ (z : Sizes) (ws : List ℕ) where
       let first = zeros-first (λ (a : Atom). a .role) 0 (map atomOf ws) (rises-map atomOf (λ (a : Atom). a .role) 0 ws ∙ f .rises) in
       let n = count-map atomOf (hasRole 0) ws in
       record {
+        some = f .some;
         most = f .most;
         within = rw length-map (count-le (isRole 0) ws);
         consumed = ap (map (λ a. a .port)) (first .zero ∙ ap (λ (k : ℕ). take k (map atomOf ws)) n);
