@@ -23,7 +23,7 @@ use Rattle.wellformed.specs.Tables.{sizes-tableOf}
 use Rattle.wellformed.specs.Rules.{table-right}
 use Rattle.wellformed.specs.Step.{AcceptedMove, accepted-move}
 use Rattle.wellformed.specs.Held.{Held, step-holds}
-use Rattle.serializability.specs.Shapes.{table-shaped}
+use Rattle.cells.specs.Shapes.{table-shaped}
 use Rattle.state.specs.declared.State.{State}
 use Rattle.state.specs.Working.{originOf, stateIn}
 use Rattle.step.specs.Make.{MadeAs}

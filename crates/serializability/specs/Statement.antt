@@ -7,11 +7,11 @@ use mathlib.Core.Path.{_≡_}
 use lib.Dec.{eqb}
 use lib.ListN.{length, getD, take, drop}
 use Rattle.lists.specs.Lists.{all, any, keep, count, least, upFrom}
-use Rattle.semantics.specs.Table.{Table, ruleAt, begins, tableOf}
+use Rattle.semantics.specs.Table.{Table, tableOf}
 use Rattle.semantics.specs.State.{Origin, Entry, State, owned, markValues, stateOf, stateWords}
 use Rattle.semantics.specs.Move.{Move, react, commit, abort, picked, entriesIn, allowed, applied, moveOf}
 use Rattle.semantics.specs.Log.{moveCount, movesOf, logSizesOk, logWords, ended}
-use Rattle.semantics.specs.Serial.{beginsEmit, anyOpen, Act, originsOf, marksIn, after, acts, isEnd, isInner, sameOrigin, belongsTo, ordered, serial, along, fits}
+use Rattle.semantics.specs.Serial.{beginsEmit, anyOpen, Act, originsOf, marksIn, after, acts, isEnd, isBegin, isInner, sameOrigin, belongsTo, ordered, serial, along, fits}
 use Rattle.semantics.specs.Answers.{stateVerdict, lineCeiling, runOf, serialOf, write, refuse, runResult, runLog, runLogTarget, serialResult, serialize, serializeTarget}
 use Rattle.semantics.specs.declared.Refusal.the-variants.{SerialTooManyEntries}
 use Rattle.semantics.specs.declared.Verdict.the-variants.{Allowed}
@@ -56,11 +56,6 @@ hasOrigin o e = sameOrigin o (e .origin)
 -- stands past the last move
 abbrev pub noMove : Move
 noMove = react 0 []
-
-abbrev pub isBegin : Table → Move → Bool
-isBegin t (react r ps) = begins (ruleAt t r)
-isBegin t (commit b) = false
-isBegin t (abort b) = false
 
 -- a ends a member that x begins, or in whose transaction x is made
 abbrev pub endsMemberOf : Act → Act → Bool
