@@ -45,10 +45,13 @@ allowed-owns : (t : Table) (s : State) (m : Move) → Owns (allowed t s m)
 unfolding allowed
 allowed-owns t s (react r ps) =
     let R = ruleAt t r in
-    owns-first (reactFaults R s ps)
-    (owns-unless (picksOk R s ps) WrongPick (omega arith) (omega arith),
-    (owns-unless (ownersFit (R .class) (ownersAt s ps)) WrongOwner (omega arith) (omega arith),
-    (owns-unless (hasId R s) NoMoreIds (omega arith) (omega arith), tt)))
+    owns-first (reactFaults R s ps) (
+      owns-unless (picksOk R s ps) WrongPick (omega arith) (omega arith),
+      (
+        owns-unless (ownersFit (R .class) (ownersAt s ps)) WrongOwner (omega arith) (omega arith),
+        (owns-unless (hasId R s) NoMoreIds (omega arith) (omega arith), tt),
+      ),
+    )
 allowed-owns t s (commit b) = ends-own (mayCommit t b s) b s
 allowed-owns t s (abort b) = ends-own (mayAbort b s) b s
 
