@@ -1,4 +1,4 @@
-pub mod Ready
+pub mod Results
 pub mod Logs
 pub mod Moves
 pub mod Serials

@@ -1,18 +1,20 @@
 // The three parts of the program's input: where they lie, and the verdict on them.
 use crate::least;
+use ready::ready;
 use semantics::Refusal;
 use semantics::Verdict;
 ghost use Prim.Native.Nat.{_<_};
 ghost use mathlib.Core.Path.{_≡_};
 ghost use lib.ListN.{getD};
-ghost use Rattle.semantics.specs.Move.{both};
+ghost use mathlib.Core.List.{[], _∷_};
+ghost use Rattle.semantics.specs.Move.{firstFault};
 ghost use Rattle.semantics.specs.Move as Move;
-ghost use Rattle.semantics.specs.Answers.{tableVerdict, logVerdict};
+ghost use Rattle.semantics.specs.Log.{logSizesOk};
 ghost use Rattle.semantics.specs.declared.Refusal.the-variants.{LogSizes};
 ghost use Rattle.intake.specs.Split.{CutAt, SplitAs};
 
-// The table ends at state_at, the state goes on to log_at and the log to end. Of a table that is
-// Allowed, starts is the index of its rules.
+// The table ends at state_at, the state goes on to log_at and the log to end. Of an input that is
+// Allowed, starts is the index of its table's rules.
 pub struct Parts {
     pub verdict: Verdict,
     pub starts: [u32; 65],
@@ -63,23 +65,13 @@ fn unless(ok: bool, r: Refusal) -> Verdict
     }
 }
 
-// The first fault counts; `first` is the table's, and `whole` that no bytes are left over.
-fn verdict_of<'a>(
-    first: Verdict,
-    table: &'a [u32],
-    state: &'a [u32],
-    log: &'a [u32],
-    whole: bool,
-) -> Verdict
-    requires { ⌜ first ≡ tableVerdict (now table) ⌝ }
-    ensures { λ r. ⌜ r ≡ both (logVerdict (now (table .entry)) (now (state .entry)) (now (log .entry))) (Move.unless whole LogSizes) ⌝ }
+// The first fault counts: `first` is that of table and state, and `whole` says that no bytes are left
+// over.
+fn verdict_of(first: Verdict, log: &[u32], whole: bool) -> Verdict
+    ensures { λ r. ⌜ r ≡ firstFault (first ∷ Move.unless (logSizesOk (now (log .entry))) LogSizes ∷ Move.unless whole LogSizes ∷ []) ⌝ }
 {
-    if let Verdict::Denied(of_table) = first {
-        return Verdict::Denied(of_table);
-    }
-    let second = state::check(table::sizes_of(table), state);
-    if let Verdict::Denied(of_state) = second {
-        return Verdict::Denied(of_state);
+    if let Verdict::Denied(refusal) = first {
+        return Verdict::Denied(refusal);
     }
     unless(log::sizes_ok(log) & whole, Refusal::LogSizes)
 }
@@ -93,17 +85,10 @@ pub fn split(words: &[u32], bytes: usize) -> Parts
     let state_at = cuts.state_at;
     let log_at = cuts.log_at;
     let end = cuts.end;
-    let table = &words[..state_at];
-    let checked = table::check(table);
+    let checked = ready(&words[..state_at], &words[state_at..log_at]);
     let first = checked.verdict;
     let starts = checked.starts;
-    let verdict = verdict_of(
-        first,
-        table,
-        &words[state_at..log_at],
-        &words[log_at..end],
-        bytes == 4 * end,
-    );
+    let verdict = verdict_of(first, &words[log_at..end], bytes == 4 * end);
     Parts {
         verdict,
         starts,
