@@ -1,6 +1,5 @@
 -- The verdict on an input, from those on its parts: the first fault counts.
 use Prim.Native.Nat.{ℕ, _-_, _*_}
-use mathlib.Core.Bool.{Bool, true, false, _&&_}
 use mathlib.Core.List.{List, [], _∷_}
 use mathlib.Core.Path.{_≡_, refl, sym, _∙_}
 use lib.Dec.{eqb}
@@ -9,7 +8,6 @@ use Rattle.semantics.specs.Log.{logSizesOk}
 use Rattle.semantics.specs.Move.{unless, both, firstFault}
 use Rattle.semantics.specs.Answers.{stateVerdict, logVerdict}
 use Rattle.semantics.specs.Program.{partsOf, inputVerdict}
-use Rattle.semantics.specs.declared.Refusal.{Refusal}
 use Rattle.semantics.specs.declared.Refusal.the-variants.{LogSizes}
 use Rattle.semantics.specs.declared.Verdict.{Verdict}
 use Rattle.semantics.specs.declared.Verdict.the-variants.{Allowed, Denied}
@@ -17,11 +15,6 @@ use Rattle.table.specs.declared.verdict.Checked.{Checked}
 use Rattle.ready.specs.Ready.{ReadyAs}
 use Rattle.intake.specs.Split.{CutAt, SplitAs, cut-words, accepted-input}
 use Rattle.intake.specs.declared.parts.Parts.{Parts}
-
--- two tests with one refusal are one test
-pub one-test : (a b : Bool) (r : Refusal) → unless (a && b) r ≡ both (unless a r) (unless b r)
-one-test true b r = refl
-one-test false b r = refl
 
 both-three : (a b c : Verdict) → both a (both b c) ≡ both (both a b) c
 both-three Allowed b c = refl
@@ -39,5 +32,8 @@ pub split-as :
 unfolding inputVerdict logVerdict
 split-as ws bytes p cut c k s e =
     let k : ReadyAs (partsOf ws .table) (partsOf ws .state) c = rw (cut .table, cut .state) at k in
-    let v : p .verdict ≡ inputVerdict ws bytes = rw (cut-words cut) (rw (cut .log, k .verdict) at e ∙ both-three _ _ _) in
+    let q = partsOf ws in
+    let log = unless (logSizesOk (q .log)) LogSizes in
+    let v : p .verdict ≡ inputVerdict ws bytes =
+    rw (cut-words cut) (rw (cut .log, k .verdict) at e ∙ both-three (stateVerdict (q .table) (q .state)) log (unless (eqb bytes (4 * p .end)) LogSizes)) in
     record { verdict = v; cut = cut; ready = λ h. rw s (k .ready (accepted-input (sym v ∙ h) .state)) }

@@ -7,8 +7,7 @@ ghost use Prim.Native.Nat.{_<_};
 ghost use mathlib.Core.Path.{_≡_};
 ghost use lib.ListN.{getD};
 ghost use mathlib.Core.List.{[], _∷_};
-ghost use Rattle.semantics.specs.Move.{firstFault};
-ghost use Rattle.semantics.specs.Move as Move;
+ghost use Rattle.semantics.specs.Move.{unless, firstFault};
 ghost use Rattle.semantics.specs.Log.{logSizesOk};
 ghost use Rattle.semantics.specs.declared.Refusal.the-variants.{LogSizes};
 ghost use Rattle.intake.specs.Split.{CutAt, SplitAs};
@@ -55,25 +54,21 @@ fn cuts_of(words: &[u32]) -> Cuts
     }
 }
 
-fn unless(ok: bool, r: Refusal) -> Verdict
-    ensures { λ v. ⌜ v ≡ Move.unless ok r ⌝ }
-{
-    if ok {
-        Verdict::Allowed
-    } else {
-        Verdict::Denied(r)
-    }
-}
-
 // The first fault counts: `first` is that of table and state, and `whole` says that no bytes are left
 // over.
 fn verdict_of(first: Verdict, log: &[u32], whole: bool) -> Verdict
-    ensures { λ r. ⌜ r ≡ firstFault (first ∷ Move.unless (logSizesOk (now (log .entry))) LogSizes ∷ Move.unless whole LogSizes ∷ []) ⌝ }
+    ensures { λ r. ⌜ r ≡ firstFault (first ∷ unless (logSizesOk (now (log .entry))) LogSizes ∷ unless whole LogSizes ∷ []) ⌝ }
 {
     if let Verdict::Denied(refusal) = first {
         return Verdict::Denied(refusal);
     }
-    unless(log::sizes_ok(log) & whole, Refusal::LogSizes)
+    if !log::sizes_ok(log) {
+        return Verdict::Denied(Refusal::LogSizes);
+    }
+    if !whole {
+        return Verdict::Denied(Refusal::LogSizes);
+    }
+    Verdict::Allowed
 }
 
 // Where the three parts of an input of so many bytes lie, and the verdict on it. The words are those

@@ -7,8 +7,8 @@ use Rattle.intake.proofs.parts.split.Tie as tie
 
 returns : tie.Need-returns
 returns c =
-    let k = c .before .before .before .before in
-    split-as _ _ _ (k .before .before .before .before .cuts-of .ensures) (k .ready .result) (k .ready .ensures) refl (c .verdict-of .ensures)
+    let k = c .before .before .before in
+    split-as _ _ _ (k .before .before .before .cuts-of .ensures) (k .ready .result) (k .ready .ensures) refl (c .verdict-of .ensures)
 
 pub split-spec : {M : Type 1} → statement M
 split-spec =
@@ -19,8 +19,8 @@ split-spec =
     (λ c. search needs)
     (λ c. search needs)
     (λ c. search needs)
-    (λ c κs. search needs)
     (λ c. search needs)
+    (λ c κs. search needs)
     (λ c. search needs)
     (λ c. search needs)
     (λ c. search needs)
