@@ -20,7 +20,7 @@ use Rattle.serializability.specs.Link.{Good}
 use Rattle.serializability.specs.Marks.{MarkAt}
 use Rattle.serializability.specs.Fate.{LogRuns, NoneOpen, next-good, key-bound}
 use Rattle.serializability.specs.Follow.{seenAfter, log-rest, place-length, ender-not, follow}
-use Rattle.state.specs.Working.{originOf}
+use Rattle.words.specs.Origin.{originOf}
 use Rattle.serial.specs.Acts.{Recorded, concerns, endAfter, keyBy}
 use Rattle.serial_laws.specs.Splits.{place-split, All-split, map-same}
 use Rattle.serial_laws.specs.EndPlace.{BeginsFirst}

@@ -22,9 +22,9 @@ use crate::few::smallest;
 use crate::react::at_picks;
 use semantics::Atom;
 use semantics::AtomValue;
-use state::item::item_of;
-use state::item::value_of;
 use table::decode::Rule;
+use words::item::item_of;
+use words::item::value_of;
 
 // Those from place 1 on move down by one. A distance that is a constant, from place 0 of a slice: of such a loop LLVM makes a memmove.
 fn down_one(part: &mut [u32])
