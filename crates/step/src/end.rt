@@ -14,6 +14,8 @@ ghost use Rattle.step.specs.Working.{stateFrom, Columns};
 ghost use Rattle.step.specs.End.{NoneBefore, Surveyed, endVerdict};
 use semantics::Refusal;
 use semantics::Verdict;
+use words::head;
+use words::item;
 
 // The place of the transaction's first entry, n where it has none: what is before it matters to no end.
 pub fn first_owned(owners: &[u32; 1024], n: usize, id: u32) -> usize
@@ -55,11 +57,11 @@ fn surveyed<'a>(
     while i < n {
         let owned = owners[i] == id;
         let item = items[i];
-        let kind = item / 16777216;
-        let port = item / 65536 % 256;
+        let kind = item::kind_of(item);
+        let port = item::port_of(item);
         open = open | owned;
-        aborting = aborting | (owned & (kind == 2));
-        inside = inside | (owned & ((kind == 0) & (globals <= port)));
+        aborting = aborting | (owned & (kind == item::ABORT_MARK));
+        inside = inside | (owned & ((kind == item::MESSAGE) & (globals <= port)));
         i += 1;
     }
     Survey {
@@ -73,7 +75,7 @@ fn surveyed<'a>(
 fn may_end(kind: u32, aborting: bool, inside: bool) -> bool
     ensures { λ r. ⌜ r ≡ cond (eqb kind 1) (not (aborting || inside)) aborting ⌝ }
 {
-    if kind == 1 {
+    if kind == head::COMMIT {
         !(aborting | inside)
     } else {
         aborting
@@ -114,7 +116,11 @@ fn owner_after(owner: u32, id: u32) -> u32
 fn item_after(owner: u32, item: u32, id: u32) -> u32
     ensures { λ r. ⌜ r ≡ cond (eqb owner id) (item % 2 ^ 24) item ⌝ }
 {
-    if owner == id { item % 16777216 } else { item }
+    if owner == id {
+        item::as_message(item)
+    } else {
+        item
+    }
 }
 
 // 1 where an entry stays, else 0.
@@ -122,7 +128,7 @@ fn stays(owner: u32, item: u32, id: u32, kind: u32) -> usize
     ensures { λ r. ⌜ (r ≡ oneIf (not (eqb owner id) || eqb (itemKind item) kind)) × (r ≤ 1) ⌝ }
 {
     if owner == id {
-        if item / 16777216 == kind { 1 } else { 0 }
+        if item::kind_of(item) == kind { 1 } else { 0 }
     } else {
         1
     }

@@ -25,6 +25,7 @@ use semantics::AtomValue;
 use table::decode::Rule;
 use words::item::item_of;
 use words::item::value_of;
+use words::origin::origin_of;
 
 // Those from place 1 on move down by one. A distance that is a constant, from place 0 of a slice: of such a loop LLVM makes a memmove.
 fn down_one(part: &mut [u32])
@@ -221,7 +222,7 @@ fn append_products(
         let w = n + q;
         owners[w] = owner_made(class, atom.role, home, next);
         items[w] = item_made(atom, received, next);
-        origins[w] = maker * 1024 + (q as u32);
+        origins[w] = origin_of(maker, q as u32);
         q += 1;
     }
     n + made
