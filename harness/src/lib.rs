@@ -11,6 +11,7 @@ pub mod plain;
 pub mod program;
 pub mod random;
 pub mod stack;
+pub mod tidy;
 pub mod two_lot;
 pub mod words;
 

@@ -17,7 +17,7 @@ use Rattle.semantics.specs.declared.Refusal.the-variants.{SerialTooManyEntries}
 use Rattle.semantics.specs.declared.Outcome.{Outcome}
 use Rattle.semantics.specs.declared.Outcome.the-variants.{Written, Refused}
 use Rattle.serializability.specs.Demand3.{demand3}
-use Rattle.log.specs.Form.{Sized, sized}
+use Rattle.log.specs.Form.{LogSized, log-sized}
 use Rattle.semantics.specs.Move.{Move}
 use Rattle.wellformed.specs.Verdicts.{state-given}
 use Rattle.state.specs.declared.State.{State}
@@ -90,7 +90,7 @@ module _ (t index s l origins members ends target : List ℕ) (k : Reorderable t
       -- what the replay asks
       pub order-below : length order ≡ 1024 → (j : ℕ) → j < moveCount l → getD order j 0 < moveCount l
       order-below n j h =
-          let m = sized l (k .begun .sizes) .few in
+          let m = log-sized l (k .begun .sizes) .few in
           let e = getD-take (moveCount l) order j 0 h in
           let b = All-getD (λ p. p < moveCount l) 0 (take (moveCount l) order) j below (omega (arith, length-take-le (moveCount l) order (omega arith))) in
           omega arith
@@ -124,10 +124,10 @@ module _ (t index s l origins members ends target : List ℕ) (k : Reorderable t
 
   module _ (n : ℕ) (e : n ≡ moveCount l) where
     few : n ≤ 1024
-    few = let m = sized l (k .begun .sizes) .few in omega arith
+    few = let m = log-sized l (k .begun .sizes) .few in omega arith
 
-    pub keys-asked : Sized l × (n ≤ moveCount l) × (length members ≡ 1024) × (length ends ≡ 1024)
-    keys-asked = (sized l (k .begun .sizes), omega arith, k .record-sizes .1, k .record-sizes .2)
+    pub keys-asked : LogSized l × (n ≤ moveCount l) × (length members ≡ 1024) × (length ends ≡ 1024)
+    keys-asked = (log-sized l (k .begun .sizes), omega arith, k .record-sizes .1, k .record-sizes .2)
 
     module _ {keys : List ℕ} (keyed : KeysOf l members ends n keys) where
       found : KeysOf l members ends (moveCount l) keys
@@ -146,7 +146,7 @@ module _ (t index s l origins members ends target : List ℕ) (k : Reorderable t
               record {
                 read = record {
                   indexed = words-indexed t s (k .begun .state) (k .begun .starts);
-                  log = sized l (k .begun .sizes);
+                  log = log-sized l (k .begun .sizes);
                   picked = k .record-sizes .0;
                   marked = k .record-sizes .1;
                 };

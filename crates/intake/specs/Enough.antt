@@ -12,9 +12,9 @@ use lib.Seq.{getD-take, take-take, take-all, length-take-le}
 use Rattle.lists.specs.Tests.{and-both}
 use Rattle.lists.specs.Beginning.{drop-take}
 use Rattle.semantics.specs.Table.{sizesOf, tableSizesOk}
-use Rattle.semantics.specs.TableLaws as TableLaws
+use Rattle.wellformed.specs.Tables as Tables
 use Rattle.semantics.specs.State.{stateSizesOk}
-use Rattle.semantics.specs.Columns as Columns
+use Rattle.wellformed.specs.States as States
 use Rattle.semantics.specs.Log.{moveCount, logSizesOk}
 use Rattle.semantics.specs.Move.{unless, both}
 use Rattle.semantics.specs.Answers.{tableVerdict, stateOwnVerdict, stateVerdict, logVerdict}
@@ -50,13 +50,13 @@ module _ (ws : List ℕ) where
   unfolding tableVerdict
   table-over h =
       let same : getD (tablePart ws) 4 0 ≡ getD ws 4 0 = getD-take (5 + 2 * getD ws 4 0) ws 4 0 (omega arith) in
-      rw (fails (tableSizesOk (tablePart ws)) (λ yes. let z = TableLaws.sized (tablePart ws) yes in omega arith))
+      rw (fails (tableSizesOk (tablePart ws)) (λ yes. let z = Tables.table-sized (tablePart ws) yes in omega arith))
 
   state-over : (z : Sizes) → 1024 < getD ws 0 0 → stateOwnVerdict z (statePart ws) ≡ Denied StateSizes
   unfolding stateOwnVerdict
   state-over z h =
       let same : getD (statePart ws) 0 0 ≡ getD ws 0 0 = getD-take (2 + 2 * getD ws 0 0) ws 0 0 (omega arith) in
-      rw (fails (stateSizesOk (statePart ws)) (λ yes. let z = Columns.sized (statePart ws) yes in omega arith))
+      rw (fails (stateSizesOk (statePart ws)) (λ yes. let z = States.state-sized (statePart ws) yes in omega arith))
 
 state-enough : (m : ℕ) (z : Sizes) (ws : List ℕ) → 2050 ≤ m → stateOwnVerdict z (statePart (take m ws)) ≡ stateOwnVerdict z (statePart ws)
 state-enough m z ws h = go (leb (getD ws 0 0) 1024) refl
@@ -108,8 +108,8 @@ parts-few : (p : Parts) → stateVerdict (p .table) (p .state) ≡ Allowed → l
 unfolding stateVerdict stateOwnVerdict
 parts-few p h l =
     let (t, s) = both-allowed _ _ h in
-    let z = TableLaws.well-formed (p .table) t .sizes in
-    let n = Columns.sized (p .state) (unless-allowed (stateSizesOk (p .state)) StateSizes (both-allowed _ _ s .0)) in
+    let z = Tables.well-formed (p .table) t .sizes in
+    let n = States.state-sized (p .state) (unless-allowed (stateSizesOk (p .state)) StateSizes (both-allowed _ _ s .0)) in
     omega (arith, log-few (p .log) l)
 
 long-verdict :

@@ -9,18 +9,18 @@ use borrow.Author.Tests.{leb-true, eqb-true}
 use Rattle.lists.specs.Tests.{and-both}
 use Rattle.semantics.specs.Log.{moveCount, logSizesOk}
 
-pub record Sized (l : List ℕ) : Type 0 where
+pub record LogSized (l : List ℕ) : Type 0 where
   pub few : moveCount l ≤ 1024
   pub whole : length l ≡ 1 + 5 * moveCount l
 
-pub sized : (l : List ℕ) → logSizesOk l ≡ true → Sized l
+pub log-sized : (l : List ℕ) → logSizesOk l ≡ true → LogSized l
 unfolding logSizesOk
-sized l h =
+log-sized l h =
     let (some, rest) = and-both (leb 1 (length l)) (leb (moveCount l) 1024 && eqb (length l) (1 + 5 * moveCount l)) h in
     let (few, whole) = and-both (leb (moveCount l) 1024) (eqb (length l) (1 + 5 * moveCount l)) rest in
     record { few = leb-true (moveCount l) 1024 few; whole = eqb-true (length l) (1 + 5 * moveCount l) whole }
 
 -- a move stands at place i of a log in order
 pub record Place (l : List ℕ) (i : ℕ) : Type 0 where
-  pub sizes : Sized l
+  pub sizes : LogSized l
   pub within : i < moveCount l

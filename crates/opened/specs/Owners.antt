@@ -12,7 +12,7 @@ use Rattle.lists.specs.Parts.{any-map}
 use Rattle.lists.specs.Rows.{rows-take, map-rows}
 use Rattle.semantics.specs.State as semantics
 use Rattle.semantics.specs.State.{Entry, entryCount, ownersOf, itemsOf, stateSizesOk, stateOf}
-use Rattle.semantics.specs.Columns.{sized}
+use Rattle.wellformed.specs.States.{state-sized}
 use Rattle.semantics.specs.Serial.{anyOpen}
 use Rattle.wellformed.specs.RoundTrip.{owners-entriesOf}
 use Rattle.state.specs.Working.{rowOf, stateIn, held}
@@ -31,6 +31,6 @@ open-held os ws gs n next h = by-owners (stateIn (held os ws gs n next)) (take n
 pub open-words : (s : List ℕ) → stateSizesOk s ≡ true → {n : ℕ} → n ≡ entryCount s → someOwned (take n (ownersOf s)) ≡ anyOpen (stateOf s)
 unfolding stateOf
 open-words s ok {n} e =
-    let z = sized s ok in
+    let z = state-sized s ok in
     ap someOwned (take-all n (ownersOf s) (omega (arith, z .owners)))
     ∙ by-owners (stateOf s) (ownersOf s) (owners-entriesOf 0 (ownersOf s) (itemsOf s) (z .owners ∙ sym (z .items)))

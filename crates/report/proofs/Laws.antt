@@ -17,7 +17,7 @@ use Rattle.semantics.specs.declared.Verdict.the-variants.{Allowed, Denied}
 use Rattle.intake.specs.Gather.{Gathered, gathered-all}
 use Rattle.intake.specs.Split.{SplitAs, accepted, both-allowed, unless-allowed}
 use Rattle.intake.specs.declared.parts.Parts as intake
-use Rattle.log.specs.Form.{sized}
+use Rattle.log.specs.Form.{log-sized}
 use Rattle.state.specs.declared.State.{State}
 use Rattle.state.specs.Working.{stateIn}
 use Rattle.state.specs.Arrays.{HoldsIn}
@@ -70,7 +70,7 @@ module _ {ws : List ℕ} {bytes : ℕ} {p : intake.Parts} (h : SplitAs ws bytes 
     prepared =
         let a = accepted (sym (h .verdict) ∙ allowed) in
         rw (h .cut .table, h .cut .state, h .cut .log) (
-          record { indexed = record { table = a .table; starts = h .starts allowed }; log = sized _ (a .log) },
+          record { indexed = record { table = a .table; starts = h .starts allowed }; log = log-sized _ (a .log) },
           unless-allowed (stateSizesOk (partsOf ws .state)) StateSizes (both-allowed _ _ (a .state) .0),
         )
 

@@ -18,7 +18,7 @@ use Rattle.semantics.specs.declared.Verdict.{Verdict}
 use Rattle.semantics.specs.declared.Verdict.the-variants.{Allowed, Denied}
 use Rattle.state.specs.declared.State.{State}
 use Rattle.state.specs.Working.{stateIn}
-use Rattle.log.specs.Form.{Sized}
+use Rattle.log.specs.Form.{LogSized}
 use Rattle.step.specs.Make.{Indexed, Workable, MadeAs}
 
 -- ---- contracts
@@ -26,7 +26,7 @@ use Rattle.step.specs.Make.{Indexed, Workable, MadeAs}
 -- an accepted table with the index of its rules, and a log in order
 pub record Prepared (t index l : List ℕ) : Type 0 where
   pub indexed : Indexed t index
-  pub log : Sized l
+  pub log : LogSized l
 
 -- the moves of a log at the places before i
 abbrev pub movesBefore : List ℕ → ℕ → List (List ℕ)

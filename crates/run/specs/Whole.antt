@@ -7,7 +7,7 @@ use native.Mathlib.Omega.{arith}
 use lib.ListN.{length}
 use Rattle.semantics.specs.Table.{sizesOf, numbersOf, tableOf}
 use Rattle.semantics.specs.State.{stateOf, stateSizesOk}
-use Rattle.semantics.specs.Columns as Columns
+use Rattle.wellformed.specs.States as States
 use Rattle.semantics.specs.Log.{moveCount, logSizesOk}
 use Rattle.semantics.specs.Answers.{stateVerdict, lineCeiling, runOf}
 use Rattle.semantics.specs.declared.Verdict.{Verdict}
@@ -17,7 +17,7 @@ use Rattle.table.specs.Index.{Starts}
 use Rattle.state.specs.declared.State.{State}
 use Rattle.state.specs.Working.{stateIn}
 use Rattle.state.specs.Arrays.{HoldsIn, held-next}
-use Rattle.log.specs.Form.{sized}
+use Rattle.log.specs.Form.{log-sized}
 use Rattle.step.specs.Make.{Workable, Indexed}
 use Rattle.run.specs.Runs.{Prepared, RanAs, ranBy}
 use Rattle.run.specs.Lines.{Traceable}
@@ -29,14 +29,14 @@ module _ (T S : List ℕ) {index : List ℕ} (ok : stateVerdict T S ≡ Allowed)
   words-indexed = record { table = state-given S T ok .0; starts = starts }
 
   pub words-prepared : {L : List ℕ} → logSizesOk L ≡ true → Prepared T index L
-  words-prepared {L} sizes = record { indexed = words-indexed; log = sized L sizes }
+  words-prepared {L} sizes = record { indexed = words-indexed; log = log-sized L sizes }
 
 module _ (S : List ℕ) (z : stateSizesOk S ≡ true) {s : State} (h : HoldsIn s (stateOf S)) where
   pub loaded-workable : Workable s lineCeiling
   unfolding stateOf
   loaded-workable = record {
     arrays = h .arrays;
-    bounds = record { fits = h .holds .fits; next = omega (arith, held-next (h .holds), Columns.sized S z .last) };
+    bounds = record { fits = h .holds .fits; next = omega (arith, held-next (h .holds), States.state-sized S z .last) };
     limit = omega arith;
   }
 

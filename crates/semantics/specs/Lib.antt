@@ -1,12 +1,10 @@
 pub mod Words
 pub mod Table
 pub mod State
-pub mod Columns
 pub mod Move
 pub mod Log
 pub mod Serial
 pub mod Answers
-pub mod TableLaws
 pub mod Cases
 pub mod OddCases
 pub mod Program

@@ -75,6 +75,11 @@ isEnd (react r ps) = false
 isEnd (commit b) = true
 isEnd (abort b) = true
 
+abbrev pub isBegin : Table → Move → Bool
+isBegin t (react r ps) = begins (ruleAt t r)
+isBegin t (commit b) = false
+isBegin t (abort b) = false
+
 -- an opening, or a move made in a batch
 abbrev pub isInner : Act → Bool
 isInner a = not (isEnd (a .move)) && not (isEmpty (a .members))

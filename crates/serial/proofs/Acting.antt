@@ -26,8 +26,8 @@ use Rattle.wellformed.specs.Rules.{RuleRight, TableRight}
 use Rattle.wellformed.specs.Entries.{Sound}
 use Rattle.wellformed.specs.Picks.{ReactGiven, react-given, picks-length, pick-lt, owners-zero, owners-positive}
 use Rattle.wellformed.specs.Preservation.{RuleKnown, rule-known}
-use Rattle.serializability.specs.Rules.{Shape, plain, begin, inner}
-use Rattle.serializability.specs.Shapes.{table-shaped}
+use Rattle.cells.specs.Rules.{Shape, plain, begin, inner}
+use Rattle.cells.specs.Shapes.{table-shaped}
 use Rattle.state.specs.declared.State.{State}
 use Rattle.words.specs.Origin.{originOf}
 use Rattle.state.specs.Working.{rowOf, entryIn, stateIn}

@@ -22,7 +22,7 @@ use Rattle.wellformed.specs.Verdicts.{sizes-tableOf, denied≢allowed}
 use Rattle.wellformed.specs.Rules.{table-right}
 use Rattle.wellformed.specs.Step.{Accepted, accepted}
 use Rattle.wellformed.specs.Held.{Held, step-holds}
-use Rattle.serializability.specs.Shapes.{table-shaped}
+use Rattle.cells.specs.Shapes.{table-shaped}
 use Rattle.state.specs.declared.State.{State}
 use Rattle.words.specs.Origin.{originOf}
 use Rattle.state.specs.Working.{stateIn}

@@ -18,7 +18,7 @@ use Rattle.semantics.specs.Serial.{Act, placeOf, replayed}
 use Rattle.state.specs.declared.State.{State}
 use Rattle.words.specs.Origin.{originOf}
 use Rattle.step.specs.Make.{Indexed, Workable}
-use Rattle.log.specs.Form.{Sized}
+use Rattle.log.specs.Form.{LogSized}
 use Rattle.serial.specs.Acts.{Recorded, Replays, replayFits}
 
 -- the place of the first entry of the origin in a word
@@ -40,7 +40,7 @@ pub record Words (t : Table) (es : List Entry) (l origins members : List ℕ) (p
 -- what is read in every turn
 pub record Readable (t index l origins members : List ℕ) : Type 0 where
   pub indexed : Indexed t index
-  pub log : Sized l
+  pub log : LogSized l
   pub picked : 4 * moveCount l ≤ length origins
   pub marked : length members ≡ 1024
 

@@ -16,14 +16,14 @@ use Rattle.semantics.specs.Serial.{Act, marksIn, after, isEnd, placeOf, again, 
 use Rattle.wellformed.specs.Rules.{TableRight}
 use Rattle.wellformed.specs.Entries.{Sound}
 use Rattle.wellformed.specs.Preservation.{RuleKnown, applied-keeps}
-use Rattle.serializability.specs.Base.{isInO}
-use Rattle.serializability.specs.View.{Uniq, place-found, kept-look, origin-look}
-use Rattle.serializability.specs.Key.{Deed, actOf}
-use Rattle.serializability.specs.Actions.{Seen, astep, end-ok}
-use Rattle.serializability.specs.Moves.{after-allowed}
-use Rattle.serializability.specs.Link.{marked, marked-mark}
-use Rattle.serializability.specs.Fate.{LogRuns}
-use Rattle.serializability.specs.Replay.{Again, reacts, commits, aborts, Goes, Agains, again-known}
+use Rattle.cells.specs.Origins.{isInO}
+use Rattle.cells.specs.ByOrigin.{Uniq, place-found, kept-look, origin-look}
+use Rattle.cells.specs.Deeds.{Deed, actOf}
+use Rattle.cells.specs.Actions.{Seen, astep, end-ok}
+use Rattle.cells.specs.Moves.{after-allowed}
+use Rattle.cells.specs.Simulation.{marked, marked-mark}
+use Rattle.serializability.specs.SameKey.{LogRuns}
+use Rattle.cells.specs.Replay.{Again, reacts, commits, aborts, Goes, Agains, again-known}
 use Rattle.serializability.specs.LogWords.{Holdable, words-ok, words-back}
 use Rattle.serializability.specs.RunWords.{all-holdable}
 use Rattle.serial.specs.Acts.{idOf, Replays}

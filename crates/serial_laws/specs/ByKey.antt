@@ -9,7 +9,7 @@ use lib.ListN.{length, getD, length-map}
 use Rattle.lists.specs.Lists.{keep, keepIf}
 use Rattle.lists.specs.Each.{All, All-map, All-append}
 use Rattle.semantics.specs.Serial.{Act}
-use Rattle.serializability.specs.Key.{Deed, actOf}
+use Rattle.cells.specs.Deeds.{Deed, actOf}
 use Rattle.serializability.specs.Sort.{keyIs, arrange}
 use Rattle.serial.specs.Order.{placesOfKey, placesFrom, arrangedBy}
 

@@ -14,10 +14,10 @@ use Rattle.lists.specs.Members.{Among, any-some, among-left}
 use Rattle.semantics.specs.Table.{Table}
 use Rattle.semantics.specs.State.{Origin}
 use Rattle.semantics.specs.Move.{Move, react, commit, abort}
-use Rattle.semantics.specs.Serial.{Act, isEnd, isInner, sameOrigin}
-use Rattle.serializability.specs.Statement.{isBegin, endsMemberOf}
-use Rattle.serializability.specs.Base.{same-eq, isInO-head, isInO-cons}
-use Rattle.serializability.specs.Marks.{firstOf}
+use Rattle.semantics.specs.Serial.{Act, isEnd, isInner, sameOrigin, isBegin}
+use Rattle.serializability.specs.Statement.{endsMemberOf}
+use Rattle.cells.specs.Origins.{same-eq, isInO-head, isInO-cons}
+use Rattle.cells.specs.Marks.{firstOf}
 use Rattle.serial.specs.Acts.{concerns, endsBegun, endAfter}
 use Rattle.serial_laws.specs.Splits.{among-split, All-split, All-among}
 

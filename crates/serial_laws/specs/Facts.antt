@@ -22,7 +22,7 @@ use Rattle.wellformed.specs.Verdicts.{table-given, sizes-given, length-rules, s
 use Rattle.wellformed.specs.Rules.{TableRight}
 use Rattle.wellformed.specs.Preservation.{RuleKnown}
 use Rattle.serializability.specs.Statement.{Accepted, movesIn, Serializable}
-use Rattle.serializability.specs.Start.{Start}
+use Rattle.cells.specs.Start.{Start}
 use Rattle.serializability.specs.LogWords.{moves-count}
 use Rattle.serializability.specs.RunWords.{run-accepted}
 use Rattle.serializability.specs.Demand3 as Demand3

@@ -12,14 +12,16 @@ use Rattle.lists.specs.Each.{All, All-map, any-found, empty-nil}
 use Rattle.semantics.specs.Table.{Table}
 use Rattle.semantics.specs.State.{Origin}
 use Rattle.semantics.specs.Serial.{Act, isEnd, isInner, sameOrigin}
-use Rattle.serializability.specs.Base.{isInO, same-eq}
-use Rattle.serializability.specs.Rules.{Shaped}
-use Rattle.serializability.specs.Key.{Deed, actOf, ender, ender-ge, keyOf, key-full}
-use Rattle.serializability.specs.Actions.{Seen, astep, end-ok}
-use Rattle.serializability.specs.Link.{Good}
-use Rattle.serializability.specs.Marks.{MarkAt}
-use Rattle.serializability.specs.Fate.{LogRuns, NoneOpen, next-good, key-bound}
-use Rattle.serializability.specs.Follow.{seenAfter, log-rest, place-length, ender-not, follow}
+use Rattle.cells.specs.Origins.{isInO, same-eq}
+use Rattle.cells.specs.Rules.{Shaped}
+use Rattle.cells.specs.Deeds.{Deed, actOf}
+use Rattle.serializability.specs.Keys.{ender, ender-ge, keyOf, key-full}
+use Rattle.cells.specs.Actions.{Seen, astep, end-ok}
+use Rattle.cells.specs.Simulation.{Good}
+use Rattle.cells.specs.Marks.{MarkAt}
+use Rattle.serializability.specs.SameKey.{LogRuns, next-good, key-bound}
+use Rattle.cells.specs.Steps.{NoneOpen}
+use Rattle.serializability.specs.FollowMark.{seenAfter, log-rest, place-length, ender-not, follow}
 use Rattle.words.specs.Origin.{originOf}
 use Rattle.serial.specs.Acts.{Recorded, concerns, endAfter, keyBy}
 use Rattle.serial_laws.specs.Splits.{place-split, All-split, map-same}

@@ -17,17 +17,19 @@ use Rattle.semantics.specs.Serial.{Act, beginsEmit, anyOpen, after, acts, isEnd
 use Rattle.wellformed.specs.Rules.{TableRight}
 use Rattle.wellformed.specs.Preservation.{RuleKnown}
 use Rattle.serializability.specs.Statement.{Accepted, Serial}
-use Rattle.serializability.specs.Rules.{Shaped}
-use Rattle.serializability.specs.Shapes.{table-shaped}
-use Rattle.serializability.specs.Key.{Deed, actOf, deeds, acts-deeds, deeds-length}
-use Rattle.serializability.specs.Link.{view, Good}
-use Rattle.serializability.specs.Marks.{firstOf}
-use Rattle.serializability.specs.Fate.{LogRuns, NoneOpen, runs, pairs, key-bound}
-use Rattle.serializability.specs.First.{log-runs}
+use Rattle.cells.specs.Rules.{Shaped}
+use Rattle.cells.specs.Shapes.{table-shaped}
+use Rattle.cells.specs.Deeds.{Deed, actOf}
+use Rattle.serializability.specs.Keys.{deeds, acts-deeds, deeds-length}
+use Rattle.cells.specs.Simulation.{view, Good}
+use Rattle.cells.specs.Marks.{firstOf}
+use Rattle.serializability.specs.SameKey.{LogRuns, runs, pairs, key-bound}
+use Rattle.cells.specs.Steps.{NoneOpen}
+use Rattle.serializability.specs.LogOnCells.{log-runs}
 use Rattle.serializability.specs.Sort.{isort, sort-runs, arrange-isort, All-isort}
 use Rattle.serializability.specs.Blocks.{order-sorted}
-use Rattle.serializability.specs.Replay.{Ends, replay-runs}
-use Rattle.serializability.specs.Start.{Start, uniq-numbered, closed-view, good-start, rel-start}
+use Rattle.cells.specs.Replay.{Ends, replay-runs}
+use Rattle.cells.specs.Start.{Start, uniq-numbered, closed-view, good-start, rel-start}
 use Rattle.serializability.specs.Decoded.{serial-decoded}
 use Rattle.serial.specs.Acts.{concerns, endAfter, Replays, replayFits}
 use Rattle.serial.specs.Order.{arrangedBy}

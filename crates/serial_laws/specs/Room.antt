@@ -10,8 +10,8 @@ use Rattle.semantics.specs.Table.{Table}
 use Rattle.semantics.specs.State.{State}
 use Rattle.semantics.specs.Serial.{Act, after, again, replayed, along, fits}
 use Rattle.wellformed.specs.Bare.{bare, bareState, allowed-same, applied-same}
-use Rattle.serializability.specs.Moves.{after-allowed}
-use Rattle.serializability.specs.Replay.{Goes}
+use Rattle.cells.specs.Moves.{after-allowed}
+use Rattle.cells.specs.Replay.{Goes}
 use Rattle.serial.specs.Acts.{replayFits}
 
 -- states that differ in origins alone have as many entries

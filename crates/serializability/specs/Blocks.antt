@@ -16,15 +16,17 @@ use Rattle.lists.specs.Each.{All, All-map, empty-nil, any-found, keep-same, kee
 use Rattle.semantics.specs.Table.{Table}
 use Rattle.semantics.specs.State.{Origin, Entry, isMemberMark, owned}
 use Rattle.semantics.specs.Serial.{Act, isEnd, isInner, sameOrigin, belongsTo, block, ordered}
-use Rattle.serializability.specs.Base.{isInO, found-at}
-use Rattle.serializability.specs.Rules.{Shaped}
-use Rattle.serializability.specs.Key.{Deed, actOf, ender, keyOf, ender-ge, key-full}
-use Rattle.serializability.specs.Actions.{Seen, astep, markOf, EndOk, end-ok}
-use Rattle.serializability.specs.Link.{Good}
-use Rattle.serializability.specs.Marks.{MarkAt}
-use Rattle.serializability.specs.Fate.{LogRuns, NoneOpen, next-good, places, key-bound}
+use Rattle.cells.specs.Origins.{isInO, found-at}
+use Rattle.cells.specs.Rules.{Shaped}
+use Rattle.cells.specs.Deeds.{Deed, actOf}
+use Rattle.serializability.specs.Keys.{ender, keyOf, ender-ge, key-full}
+use Rattle.cells.specs.Actions.{Seen, astep, markOf, EndOk, end-ok}
+use Rattle.cells.specs.Simulation.{Good}
+use Rattle.cells.specs.Marks.{MarkAt}
+use Rattle.serializability.specs.SameKey.{LogRuns, next-good, places, key-bound}
+use Rattle.cells.specs.Steps.{NoneOpen}
 use Rattle.serializability.specs.Sort.{isort, keyIs, arrange, arrange-isort}
-use Rattle.serializability.specs.Follow.{seenAfter, log-rest, place-length, ender-not, follow, Follows}
+use Rattle.serializability.specs.FollowMark.{seenAfter, log-rest, place-length, ender-not, follow, Follows}
 
 -- x and a have a member in common
 abbrev pub shares : Deed → Deed → Bool

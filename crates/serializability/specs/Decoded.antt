@@ -12,29 +12,32 @@ use Rattle.lists.specs.Each.{All, All-unmap, map-split}
 use Rattle.semantics.specs.Table.{Table}
 use Rattle.semantics.specs.State.{Origin, Entry, State, owned, stateWords}
 use Rattle.semantics.specs.Move.{Move, applied}
-use Rattle.semantics.specs.Serial.{Act, beginsEmit, anyOpen, sameOrigin, after, acts, isEnd, isInner, belongsTo, ordered, again, replayed, serial, along}
-use Rattle.serializability.specs.Statement.{Accepted, orderOf, placesOf, stateBefore, SameMove, hasOrigin, noMove, isBegin, endsMemberOf, isGlobal, Serial}
-use Rattle.serializability.specs.View.{Uniq}
-use Rattle.serializability.specs.Rules.{Shaped}
-use Rattle.serializability.specs.Shapes.{table-shaped}
-use Rattle.serializability.specs.Key.{Deed, actOf, deeds, acts-deeds, deeds-length, deeds-places}
-use Rattle.serializability.specs.Moves.{after-allowed}
-use Rattle.serializability.specs.Link.{view, Good}
-use Rattle.serializability.specs.Fate.{LogRuns, runs, NoneOpen, pairs}
-use Rattle.serializability.specs.First.{log-runs}
+use Rattle.semantics.specs.Serial.{Act, beginsEmit, anyOpen, sameOrigin, after, acts, isEnd, isInner, belongsTo, ordered, again, replayed, serial, along, isBegin}
+use Rattle.serializability.specs.Statement.{Accepted, orderOf, placesOf, stateBefore, SameMove, hasOrigin, noMove, endsMemberOf, isGlobal, Serial}
+use Rattle.cells.specs.ByOrigin.{Uniq}
+use Rattle.cells.specs.Rules.{Shaped}
+use Rattle.cells.specs.Shapes.{table-shaped}
+use Rattle.cells.specs.Deeds.{Deed, actOf}
+use Rattle.serializability.specs.Keys.{deeds, acts-deeds, deeds-length, deeds-places}
+use Rattle.cells.specs.Moves.{after-allowed}
+use Rattle.cells.specs.Simulation.{view, Good}
+use Rattle.serializability.specs.SameKey.{LogRuns, runs, pairs}
+use Rattle.cells.specs.Steps.{NoneOpen}
+use Rattle.serializability.specs.LogOnCells.{log-runs}
 use Rattle.serializability.specs.Sort.{isort, sort-runs, count-isort, All-isort}
 use Rattle.serializability.specs.Ordered.{block-there, outer-order}
 use Rattle.serializability.specs.Blocks.{order-sorted}
 use Rattle.serializability.specs.OneBlock.{one-block-of}
-use Rattle.serializability.specs.Begun.{begunIn, begun-before-of}
-use Rattle.serializability.specs.Replay.{again-known, Goes, Ends, replay-runs, Placed, all-placed, same-moves, serial-uniq}
+use Rattle.serializability.specs.BegunBefore.{begunIn, begun-before-of}
+use Rattle.cells.specs.Replay.{again-known, Goes, Ends, replay-runs}
+use Rattle.serializability.specs.SameMoves.{Placed, all-placed, same-moves, serial-uniq}
 use Rattle.serializability.specs.States.{origin-once, log-uniq, along-same}
 use Rattle.wellformed.specs.Rules.{TableRight}
 use Rattle.wellformed.specs.Entries.{Sound}
 use Rattle.wellformed.specs.Preservation.{RuleKnown, applied-keeps}
 use Rattle.wellformed.specs.Bare.{bare, bareState, words-same, allowed-same, applied-same}
-use Rattle.serializability.specs.Start.{Start, uniq-numbered, closed-messages, closed-view, kind-start, good-start, rel-start}
-use Rattle.serializability.specs.SameEnd.{end-closed, messages-same}
+use Rattle.cells.specs.Start.{Start, uniq-numbered, closed-messages, closed-view, kind-start, good-start, rel-start}
+use Rattle.cells.specs.SameCells.{end-closed, messages-same}
 
 -- ---- the end
 

@@ -21,7 +21,7 @@ use Rattle.wellformed.specs.Rules.{TableRight, table-right}
 use Rattle.wellformed.specs.Preservation.{RuleKnown, rule-known}
 use Rattle.wellformed.specs.Held.{stateOf-held}
 use Rattle.serializability.specs.Statement.{Accepted, Serial, movesIn, roomAlong, Demand3}
-use Rattle.serializability.specs.Start.{Numbered, Start}
+use Rattle.cells.specs.Start.{Numbered, Start}
 use Rattle.serializability.specs.Decoded.{serial-known, serial-decoded}
 use Rattle.serializability.specs.LogWords.{Holdable, log-length, log-ok, moves-back, moves-count, count-1024}
 use Rattle.serializability.specs.RunWords.{run-accepted, accepted-run, all-holdable}

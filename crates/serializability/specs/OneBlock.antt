@@ -17,14 +17,16 @@ use Rattle.semantics.specs.Table.{Table}
 use Rattle.semantics.specs.State.{Origin}
 use Rattle.semantics.specs.Serial.{isEnd, isInner, sameOrigin, belongsTo}
 use Rattle.serializability.specs.Statement.{endsMemberOf}
-use Rattle.serializability.specs.Base.{isInO, none-some}
-use Rattle.serializability.specs.Rules.{Shaped}
-use Rattle.serializability.specs.Key.{Deed, actOf, ender-ge, key-full}
-use Rattle.serializability.specs.Actions.{Seen, received, astep, Ok, end-ok, one-in}
-use Rattle.serializability.specs.Link.{Good}
-use Rattle.serializability.specs.Marks.{MarkAt, mark-gone}
-use Rattle.serializability.specs.Fate.{LogRuns, NoneOpen, next-good, key-bound}
-use Rattle.serializability.specs.Follow.{seenAfter, none-stay, none-after, log-rest, ender-not}
+use Rattle.cells.specs.Origins.{isInO, none-some}
+use Rattle.cells.specs.Rules.{Shaped}
+use Rattle.cells.specs.Deeds.{Deed, actOf}
+use Rattle.serializability.specs.Keys.{ender-ge, key-full}
+use Rattle.cells.specs.Actions.{Seen, received, astep, Ok, end-ok, one-in}
+use Rattle.cells.specs.Simulation.{Good}
+use Rattle.cells.specs.Marks.{MarkAt, mark-gone}
+use Rattle.serializability.specs.SameKey.{LogRuns, next-good, key-bound}
+use Rattle.cells.specs.Steps.{NoneOpen}
+use Rattle.serializability.specs.FollowMark.{seenAfter, none-stay, none-after, log-rest, ender-not}
 use Rattle.serializability.specs.Blocks.{shares, end-member, same-block}
 
 -- ---- one place of a log

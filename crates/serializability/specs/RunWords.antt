@@ -26,7 +26,7 @@ use Rattle.wellformed.specs.Entries.{Sound}
 use Rattle.wellformed.specs.Picks.{picks-length}
 use Rattle.wellformed.specs.Preservation.{RuleKnown, applied-keeps}
 use Rattle.serializability.specs.Statement.{Accepted}
-use Rattle.serializability.specs.Moves.{after-allowed, react-passes, commit-passes, abort-passes}
+use Rattle.cells.specs.Moves.{after-allowed, react-passes, commit-passes, abort-passes}
 use Rattle.serializability.specs.LogWords.{moveWords, Holdable, words-ok, words-back}
 
 -- ---- from words to moves

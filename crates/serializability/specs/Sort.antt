@@ -10,14 +10,9 @@ use Rattle.lists.specs.Lists.{keep, count, oneIf}
 use Rattle.lists.specs.Choices.{by-bool}
 use Rattle.lists.specs.Each.{All, All-map, All-append, All-keep}
 use Rattle.semantics.specs.Table.{Table}
-use Rattle.serializability.specs.Key.{Deed}
-use Rattle.serializability.specs.Actions.{Seen, astep, Ok}
-use Rattle.serializability.specs.Swap.{Swap, ok-x, ok-m, same}
-
--- the moves are all allowed, one after another from F, and lead to G
-abbrev pub Runs : Table → Seen → List Deed → Seen → Type 0
-Runs t F [] G = F ≡ G
-Runs t F (a ∷ xs) G = Ok t F a × Runs t (astep t F a) xs G
+use Rattle.cells.specs.Deeds.{Deed}
+use Rattle.cells.specs.Actions.{Seen, astep, Runs}
+use Rattle.cells.specs.Swap.{Swap, ok-x, ok-m, same}
 
 abbrev ins : Deed → List Deed → List Deed
 ins m [] = m ∷ []

@@ -5,14 +5,14 @@ use mathlib.Core.Bool.{Bool, true, false, _&&_, not, cond}
 use mathlib.Core.List.{List, [], _∷_, _++_, map}
 use mathlib.Core.Path.{_≡_}
 use lib.Dec.{eqb}
-use lib.ListN.{length, getD}
+use lib.ListN.{length, getD, take, drop}
 use Rattle.lists.specs.Lists.{all, any, keep, count, least, upFrom}
-use Rattle.semantics.specs.Table.{Table, ruleAt, begins, tableOf}
+use Rattle.semantics.specs.Table.{Table, tableOf}
 use Rattle.semantics.specs.State.{Origin, Entry, State, owned, markValues, stateOf, stateWords}
 use Rattle.semantics.specs.Move.{Move, react, commit, abort, picked, entriesIn, allowed, applied, moveOf}
 use Rattle.semantics.specs.Log.{moveCount, movesOf, logSizesOk, logWords, ended}
-use Rattle.semantics.specs.Serial.{beginsEmit, anyOpen, Act, originsOf, marksIn, after, acts, isEnd, isInner, sameOrigin, belongsTo, ordered, serial, along, fits}
-use Rattle.semantics.specs.Answers.{stateVerdict, runOf, serialOf, write, refuse, runResult, serialResult}
+use Rattle.semantics.specs.Serial.{beginsEmit, anyOpen, Act, originsOf, marksIn, after, acts, isEnd, isBegin, isInner, sameOrigin, belongsTo, ordered, serial, along, fits}
+use Rattle.semantics.specs.Answers.{stateVerdict, lineCeiling, runOf, serialOf, write, refuse, runResult, runLog, runLogTarget, serialResult, serialize, serializeTarget}
 use Rattle.semantics.specs.declared.Refusal.the-variants.{SerialTooManyEntries}
 use Rattle.semantics.specs.declared.Verdict.the-variants.{Allowed}
 
@@ -56,11 +56,6 @@ hasOrigin o e = sameOrigin o (e .origin)
 -- stands past the last move
 abbrev pub noMove : Move
 noMove = react 0 []
-
-abbrev pub isBegin : Table → Move → Bool
-isBegin t (react r ps) = begins (ruleAt t r)
-isBegin t (commit b) = false
-isBegin t (abort b) = false
 
 -- a ends a member that x begins, or in whose transaction x is made
 abbrev pub endsMemberOf : Act → Act → Bool
@@ -130,3 +125,31 @@ pub record Serializable (ceiling : ℕ) (T S L : List ℕ) (e : State) : Type 0 
 abbrev pub Demand3 : Type 0
 Demand3 = (ceiling : ℕ) (T S L : List ℕ) (e : State) → stateVerdict T S ≡ Allowed → beginsEmit (tableOf T) ≡ false → anyOpen (stateOf S) ≡ false
     → logSizesOk L ≡ true → runOf ceiling T S L ≡ ended e → anyOpen e ≡ false → Serializable ceiling T S L e
+
+-- ---- the same of the public calls
+
+-- a run of these words, with this target, is accepted and leaves this state there
+pub record Rerun (T S words : List ℕ) (end : State) (target : List ℕ) : Type 0 where
+  pub number : runLog T S words target .number ≡ 0
+  pub state : take (runLog T S words target .words) (runLogTarget T S words target) ≡ stateWords end
+
+-- What `serialize` answers, and what it leaves in a target of at least 1+5k words.
+pub record Serialized (T S L : List ℕ) (end : State) (target : List ℕ) : Type 0 where
+  -- 17 exactly if some state along the serial log has more entries than the line; the target is then as it was.
+  pub refused : roomAlong lineCeiling T S L ≡ false → (serialize T S L target .number ≡ 17) × (serializeTarget T S L target ≡ target)
+  pub only : serialize T S L target .number ≡ 17 → roomAlong lineCeiling T S L ≡ false
+  -- Otherwise 0 and 1+5k words, which the target begins with: they are the serial log's. What is beyond them is as it was.
+  pub number : roomAlong lineCeiling T S L ≡ true → serialize T S L target .number ≡ 0
+  pub words : roomAlong lineCeiling T S L ≡ true → serialize T S L target .words ≡ 1 + 5 * moveCount L
+  pub log : roomAlong lineCeiling T S L ≡ true → take (serialize T S L target .words) (serializeTarget T S L target) ≡ logWords (serialOf T S L)
+  pub beyond : roomAlong lineCeiling T S L ≡ true
+      → drop (serialize T S L target .words) (serializeTarget T S L target) ≡ drop (serialize T S L target .words) target
+  -- A run of exactly these words, with a target long enough for a state, is accepted and leaves the end of the serial log.
+  pub rerun : roomAlong lineCeiling T S L ≡ true → (other : List ℕ) → 2050 ≤ length other
+      → Rerun T S (take (serialize T S L target .words) (serializeTarget T S L target)) end other
+
+-- Under the premises of demand 3, for the line's 1,024 entries.
+abbrev pub PublicDemand3 : Type 0
+PublicDemand3 = (T S L : List ℕ) (e : State) → stateVerdict T S ≡ Allowed → beginsEmit (tableOf T) ≡ false → anyOpen (stateOf S) ≡ false
+    → logSizesOk L ≡ true → runOf lineCeiling T S L ≡ ended e → anyOpen e ≡ false
+    → (h : Serializable lineCeiling T S L e) × ((target : List ℕ) → 1 + 5 * moveCount L ≤ length target → Serialized T S L (h .serial .end) target)

@@ -15,14 +15,14 @@ use Rattle.semantics.specs.Serial.{sameOrigin, stateOr, after, along}
 use Rattle.semantics.specs.declared.Verdict.{Verdict}
 use Rattle.semantics.specs.declared.Verdict.the-variants.{Allowed, Denied}
 use Rattle.serializability.specs.Statement.{Accepted, stateBefore}
-use Rattle.serializability.specs.Base.{look, none-some, same-eq}
-use Rattle.serializability.specs.View.{Uniq}
-use Rattle.serializability.specs.Rules.{Shaped}
-use Rattle.serializability.specs.Key.{deedAt}
-use Rattle.serializability.specs.Actions.{Seen}
-use Rattle.serializability.specs.Moves.{after-allowed}
-use Rattle.serializability.specs.Link.{view, Good, sim}
-use Rattle.serializability.specs.Fate.{good-next}
+use Rattle.cells.specs.Origins.{look, none-some, same-eq}
+use Rattle.cells.specs.ByOrigin.{Uniq}
+use Rattle.cells.specs.Rules.{Shaped}
+use Rattle.cells.specs.Deeds.{deedAt}
+use Rattle.cells.specs.Actions.{Seen}
+use Rattle.cells.specs.Moves.{after-allowed}
+use Rattle.cells.specs.Simulation.{view, Good, sim}
+use Rattle.cells.specs.Steps.{good-next}
 use Rattle.wellformed.specs.Bare.{bareState, allowed-same, applied-same}
 
 -- ---- origins

@@ -12,7 +12,7 @@ use Rattle.lists.specs.Tests.{and-both, and-false, and-right-false, or-true, eq
 use Rattle.lists.specs.Choices.{by-bool, and-left, and-intro}
 use Rattle.lists.specs.Seen.{all-ext, unseen, unseen-ext, unseen-distinct}
 use Rattle.semantics.specs.State.{Entry, isMessage, isMemberMark, isOwnMark, markValues, entryOk, ownerOk, entriesOf, nextOf, ownersOf, itemsOf, stateOf, entriesOk}
-use Rattle.semantics.specs.Columns.{all-owners}
+use Rattle.wellformed.specs.States.{all-owners}
 use Rattle.semantics.specs.declared.Sizes.{Sizes}
 use Rattle.idset.specs.IdSet.{has, Inserted, empty}
 use Rattle.state.specs.Check.{messageFits, otherFits, markFits, newMark, Entered, Entering, OwnMarks, AllEntered, Column}

@@ -11,7 +11,7 @@ use Rattle.lists.specs.Rows.{rows, length-rows, rows-ext, rows-take, map-rows, 
 use Rattle.lists.specs.Filled.{Filled}
 use Rattle.semantics.specs.Words.{itemKind, itemWord, portOf, valueOf}
 use Rattle.semantics.specs.State.{entryOf, entriesOf, entryCount, nextOf, ownersOf, itemsOf, stateOf, stateWords}
-use Rattle.semantics.specs.Columns.{Sized, entryAt, entriesFrom, entries-tails}
+use Rattle.wellformed.specs.States.{StateSized, columnEntry, entriesFrom, entries-tails}
 use Rattle.state.specs.Working.{entryFrom, rowOf, entryIn, stateIn, held, Stored}
 use Rattle.state.specs.Arrays.{HoldsIn, holds-of}
 use Rattle.state.specs.declared.State.{State}
@@ -24,14 +24,14 @@ from-place i o w h =
     rw (m, x)
 
 -- columns that hold those of the words, and each origin its place
-pub loaded : {s os ws gs : List ℕ} {n : ℕ} → Sized s → n ≡ entryCount s → Filled 0 (λ k. getD (ownersOf s) k 0) 1024 (length (ownersOf s)) os
+pub loaded : {s os ws gs : List ℕ} {n : ℕ} → StateSized s → n ≡ entryCount s → Filled 0 (λ k. getD (ownersOf s) k 0) 1024 (length (ownersOf s)) os
     → Filled 0 (λ k. getD (itemsOf s) k 0) 1024 (length (itemsOf s)) ws → Filled 0 (λ k. k) 1024 n gs → HoldsIn (held os ws gs n (nextOf s)) (stateOf s)
 unfolding stateOf entriesFrom
 loaded {s} {os} {ws} {gs} {n} q e o w g =
     let all : length (ownersOf s) ≡ n = omega arith in
-    let same : rows (rowOf os ws gs) 0 n ≡ rows (entryAt (ownersOf s) (itemsOf s)) 0 n =
+    let same : rows (rowOf os ws gs) 0 n ≡ rows (columnEntry (ownersOf s) (itemsOf s)) 0 n =
     rows-ext _ _ 0 n (λ k l u. rw (o .each k (omega arith), w .each k (omega arith), g .each k (omega arith)) (from-place k _ _ (omega arith))) in
-    let whole : entriesOf 0 (ownersOf s) (itemsOf s) ≡ rows (entryAt (ownersOf s) (itemsOf s)) 0 n = rw (← all) (tails-rows (entries-tails (ownersOf s) (itemsOf s) (omega arith))) in
+    let whole : entriesOf 0 (ownersOf s) (itemsOf s) ≡ rows (columnEntry (ownersOf s) (itemsOf s)) 0 n = rw (← all) (tails-rows (entries-tails (ownersOf s) (itemsOf s) (omega arith))) in
     record { arrays = record { owners = o .size; items = w .size; origins = g .size }; holds = holds-of _ refl refl (omega arith) (same ∙ sym whole) }
 
 -- ---- words

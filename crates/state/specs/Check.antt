@@ -8,7 +8,7 @@ use lib.ListN.{length}
 use Rattle.lists.specs.Lists.{all, any, distinct}
 use Rattle.semantics.specs.State.{Entry, isMessage, isCompensation, isAbortMark, isMemberMark, isOwnMark, owned, markValues, entryOk, entryCount, stateSizesOk, entriesOk, stateOf}
 use Rattle.semantics.specs.Table.{portCount}
-use Rattle.semantics.specs.Columns.{Sized}
+use Rattle.wellformed.specs.States.{StateSized}
 use Rattle.semantics.specs.Move.{unless, both}
 use Rattle.semantics.specs.Answers.{stateOwnVerdict}
 use Rattle.semantics.specs.declared.Sizes.{Sizes}
@@ -20,7 +20,7 @@ use Rattle.idset.specs.IdSet.{has}
 pub record Column (xs column state : List ℕ) : Type 0 where
   pub value : xs ≡ column
   pub size : length xs ≡ entryCount state
-  pub sizes : Sized state
+  pub sizes : StateSized state
 
 -- ---- one entry by itself, by its kind
 

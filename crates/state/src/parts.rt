@@ -3,7 +3,7 @@ use super::State;
 ghost use mathlib.Core.Path.{_≡_};
 ghost use mathlib.Core.Bool.{true};
 ghost use Rattle.semantics.specs.State.{stateSizesOk, entryCount, ownersOf, itemsOf};
-ghost use Rattle.semantics.specs.Columns.{Sized};
+ghost use Rattle.wellformed.specs.States.{StateSized};
 ghost use Rattle.state.specs.Check.{Column};
 
 // n, N and the length.
@@ -23,7 +23,7 @@ pub fn sizes_ok(state: &[u32]) -> bool
 // n, and what sizes in order say of it.
 pub fn entry_count(state: &[u32]) -> usize
     requires { ⌜ stateSizesOk (now state) ≡ true ⌝ }
-    ensures { λ r. ⌜ (r ≡ entryCount (now (state .entry))) × Sized (now (state .entry)) ⌝ }
+    ensures { λ r. ⌜ (r ≡ entryCount (now (state .entry))) × StateSized (now (state .entry)) ⌝ }
 {
     state[0] as usize
 }

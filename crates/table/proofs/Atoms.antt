@@ -11,7 +11,7 @@ use Rattle.lists.specs.Rising.{Order, before, equal, after, order}
 use Rattle.lists.specs.Runs.{inRun}
 use Rattle.semantics.specs.Words.{atomRole, atomMode, valueOf}
 use Rattle.semantics.specs.Table.{modeOk, beginOk, atomOk}
-use Rattle.semantics.specs.TableLaws.{atom-fits}
+use Rattle.wellformed.specs.Tables.{atom-fits}
 use Rattle.semantics.specs.declared.Sizes.{Sizes}
 use Rattle.semantics.specs.declared.Shape.{Shape}
 

@@ -9,7 +9,7 @@ use Rattle.lists.specs.Lists.{any, count}
 use Rattle.lists.specs.Runs.{RunEnd, keys-count}
 use Rattle.semantics.specs.Words.{atomRole, portOf}
 use Rattle.semantics.specs.Table.{sizesOf, numbersOf, atomWordsOf, ruleWords, classOf, atomOf, ruleOf, tableOf, ruleAt, isRole, consumed}
-use Rattle.semantics.specs.TableLaws.{WellFormed, well-formed, numbers-length, words-length, numbers-rise, RuleFits, rule-fits, rule-at, rule-has, consumed-length, rule-legal}
+use Rattle.wellformed.specs.Tables.{WellFormed, well-formed, numbers-length, words-length, numbers-rise, RuleFits, rule-fits, rule-at, rule-has, consumed-length, rule-legal}
 use Rattle.semantics.specs.Answers.{tableVerdict}
 use Rattle.semantics.specs.declared.Atom.{Atom}
 use Rattle.semantics.specs.declared.Sizes.{Sizes}

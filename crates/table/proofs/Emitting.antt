@@ -9,7 +9,7 @@ use Rattle.lists.specs.Lists.{any}
 use Rattle.lists.specs.Tests.{or-true, or-false}
 use Rattle.lists.specs.Ahead.{Tails, slice-tails, Ahead, ahead-start, ahead-here, ahead-next, ahead-done}
 use Rattle.semantics.specs.Table.{sizesOf, numbersOf, atomWordsOf, isRole, begins, emits, Rule, ruleOf, tableOf, ruleAt, noRule}
-use Rattle.semantics.specs.TableLaws.{rule-has, table-rules}
+use Rattle.wellformed.specs.Tables.{rule-has, table-rules}
 use Rattle.semantics.specs.Serial.{beginsEmit}
 use Rattle.semantics.specs.Answers.{tableVerdict}
 use Rattle.semantics.specs.declared.Sizes.{Sizes}

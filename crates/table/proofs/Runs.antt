@@ -14,7 +14,7 @@ use Rattle.lists.specs.Runs.{inRun, goes, RunEnd, run-same, run-next, run-count
 use Rattle.lists.specs.Walk.{drop-step}
 use Rattle.semantics.specs.Words.{atomRole, portOf}
 use Rattle.semantics.specs.Table.{classOf, isRole, atomOk, shapeOf, ruleOk}
-use Rattle.semantics.specs.TableLaws.{atom-fits}
+use Rattle.wellformed.specs.Tables.{atom-fits}
 use Rattle.semantics.specs.declared.Sizes.{Sizes}
 use Rattle.semantics.specs.declared.Shape.{Shape}
 use Rattle.table.proofs.Atoms.{shape, begins-free, consumes-free}

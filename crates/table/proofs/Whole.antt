@@ -8,7 +8,7 @@ use Rattle.lists.specs.Lists.{allBelow}
 use Rattle.lists.specs.Tests.{and-false, and-true}
 use Rattle.lists.specs.Walk.{below-same}
 use Rattle.semantics.specs.Table.{sizesOf, numbersOf, atomWordsOf, ruleWords, tableSizesOk, numbersOk, ruleOk, rulesOk, tableContentsOk}
-use Rattle.semantics.specs.TableLaws.{Sized, numbers-length, words-length, numbers-rise, verdict-allowed}
+use Rattle.wellformed.specs.Tables.{TableSized, numbers-length, words-length, numbers-rise, verdict-allowed}
 use Rattle.semantics.specs.Move.{unless}
 use Rattle.semantics.specs.Answers.{tableVerdict}
 use Rattle.semantics.specs.declared.Refusal.the-variants.{TableSizes, TableContents}
@@ -24,7 +24,7 @@ IndexOf t test b starts = Indexed test (numbersOf t) (sizesOf t .rules) b starts
 -- the code's sizes, numbers and words are the table's; b and the index are what the pass over the numbers answers and leaves
 module _
     (t : List ℕ)
-    (s : Sized t)
+    (s : TableSized t)
     {z : Sizes}
     {ns : List ℕ}
     {b : Bool}

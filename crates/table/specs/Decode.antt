@@ -3,7 +3,7 @@ use Prim.Native.Nat.{_≤_}
 use mathlib.Core.Path.{_≡_}
 use lib.ListN.{length, take}
 use Rattle.semantics.specs.Table as table
-use Rattle.semantics.specs.TableLaws.{LegalRule}
+use Rattle.wellformed.specs.Tables.{LegalRule}
 use Rattle.table.specs.declared.decode.Rule.{Rule}
 
 -- the code's rule x is the rule r

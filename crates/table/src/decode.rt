@@ -6,7 +6,7 @@ ghost use lib.Dec.{eqb};
 ghost use lib.ListN.{length, take};
 ghost use Rattle.semantics.specs.Words.{atomMode, valueOf};
 ghost use Rattle.semantics.specs.Table.{sizesOf, numbersOf, atomValue, atomOf, ruleOf, tableOf, ruleAt, consumed};
-ghost use Rattle.semantics.specs.TableLaws.{RuleFits};
+ghost use Rattle.wellformed.specs.Tables.{RuleFits};
 ghost use Rattle.semantics.specs.Answers.{tableVerdict};
 ghost use Rattle.semantics.specs.declared.Verdict.the-variants.{Allowed};
 ghost use Rattle.table.specs.Index.{Starts};

@@ -3,7 +3,7 @@ ghost use mathlib.Core.Path.{_≡_};
 ghost use Prim.Native.Nat.{_≤_, _-_};
 ghost use lib.ListN.{length, take, drop};
 ghost use Rattle.semantics.specs.Table.{sizesOf, numbersOf, atomWordsOf};
-ghost use Rattle.semantics.specs.TableLaws.{Sized};
+ghost use Rattle.wellformed.specs.Tables.{TableSized};
 ghost use Rattle.table.specs.Index.{Cut, cut};
 use semantics::Sizes;
 
@@ -28,7 +28,7 @@ fn part<'a>(words: &'a [u32], from: usize, to: usize) -> &'a [u32]
 }
 
 pub fn numbers_of(table: &[u32]) -> &[u32]
-    requires { ⌜ Sized (now table) ⌝ }
+    requires { ⌜ TableSized (now table) ⌝ }
     ensures { λ r. ⌜ now r ≡ numbersOf (now (table .entry)) ⌝ }
 {
     let z = sizes_of(table);
@@ -36,7 +36,7 @@ pub fn numbers_of(table: &[u32]) -> &[u32]
 }
 
 pub fn atom_words_of(table: &[u32]) -> &[u32]
-    requires { ⌜ Sized (now table) ⌝ }
+    requires { ⌜ TableSized (now table) ⌝ }
     ensures { λ r. ⌜ now r ≡ atomWordsOf (now (table .entry)) ⌝ }
 {
     let z = sizes_of(table);

@@ -4,7 +4,7 @@ ghost use Prim.Native.Nat.{ℕ, _<_};
 ghost use lib.ListN.{length, replicate};
 ghost use Rattle.lists.specs.Lists.{allBelow};
 ghost use Rattle.semantics.specs.Table.{sizesOf, numbersOf, tableSizesOk, tableContentsOk, ruleOk};
-ghost use Rattle.semantics.specs.TableLaws.{Sized};
+ghost use Rattle.wellformed.specs.Tables.{TableSized};
 ghost use Rattle.table.specs.Index.{Cut, cut, Indexed};
 ghost use Rattle.table.specs.Check.{CheckedAs};
 use crate::index::index_rules;
@@ -53,7 +53,7 @@ fn rules_ok<'a>(words: &'a [u32], starts: &'a [u32; 65], z: Sizes) -> bool
 
 // The rule numbers, then the rules. Fills the index, which is right where the contents are.
 fn contents_ok(table: &[u32], starts: &mut [u32; 65]) -> bool
-    requires { ⌜ Sized (now table) × (now starts ≡ replicate 65 0) ⌝ }
+    requires { ⌜ TableSized (now table) × (now starts ≡ replicate 65 0) ⌝ }
     ensures { λ b. ⌜ Indexed (tableContentsOk (now (table .entry))) (numbersOf (now (table .entry))) (sizesOf (now (table .entry)) .rules) b (now (starts .exit)) ⌝ }
 {
     let z = sizes_of(table);

@@ -1,3 +1,5 @@
+pub mod Tables
+pub mod States
 pub mod Verdicts
 pub mod Rules
 pub mod Entries

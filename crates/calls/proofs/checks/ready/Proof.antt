@@ -1,5 +1,5 @@
 use mathlib.Core.Path.{sym, _∙_}
-use Rattle.semantics.specs.TableLaws.{well-formed}
+use Rattle.wellformed.specs.Tables.{well-formed}
 use Rattle.calls.proofs.Answers.{table-denied, state-checked}
 use borrow.Author.Needs.{needs}
 use Rattle.calls.proofs.checks.ready.Statement.{statement}

@@ -2,7 +2,7 @@ use Prim.Native.Nat.{ℕ}
 use native.Mathlib.Omega.{arith}
 use lib.ListN.{length-replicate}
 use borrow.Author.Needs.{needs}
-use Rattle.log.specs.Form.{sized}
+use Rattle.log.specs.Form.{log-sized}
 use Rattle.calls.proofs.serials.roomed.Statement.{statement}
 use Rattle.calls.proofs.serials.roomed.Tie as tie
 
@@ -10,7 +10,7 @@ serialized-requires : tie.Need-serialized-requires
 serialized-requires c κs = (c .before .before .before .before .before .before .before .before .before .pre, record { notes = omega (arith, c .before .before .before .before .count-of .ensures .0, c .before .before .before .if1 .taken, length-replicate {A = ℕ} 512 0); words = omega (arith, c .before .before .before .before .count-of .ensures .0, c .before .before .before .if1 .taken, length-replicate {A = ℕ} 641 0) })
 
 serialized-requires-2 : tie.Need-serialized-requires-2
-serialized-requires-2 c κs = (c .before .before .before .before .before .before .before .before .before .pre, record { notes = omega (arith, c .before .before .before .before .count-of .ensures .0, sized _ (c .before .before .before .before .before .before .before .before .before .pre .sizes) .few, length-replicate {A = ℕ} 4096 0); words = omega (arith, c .before .before .before .before .count-of .ensures .0, sized _ (c .before .before .before .before .before .before .before .before .before .pre .sizes) .few, length-replicate {A = ℕ} 5121 0) })
+serialized-requires-2 c κs = (c .before .before .before .before .before .before .before .before .before .pre, record { notes = omega (arith, c .before .before .before .before .count-of .ensures .0, log-sized _ (c .before .before .before .before .before .before .before .before .before .pre .sizes) .few, length-replicate {A = ℕ} 4096 0); words = omega (arith, c .before .before .before .before .count-of .ensures .0, log-sized _ (c .before .before .before .before .before .before .before .before .before .pre .sizes) .few, length-replicate {A = ℕ} 5121 0) })
 
 pub roomed-spec : {M : Type 1} → statement M
 roomed-spec =

@@ -1,6 +1,6 @@
 -- `verdict_of` meets its contract (`Verdicts`).
 use mathlib.Core.Path.{sym, _∙_}
-use Rattle.semantics.specs.TableLaws.{well-formed}
+use Rattle.wellformed.specs.Tables.{well-formed}
 use Rattle.intake.proofs.Verdicts.{table-denied, state-denied, log-tested}
 use borrow.Author.Needs.{needs}
 use Rattle.intake.proofs.parts.verdict_of.Statement.{statement}

@@ -4,7 +4,7 @@ use mathlib.Core.Path.{refl}
 use native.Mathlib.Omega.{arith}
 use borrow.Author.Needs.{needs}
 use lib.ListN.{length-replicate}
-use Rattle.semantics.specs.Columns as Columns
+use Rattle.wellformed.specs.States as States
 use Rattle.report.proofs.Laws.{traceable, shows}
 use Rattle.report.proofs.figures.of_parts.Statement.{statement}
 use Rattle.report.proofs.figures.of_parts.Tie as tie
@@ -17,12 +17,12 @@ trace-requires c κs =
 shared-slice-read-t24 : tie.Need-shared-slice-read-t24
 shared-slice-read-t24 c =
     let pre = c .before .before .before .before .before .before .before .before .before .before .before .before .before .before .before .before .before .before .before .pre in
-    omega (arith, Columns.sized _ (pre .1) .size)
+    omega (arith, States.state-sized _ (pre .1) .size)
 
 shared-slice-read-t26 : tie.Need-shared-slice-read-t26
 shared-slice-read-t26 c =
     let pre = c .before .before .before .before .before .before .before .before .before .before .before .before .before .before .before .before .before .before .before .before .pre in
-    omega (arith, Columns.sized _ (pre .1) .size)
+    omega (arith, States.state-sized _ (pre .1) .size)
 
 returns : tie.Need-returns
 returns c =

@@ -9,7 +9,7 @@ use lib.ListN.{length}
 use Rattle.lists.specs.Lists.{all, any, distinct}
 use Rattle.lists.specs.Ahead.{Ahead, ahead-start, ahead-here, ahead-next, ahead-done}
 use Rattle.semantics.specs.State.{entryOk, entriesOf, markValues, isOwnMark}
-use Rattle.semantics.specs.Columns.{entriesFrom, entries-tails}
+use Rattle.wellformed.specs.States.{entriesFrom, entries-tails}
 use Rattle.state.proofs.Marks.{fine, fine-all, fine-none, fine-fails, fine-next, owns, owns-start, owns-none, owns-next}
 use Rattle.state.proofs.entries.enter_all.Statement.{statement}
 use Rattle.state.proofs.entries.enter_all.Tie as tie

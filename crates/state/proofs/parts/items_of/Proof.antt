@@ -2,7 +2,7 @@
 use mathlib.Core.Path.{ap, _∙_}
 use lib.ListN.{length}
 use borrow.Author.Needs.{needs}
-use Rattle.semantics.specs.Columns.{items-part}
+use Rattle.wellformed.specs.States.{items-part}
 use Rattle.state.proofs.parts.items_of.Statement.{statement}
 use Rattle.state.proofs.parts.items_of.Tie as tie
 

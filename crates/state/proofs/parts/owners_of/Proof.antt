@@ -2,7 +2,7 @@
 use mathlib.Core.Path.{ap, _∙_}
 use lib.ListN.{length}
 use borrow.Author.Needs.{needs}
-use Rattle.semantics.specs.Columns.{owners-part}
+use Rattle.wellformed.specs.States.{owners-part}
 use Rattle.state.proofs.parts.owners_of.Statement.{statement}
 use Rattle.state.proofs.parts.owners_of.Tie as tie
 

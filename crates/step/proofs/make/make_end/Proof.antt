@@ -5,7 +5,7 @@ use mathlib.Core.Path.{_≡_, sym, ap, _∙_}
 use native.Mathlib.Omega.{arith}
 use lib.ListN.{length}
 use Rattle.semantics.specs.Table.{tableOf}
-use Rattle.semantics.specs.TableLaws.{well-formed}
+use Rattle.wellformed.specs.Tables.{well-formed}
 use Rattle.semantics.specs.declared.Sizes.{Sizes}
 use Rattle.step.specs.Moves.{form-end}
 use Rattle.step.specs.Make.{made-malformed}

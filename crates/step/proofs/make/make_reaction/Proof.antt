@@ -9,7 +9,7 @@ use lib.ListN.{length}
 use Rattle.semantics.specs.Words.{headNumber}
 use Rattle.semantics.specs.Table.{tableOf}
 use Rattle.semantics.specs.Move.{moveOk}
-use Rattle.semantics.specs.TableLaws.{well-formed}
+use Rattle.wellformed.specs.Tables.{well-formed}
 use Rattle.step.specs.Working.{decodes-itself}
 use Rattle.step.specs.Moves.{below-rules, form-no-rule}
 use Rattle.step.specs.Make.{made-malformed}

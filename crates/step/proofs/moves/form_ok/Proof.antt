@@ -4,7 +4,7 @@ use mathlib.Core.Path.{_≡_, sym, ap, _∙_}
 use lib.ListN.{length, drop}
 use Rattle.lists.specs.Lists.{all}
 use Rattle.semantics.specs.Move.{isZero}
-use Rattle.semantics.specs.TableLaws.{well-formed}
+use Rattle.wellformed.specs.Tables.{well-formed}
 use Rattle.step.specs.Moves.{below-rules, form-end, form-no-rule, form-rule}
 use Rattle.step.proofs.moves.form_ok.Statement.{statement}
 use Rattle.step.proofs.moves.form_ok.Tie as tie

@@ -1,6 +1,6 @@
 -- `decode::consumes_at` meets its contract: the words cut out are the rule's (`Decoding`).
 use borrow.Author.Needs.{needs}
-use Rattle.semantics.specs.TableLaws.{well-formed}
+use Rattle.wellformed.specs.Tables.{well-formed}
 use Rattle.table.proofs.Decoding.{rule-within, cut-consumes}
 use Rattle.table.proofs.decode.consumes_at.Statement.{statement}
 use Rattle.table.proofs.decode.consumes_at.Tie as tie

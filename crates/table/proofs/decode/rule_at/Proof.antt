@@ -1,5 +1,5 @@
 -- `decode::rule_at` meets its contract: the words cut out are the rule's (`Decoding`).
-use Rattle.semantics.specs.TableLaws.{well-formed}
+use Rattle.wellformed.specs.Tables.{well-formed}
 use Rattle.table.proofs.Decoding.{rule-within, cut-fits, cut-rule}
 use Rattle.table.proofs.decode.rule_at.Statement.{statement}
 use Rattle.table.proofs.decode.rule_at.Tie as tie

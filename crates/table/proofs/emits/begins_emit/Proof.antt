@@ -1,7 +1,7 @@
 -- `emits::begins_emit` meets its contract: r rules are tried (`Emitting`).
 use Prim.Native.Nat.{_-_}
 use borrow.Author.Needs.{needs}
-use Rattle.semantics.specs.TableLaws.{well-formed}
+use Rattle.wellformed.specs.Tables.{well-formed}
 use Rattle.table.proofs.Emitting.{Trying, trying-start, trying-within, trying-here, trying-next, trying-done}
 use Rattle.table.proofs.emits.begins_emit.Statement.{statement}
 use Rattle.table.proofs.emits.begins_emit.Tie as tie

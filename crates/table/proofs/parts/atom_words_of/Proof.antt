@@ -3,7 +3,7 @@ use mathlib.Core.Path.{ap, _∙_}
 use native.Mathlib.Omega.{arith}
 use borrow.Author.Needs.{needs}
 use Rattle.semantics.specs.declared.Sizes.{Sizes}
-use Rattle.semantics.specs.TableLaws.{words-part}
+use Rattle.wellformed.specs.Tables.{words-part}
 use Rattle.table.proofs.parts.atom_words_of.Statement.{statement}
 use Rattle.table.proofs.parts.atom_words_of.Tie as tie
 

@@ -3,7 +3,7 @@ use mathlib.Core.Path.{ap, _∙_}
 use native.Mathlib.Omega.{arith}
 use borrow.Author.Needs.{needs}
 use Rattle.semantics.specs.declared.Sizes.{Sizes}
-use Rattle.semantics.specs.TableLaws.{numbers-part}
+use Rattle.wellformed.specs.Tables.{numbers-part}
 use Rattle.table.proofs.parts.numbers_of.Statement.{statement}
 use Rattle.table.proofs.parts.numbers_of.Tie as tie
 

@@ -5,7 +5,7 @@ use borrow.Author.Needs.{needs}
 use borrow.Author.Tests.{not-true, not-false}
 use lib.ListN.{length}
 use Rattle.semantics.specs.declared.Sizes.{Sizes}
-use Rattle.semantics.specs.TableLaws.{numbers-length}
+use Rattle.wellformed.specs.Tables.{numbers-length}
 use Rattle.table.proofs.Whole.{numbers-wrong, cuts, numbers-right}
 use Rattle.table.proofs.verdict.contents_ok.Statement.{statement}
 use Rattle.table.proofs.verdict.contents_ok.Tie as tie

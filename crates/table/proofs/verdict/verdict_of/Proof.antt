@@ -3,7 +3,7 @@ use mathlib.Core.Bool.{true, false}
 use mathlib.Core.Path.{sym, _∙_}
 use borrow.Author.Needs.{needs}
 use borrow.Author.Tests.{not-true, not-false}
-use Rattle.semantics.specs.TableLaws.{sized}
+use Rattle.wellformed.specs.Tables.{table-sized}
 use Rattle.table.proofs.Whole.{sizes-wrong, sizes-right}
 use Rattle.table.proofs.verdict.verdict_of.Statement.{statement}
 use Rattle.table.proofs.verdict.verdict_of.Tie as tie
@@ -14,7 +14,7 @@ returns c = sizes-wrong _ _ (sym (c .before .sizes-ok .ensures) ∙ not-true _ (
 contents-ok-requires : tie.Need-contents-ok-requires
 contents-ok-requires c κs =
     let b = c .before in
-    (sized _ (sym (b .before .sizes-ok .ensures) ∙ not-false _ (b .if1 .left)), b .before .before .before .pre)
+    (table-sized _ (sym (b .before .sizes-ok .ensures) ∙ not-false _ (b .if1 .left)), b .before .before .before .pre)
 
 returns-2 : tie.Need-returns-2
 returns-2 c =

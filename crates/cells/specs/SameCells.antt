@@ -10,12 +10,12 @@ use Rattle.lists.specs.Lists.{all, any, count, oneIf}
 use Rattle.lists.specs.Choices.{and-left, and-right}
 use Rattle.semantics.specs.State.{Origin, Entry, State, isMessage, owned}
 use Rattle.semantics.specs.Serial.{sameOrigin, anyOpen}
-use Rattle.serializability.specs.Base.{omap, look, some-inj, none-some, same-eq, same-refl}
-use Rattle.serializability.specs.View.{look-map, Uniq, uniq-map, all-look}
-use Rattle.serializability.specs.Actions.{strip}
-use Rattle.serializability.specs.Link.{view, strip-message}
-use Rattle.serializability.specs.Fate.{NoneOpen}
-use Rattle.serializability.specs.Rename.{rename, Rel}
+use Rattle.cells.specs.Origins.{omap, look, some-inj, none-some, same-eq, same-refl}
+use Rattle.cells.specs.ByOrigin.{look-map, Uniq, uniq-map, all-look}
+use Rattle.cells.specs.Actions.{strip}
+use Rattle.cells.specs.Simulation.{view, strip-message}
+use Rattle.cells.specs.Steps.{NoneOpen}
+use Rattle.cells.specs.Rename.{rename, Rel}
 
 -- ---- two lists of entries with different origins that look alike
 

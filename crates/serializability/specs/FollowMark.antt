@@ -12,14 +12,15 @@ use Rattle.lists.specs.Choices.{by-bool, clash, is-false}
 use Rattle.semantics.specs.Table.{Table}
 use Rattle.semantics.specs.State.{Origin, Entry}
 use Rattle.semantics.specs.Serial.{isEnd}
-use Rattle.serializability.specs.Base.{some-inj, none-some, is-none}
-use Rattle.serializability.specs.Rules.{Shaped}
-use Rattle.serializability.specs.Key.{Deed, ender, ender-ge}
-use Rattle.serializability.specs.Cells.{Source, apply, apply-inv}
-use Rattle.serializability.specs.Actions.{Seen, received, actionBy, actionOf, astep, Ok, end-ok, one-in, in-one, act-local}
-use Rattle.serializability.specs.Link.{Good}
-use Rattle.serializability.specs.Marks.{MarkAt, mark-stay, mark-gone}
-use Rattle.serializability.specs.Fate.{LogRuns, next-good}
+use Rattle.cells.specs.Origins.{some-inj, none-some, is-none}
+use Rattle.cells.specs.Rules.{Shaped}
+use Rattle.cells.specs.Deeds.{Deed}
+use Rattle.serializability.specs.Keys.{ender, ender-ge}
+use Rattle.cells.specs.Cells.{Source, apply, apply-inv}
+use Rattle.cells.specs.Actions.{Seen, received, actionBy, actionOf, astep, Ok, end-ok, one-in, in-one, act-local}
+use Rattle.cells.specs.Simulation.{Good}
+use Rattle.cells.specs.Marks.{MarkAt, mark-stay, mark-gone}
+use Rattle.serializability.specs.SameKey.{LogRuns, next-good}
 
 abbrev pub seenAfter : Table → Seen → List Deed → Seen
 seenAfter t F [] = F

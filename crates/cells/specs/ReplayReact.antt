@@ -19,18 +19,18 @@ use Rattle.semantics.specs.State.{Origin, Entry, State}
 use Rattle.semantics.specs.Move.{react, picked, onPorts, ownersAt, ownersFit, merged, reacted}
 use Rattle.semantics.specs.Serial.{originsOf}
 use Rattle.wellformed.specs.Picks.{ReactGiven}
-use Rattle.serializability.specs.Base.{orElse, omap, bindO, isInO, distinctO, look, none-some, is-none}
-use Rattle.serializability.specs.View.{look-map, ports-messages, picks-distinct}
-use Rattle.serializability.specs.Rules.{Shape, plain, begin, inner, Shaped, owners, values, touchedBy, touched-plain, touched-begin, touched-inner, touched-merge, make}
-use Rattle.serializability.specs.Key.{Deed, withMove}
-use Rattle.serializability.specs.Cells.{apply, apply-inv}
-use Rattle.serializability.specs.Actions.{Seen, strip, received, reactAction, actionBy, later, Tests, Ok}
-use Rattle.serializability.specs.Commute.{values-found}
-use Rattle.serializability.specs.Moves.{productsOf, look-reacted, uniq-reacted}
-use Rattle.serializability.specs.Link.{view, view-cell, cell-eq}
-use Rattle.serializability.specs.Marks.{From, came, owner-live}
-use Rattle.serializability.specs.Fate.{later-le}
-use Rattle.serializability.specs.Rename.{rename, Live, Rel, ports-rename, owners-rename, values-rename, fit-rename, make-rename, cell-rename, back-again, nowAt, picked-again, live-zero}
+use Rattle.cells.specs.Origins.{orElse, omap, bindO, isInO, distinctO, look, none-some, is-none}
+use Rattle.cells.specs.ByOrigin.{look-map, ports-messages, picks-distinct}
+use Rattle.cells.specs.Rules.{Shape, plain, begin, inner, Shaped, owners, values, touchedBy, touched-plain, touched-begin, touched-inner, touched-merge, make}
+use Rattle.cells.specs.Deeds.{Deed, withMove}
+use Rattle.cells.specs.Cells.{apply, apply-inv}
+use Rattle.cells.specs.Actions.{Seen, strip, received, reactAction, actionBy, later, Tests, Ok}
+use Rattle.cells.specs.Commute.{values-found}
+use Rattle.cells.specs.Moves.{productsOf, look-reacted, uniq-reacted}
+use Rattle.cells.specs.Simulation.{view, view-cell, cell-eq}
+use Rattle.cells.specs.Marks.{From, came, owner-live}
+use Rattle.cells.specs.Steps.{later-le}
+use Rattle.cells.specs.Rename.{rename, Live, Rel, ports-rename, owners-rename, values-rename, fit-rename, make-rename, cell-rename, back-again, nowAt, picked-again, live-zero}
 
 abbrev upd : (ℕ → ℕ) → ℕ → ℕ → ℕ → ℕ
 upd ρ b n v = cond (eqb v b) n (ρ v)

@@ -17,11 +17,11 @@ use Rattle.semantics.specs.State.{Origin, Entry, State, isMessage}
 use Rattle.semantics.specs.Move.{isZero, entryAt, onPorts, ownersFit, valueIn, kindMade}
 use Rattle.semantics.specs.Serial.{originsOf, placeOf}
 use Rattle.semantics.specs.declared.Atom.{Atom}
-use Rattle.serializability.specs.Base.{orElse, omap, bindO, look, look-origin, omap-some}
-use Rattle.serializability.specs.View.{Uniq, place-found}
-use Rattle.serializability.specs.Rules.{owners, values, zeros, make}
-use Rattle.serializability.specs.Actions.{Seen, strip}
-use Rattle.serializability.specs.Link.{view, view-cell, view-some, strip-message}
+use Rattle.cells.specs.Origins.{orElse, omap, bindO, look, look-origin, omap-some}
+use Rattle.cells.specs.ByOrigin.{Uniq, place-found}
+use Rattle.cells.specs.Rules.{owners, values, zeros, make}
+use Rattle.cells.specs.Actions.{Seen, strip}
+use Rattle.cells.specs.Simulation.{view, view-cell, view-some, strip-message}
 
 abbrev pub rename : (ℕ → ℕ) → Entry → Entry
 rename ρ e = record { origin = e .origin; owner = ρ (e .owner); kind = e .kind; port = e .port; value = e .value }

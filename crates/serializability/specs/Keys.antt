@@ -8,35 +8,13 @@ use native.Mathlib.Omega.{arith}
 use lib.ListN.{length}
 use Rattle.lists.specs.Lists.{isEmpty, isIn, least, upFrom}
 use Rattle.lists.specs.Numbers.{least-in}
-use Rattle.semantics.specs.Table.{Table, ruleAt}
-use Rattle.semantics.specs.State.{Origin, State}
-use Rattle.semantics.specs.Move.{Move, react, commit, abort, picked, ownersAt}
-use Rattle.semantics.specs.Serial.{Act, originsOf, marksIn, membersOf, picksOf, after, acts, isEnd}
-use Rattle.serializability.specs.Rules.{touchedBy}
+use Rattle.semantics.specs.Table.{Table}
+use Rattle.semantics.specs.State.{State}
+use Rattle.semantics.specs.Move.{Move, react, commit, abort}
+use Rattle.semantics.specs.Serial.{membersOf, picksOf, after, acts, isEnd}
+use Rattle.cells.specs.Deeds.{Deed, touched, handled, deedAt, picksBy, actOf}
 
 -- picks: of a commit or abort, the origins of the member marks that it removes
-pub record Deed : Type 0 where
-  pub place : ℕ
-  pub key : ℕ
-  pub move : Move
-  pub picks : List Origin
-  pub touched : List ℕ
-  pub members : List Origin
-
-abbrev pub withMove : Deed → Move → Deed
-withMove a m = record { place = a .place; key = a .key; move = m; picks = a .picks; touched = a .touched; members = a .members }
-
--- the transactions that a move touches: the one that it begins, those of its picks, the one that it ends
-unfoldable pub touched : Table → State → Move → List ℕ
-touched t s (react r ps) = touchedBy (ruleAt t r) (s .next) (ownersAt s ps)
-touched t s (commit b) = b ∷ []
-touched t s (abort b) = b ∷ []
-
-unfoldable pub handled : State → Move → List Origin
-handled s (react r ps) = originsOf (picked s ps)
-handled s (commit b) = marksIn (b ∷ []) s
-handled s (abort b) = marksIn (b ∷ []) s
-
 -- the place of the commit or abort that ends transaction b, in the moves from the place i on; merged transactions go on under the smallest id
 abbrev pub ender : ℕ → List Deed → ℕ → ℕ
 ender i [] b = i
@@ -47,9 +25,6 @@ keyOf true i bs xs = i
 keyOf false i [] xs = i
 keyOf false i (b ∷ bs) xs = ender (suc i) xs (least (b ∷ bs))
 
-abbrev pub deedAt : Table → ℕ → ℕ → State → Move → Deed
-deedAt t i k s m = record { place = i; key = k; move = m; picks = handled s m; touched = touched t s m; members = membersOf t i s m }
-
 unfoldable pub deeds : Table → ℕ → State → List Move → List Deed
 deeds t i s [] = []
 deeds t i s (m ∷ ms) =
@@ -57,14 +32,6 @@ deeds t i s (m ∷ ms) =
     deedAt t i (keyOf (isEnd m) i (touched t s m) xs) s m ∷ xs
 
 -- ---- the same moves as acts
-
-abbrev pub picksBy : Move → List Origin → List Origin
-picksBy (react r ps) os = os
-picksBy (commit b) os = []
-picksBy (abort b) os = []
-
-abbrev pub actOf : Deed → Act
-actOf a = record { place = a .place; move = a .move; picks = picksBy (a .move) (a .picks); members = a .members }
 
 pub acts-deeds : (t : Table) (i : ℕ) (s : State) (ms : List Move) → acts t i s ms ≡ map actOf (deeds t i s ms)
 unfolding acts deeds handled

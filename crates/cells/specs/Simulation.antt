@@ -18,14 +18,14 @@ use Rattle.semantics.specs.Move.{Move, react, commit, abort, isZero, entryAt, p
 use Rattle.semantics.specs.Serial.{originsOf}
 use Rattle.semantics.specs.declared.Verdict.the-variants.{Allowed}
 use Rattle.wellformed.specs.Picks.{ReactGiven}
-use Rattle.serializability.specs.Base.{orElse, orElse-none, omap, bindO, isInO, look, none-some, look-all, is-none, omap-some}
-use Rattle.serializability.specs.View.{look-map, Uniq, look-head, look-deeper, look-at, uniq-keep, ports-head, ports-tail, ports-messages, ports-range, picks-distinct, any-look, look-kept, kept-look, look-isIn}
-use Rattle.serializability.specs.Rules.{Shape, plain, begin, inner, Shaped, owners, values, touchedBy, global-fit, touched-begin, touched-inner, touched-least, touched-positive, touched-merge, make}
-use Rattle.serializability.specs.Key.{touched, handled, deedAt}
-use Rattle.serializability.specs.Cells.{Cells, apply, mine}
-use Rattle.serializability.specs.Actions.{StepOk, Seen, strip, cellValue, left, endAction, actionBy, astep, markOf, AllMarks, mayLeave, Ok, mine-in, mine-zero, later}
-use Rattle.serializability.specs.Commute.{values-found}
-use Rattle.serializability.specs.Moves.{productsOf, look-reacted, uniq-reacted, ofKind, look-ended, uniq-ended, react-passes, commit-passes, abort-passes}
+use Rattle.cells.specs.Origins.{orElse, orElse-none, omap, bindO, isInO, look, none-some, look-all, is-none, omap-some}
+use Rattle.cells.specs.ByOrigin.{look-map, Uniq, look-head, look-deeper, look-at, uniq-keep, ports-head, ports-tail, ports-messages, ports-range, picks-distinct, any-look, look-kept, kept-look, look-isIn}
+use Rattle.cells.specs.Rules.{Shape, plain, begin, inner, Shaped, owners, values, touchedBy, global-fit, touched-begin, touched-inner, touched-least, touched-positive, touched-merge, make}
+use Rattle.cells.specs.Deeds.{touched, handled, deedAt}
+use Rattle.cells.specs.Cells.{Cells, apply, mine}
+use Rattle.cells.specs.Actions.{StepOk, Seen, strip, cellValue, left, endAction, actionBy, astep, markOf, AllMarks, mayLeave, Ok, mine-in, mine-zero, later}
+use Rattle.cells.specs.Commute.{values-found}
+use Rattle.cells.specs.Moves.{productsOf, look-reacted, uniq-reacted, ofKind, look-ended, uniq-ended, react-passes, commit-passes, abort-passes}
 
 unfoldable pub view : State → Seen
 view s = record { next = s .next; cell = λ o. look o (map strip (s .entries)) }

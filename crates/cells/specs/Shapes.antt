@@ -20,7 +20,7 @@ use Rattle.semantics.specs.Serial.{beginsEmit}
 use Rattle.semantics.specs.declared.Sizes.{Sizes}
 use Rattle.semantics.specs.declared.Atom.{Atom}
 use Rattle.wellformed.specs.Rules.{RuleRight, TableRight, product-atom, role-begins, begins-global}
-use Rattle.serializability.specs.Rules.{Shape, plain, begin, inner, Shaped}
+use Rattle.cells.specs.Rules.{Shape, plain, begin, inner, Shaped}
 
 abbrev makes : Atom → Bool
 makes a = not (hasRole 0 a)

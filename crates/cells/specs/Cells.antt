@@ -11,7 +11,7 @@ use borrow.Author.Tests.{eqb-true}
 use Rattle.lists.specs.Lists.{isIn}
 use Rattle.lists.specs.Choices.{by-bool, clash, is-false, or-cases}
 use Rattle.semantics.specs.State.{Origin, Entry}
-use Rattle.serializability.specs.Base.{orElse, orElse-none, bindO, look, some-inj, none-some, is-none}
+use Rattle.cells.specs.Origins.{orElse, orElse-none, bindO, look, some-inj, none-some, is-none}
 
 abbrev pub Cells : Type 0
 Cells = Origin → Option Entry

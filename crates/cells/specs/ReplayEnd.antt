@@ -16,16 +16,16 @@ use Rattle.semantics.specs.Table.{Table}
 use Rattle.semantics.specs.State.{Origin, Entry, State, isAbortMark, isMemberMark, owned}
 use Rattle.semantics.specs.Move.{toGlobal, isOpen, entriesIn, mayCommit, mayAbort, ended}
 use Rattle.semantics.specs.Serial.{marksIn, sameOrigin, valueAt}
-use Rattle.serializability.specs.Base.{orElse, orElse-none, omap, bindO, same-eq, isInO, isInO-head, isInO-cons, look, some-inj, none-some, found-at}
-use Rattle.serializability.specs.View.{uniq-keep, place-found, look-any, all-look, look-kept, kept-look, origin-look, look-isIn}
-use Rattle.serializability.specs.Key.{Deed}
-use Rattle.serializability.specs.Cells.{apply}
-use Rattle.serializability.specs.Actions.{Seen, strip, left, endAction, markOf, EndOk, mayLeave, one-in}
-use Rattle.serializability.specs.Moves.{ofKind, look-ended, uniq-ended}
-use Rattle.serializability.specs.Link.{view-cell, Mark, left-strip, marked, marked-mark, mark-marked}
-use Rattle.serializability.specs.Marks.{end-live}
-use Rattle.serializability.specs.Named.{OwnMark, Named}
-use Rattle.serializability.specs.Rename.{rename, Live, Rel, there, back-again, live-zero}
+use Rattle.cells.specs.Origins.{orElse, orElse-none, omap, bindO, same-eq, isInO, isInO-head, isInO-cons, look, some-inj, none-some, found-at}
+use Rattle.cells.specs.ByOrigin.{uniq-keep, place-found, look-any, all-look, look-kept, kept-look, origin-look, look-isIn}
+use Rattle.cells.specs.Deeds.{Deed}
+use Rattle.cells.specs.Cells.{apply}
+use Rattle.cells.specs.Actions.{Seen, strip, left, endAction, markOf, EndOk, mayLeave, one-in}
+use Rattle.cells.specs.Moves.{ofKind, look-ended, uniq-ended}
+use Rattle.cells.specs.Simulation.{view-cell, Mark, left-strip, marked, marked-mark, mark-marked}
+use Rattle.cells.specs.Marks.{end-live}
+use Rattle.cells.specs.SmallestId.{OwnMark, Named}
+use Rattle.cells.specs.Rename.{rename, Live, Rel, there, back-again, live-zero}
 
 -- a function on the origins of a list
 value-of : (f : Origin → ℕ) (o : Origin) (os : List Origin) → isInO o os ≡ true → isIn (f o) (map f os) ≡ true

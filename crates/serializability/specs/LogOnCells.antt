@@ -14,18 +14,20 @@ use Rattle.lists.specs.Each.{All, All-map, All-keep, All-unmap}
 use Rattle.semantics.specs.Table.{Table, Rule, ruleAt, hasRole, consumed, begins}
 use Rattle.semantics.specs.State.{Origin, Entry, State, isMemberMark}
 use Rattle.semantics.specs.Move.{Move, react, commit, abort, picked, onPorts, ownersAt, allowed, applied}
-use Rattle.semantics.specs.Serial.{originsOf, marksIn, membersOf, after, isEnd}
+use Rattle.semantics.specs.Serial.{originsOf, marksIn, membersOf, after, isEnd, isBegin}
 use Rattle.semantics.specs.declared.Verdict.the-variants.{Allowed}
-use Rattle.serializability.specs.Statement.{Accepted, isBegin}
-use Rattle.serializability.specs.Base.{isInO, look}
-use Rattle.serializability.specs.View.{Uniq, look-kept, look-isIn}
-use Rattle.serializability.specs.Rules.{Shape, plain, begin, inner, Shaped, owners, touched-plain, touched-begin, touched-inner}
-use Rattle.serializability.specs.Key.{Deed, touched, deedAt, deeds, keyOf}
-use Rattle.serializability.specs.Actions.{Seen, strip, received, astep, Ok}
-use Rattle.serializability.specs.Moves.{react-passes, after-allowed}
-use Rattle.serializability.specs.Link.{view, view-look, view-some, Good, sim, all-found}
-use Rattle.serializability.specs.Marks.{MarkAt, mark-stay, firstOf, mark-made, touched-live}
-use Rattle.serializability.specs.Fate.{Marked, LogRuns, good-next}
+use Rattle.serializability.specs.Statement.{Accepted}
+use Rattle.cells.specs.Origins.{isInO, look}
+use Rattle.cells.specs.ByOrigin.{Uniq, look-kept, look-isIn}
+use Rattle.cells.specs.Rules.{Shape, plain, begin, inner, Shaped, owners, touched-plain, touched-begin, touched-inner}
+use Rattle.cells.specs.Deeds.{Deed, touched, deedAt}
+use Rattle.serializability.specs.Keys.{deeds, keyOf}
+use Rattle.cells.specs.Actions.{Seen, strip, received, astep, Ok}
+use Rattle.cells.specs.Moves.{react-passes, after-allowed}
+use Rattle.cells.specs.Simulation.{view, view-look, view-some, Good, sim, all-found}
+use Rattle.cells.specs.Marks.{MarkAt, mark-stay, firstOf, mark-made, touched-live}
+use Rattle.serializability.specs.SameKey.{Marked, LogRuns}
+use Rattle.cells.specs.Steps.{good-next}
 
 ports-some : (ts : List ℕ) (es : List Entry) → isEmpty ts ≡ false → onPorts ts es ≡ true → isEmpty (owners es) ≡ false
 ports-some [] es n h = absurd (true≢false n)

@@ -10,13 +10,12 @@ use Rattle.lists.specs.Choices.{clash, is-false}
 use Rattle.semantics.specs.Table.{Table}
 use Rattle.semantics.specs.State.{Origin, Entry}
 use Rattle.semantics.specs.Move.{Move, react, commit, abort}
-use Rattle.semantics.specs.Serial.{isEnd}
-use Rattle.serializability.specs.Statement.{isBegin}
-use Rattle.serializability.specs.Base.{isInO, look, some-inj, found-at, map-frame}
-use Rattle.serializability.specs.Key.{Deed}
-use Rattle.serializability.specs.Cells.{Cells, Action, apply, mine, Local, Inner, frame-keep, frame-back, frame-lives, not-in}
-use Rattle.serializability.specs.Commute.{Apart, room-down, room-up, gone-picked, ok-after, same-either}
-use Rattle.serializability.specs.Actions.{Seen, received, actionBy, actionOf, astep, Tests, AllMarks, Whole, Ok, one-in, act-local, act-inner}
+use Rattle.semantics.specs.Serial.{isEnd, isBegin}
+use Rattle.cells.specs.Origins.{isInO, look, some-inj, found-at, map-frame}
+use Rattle.cells.specs.Deeds.{Deed}
+use Rattle.cells.specs.Cells.{Cells, Action, apply, mine, Local, Inner, frame-keep, frame-back, frame-lives, not-in}
+use Rattle.cells.specs.Commute.{Apart, room-down, room-up, gone-picked, ok-after, same-either}
+use Rattle.cells.specs.Actions.{Seen, received, actionBy, actionOf, astep, Tests, AllMarks, Whole, Ok, one-in, act-local, act-inner}
 
 -- two moves of the log, the first of which may be made after the second
 pub record Swap (t : Table) (m x : Deed) : Type 0 where

@@ -13,12 +13,12 @@ use Rattle.lists.specs.Each.{head-eq, tail-eq}
 use Rattle.semantics.specs.Table.{Table}
 use Rattle.semantics.specs.State.{Origin, Entry}
 use Rattle.semantics.specs.Move.{Move, react, commit, abort}
-use Rattle.serializability.specs.Statement.{isBegin}
-use Rattle.serializability.specs.Base.{orElse, bindO, isInO, look, some-inj, is-none, found-at, map-frame}
-use Rattle.serializability.specs.Rules.{values}
-use Rattle.serializability.specs.Key.{Deed}
-use Rattle.serializability.specs.Cells.{Cells, Action, apply, mine, Local, frame-keep, frame-from, not-in, swap-cells}
-use Rattle.serializability.specs.Actions.{Seen, cellValue, received, actionBy, actionOf, astep, later, room, Tests, AllMarks, Whole, Ok, mine-in, one-in, act-local}
+use Rattle.semantics.specs.Serial.{isBegin}
+use Rattle.cells.specs.Origins.{orElse, bindO, isInO, look, some-inj, is-none, found-at, map-frame}
+use Rattle.cells.specs.Rules.{values}
+use Rattle.cells.specs.Deeds.{Deed}
+use Rattle.cells.specs.Cells.{Cells, Action, apply, mine, Local, frame-keep, frame-from, not-in, swap-cells}
+use Rattle.cells.specs.Actions.{Seen, cellValue, received, actionBy, actionOf, astep, later, room, Tests, AllMarks, Whole, Ok, mine-in, one-in, act-local}
 
 -- they touch no transaction in common, and neither takes what the other takes
 pub record Apart (m x : Deed) : Type 0 where

@@ -16,7 +16,7 @@ use Rattle.lists.specs.Each.{All}
 use Rattle.semantics.specs.State.{Origin, Entry, isMessage}
 use Rattle.semantics.specs.Move.{nothing, entryAt, onPorts}
 use Rattle.semantics.specs.Serial.{originsOf, sameOrigin, placeOf}
-use Rattle.serializability.specs.Base.{orElse, omap, bindO, same-refl, same-eq, isInO, distinctO, look, some-inj, none-some, look-origin}
+use Rattle.cells.specs.Origins.{orElse, omap, bindO, same-refl, same-eq, isInO, distinctO, look, some-inj, none-some, look-origin}
 
 pub look-append : (o : Origin) (l r : List Entry) → look o (l ++ r) ≡ orElse (look o l) (look o r)
 look-append o [] r = refl

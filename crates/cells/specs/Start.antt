@@ -14,12 +14,12 @@ use Rattle.lists.specs.Neither.{or-left-false, or-right-false}
 use Rattle.lists.specs.Members.{all-each, all-intro}
 use Rattle.semantics.specs.State.{Origin, Entry, State, isMessage, owned}
 use Rattle.semantics.specs.Serial.{anyOpen, sameOrigin}
-use Rattle.serializability.specs.Base.{omap, look, same-eq, look-origin, look-all}
-use Rattle.serializability.specs.View.{Uniq}
-use Rattle.serializability.specs.Actions.{strip}
-use Rattle.serializability.specs.Link.{view, view-some, Good}
-use Rattle.serializability.specs.Fate.{NoneOpen}
-use Rattle.serializability.specs.Rename.{rename, Live, Rel}
+use Rattle.cells.specs.Origins.{omap, look, same-eq, look-origin, look-all}
+use Rattle.cells.specs.ByOrigin.{Uniq}
+use Rattle.cells.specs.Actions.{strip}
+use Rattle.cells.specs.Simulation.{view, view-some, Good}
+use Rattle.cells.specs.Steps.{NoneOpen}
+use Rattle.cells.specs.Rename.{rename, Live, Rel}
 use Rattle.semantics.specs.declared.Sizes.{Sizes}
 use Rattle.wellformed.specs.Entries.{StateRight, Sound}
 

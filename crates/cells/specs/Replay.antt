@@ -1,44 +1,34 @@
 -- The serial log: moves that are allowed on the cells one after another are accepted, each again on the entries of the same origins.
-use mathlib.Core.Path.{_≡_, refl, sym, ap, subst, _∙_}
+use mathlib.Core.Path.{_≡_, refl, sym, subst}
 use mathlib.Core.List.{List, [], _∷_, map}
-use Prim.Native.Nat.{ℕ, zero, suc, _+_, _<_}
-use native.Mathlib.Nat.{not-suc-le-zero}
+use Prim.Native.Nat.{ℕ, suc}
 use native.Mathlib.Omega.{arith}
-use lib.ListN.{length, getD}
-use Rattle.lists.specs.Lists.{least, upFrom}
-use Rattle.lists.specs.Each.{All, All-map}
+use Rattle.lists.specs.Lists.{least}
+use Rattle.lists.specs.Each.{All}
 use Rattle.semantics.specs.Table.{Table}
 use Rattle.semantics.specs.State.{Origin, State, markValues}
 use Rattle.semantics.specs.Move.{Move, react, commit, abort, picked, entriesIn, allowed, applied}
-use Rattle.semantics.specs.Serial.{Act, originsOf, marksIn, after, again, replayed}
+use Rattle.semantics.specs.Serial.{Act, originsOf, marksIn, after, again}
 use Rattle.semantics.specs.declared.Verdict.the-variants.{Allowed}
 use Rattle.wellformed.specs.Rules.{TableRight}
 use Rattle.wellformed.specs.Entries.{Sound}
 use Rattle.wellformed.specs.Preservation.{RuleKnown, applied-keeps}
-use Rattle.serializability.specs.Statement.{stateBefore, SameMove, reaction, committed, aborted, noMove}
-use Rattle.serializability.specs.Base.{isInO}
-use Rattle.serializability.specs.View.{Uniq}
-use Rattle.serializability.specs.Rules.{Shaped}
-use Rattle.serializability.specs.Key.{Deed, withMove, touched, handled, deeds, actOf}
-use Rattle.serializability.specs.Actions.{Seen, end-ok, actionBy, astep, Ok}
-use Rattle.serializability.specs.Moves.{react-allowed, after-allowed}
-use Rattle.serializability.specs.Named.{Named, named-of, smallest}
-use Rattle.serializability.specs.Rename.{Rel}
-use Rattle.serializability.specs.Sort.{Runs}
-use Rattle.serializability.specs.ReplayReact as React
-use Rattle.serializability.specs.ReplayEnd as End
+use Rattle.cells.specs.Origins.{isInO}
+use Rattle.cells.specs.ByOrigin.{Uniq}
+use Rattle.cells.specs.Rules.{Shaped}
+use Rattle.cells.specs.Deeds.{Deed, withMove, touched, actOf}
+use Rattle.cells.specs.Actions.{Seen, end-ok, actionBy, astep, Ok, Runs}
+use Rattle.cells.specs.Moves.{react-allowed, after-allowed}
+use Rattle.cells.specs.SmallestId.{Named, named-of, smallest}
+use Rattle.cells.specs.Rename.{Rel}
+use Rattle.cells.specs.ReplayReact as React
+use Rattle.cells.specs.ReplayEnd as End
 
 -- a move whose picks have the origins os, or which ends the members of the origins os, again in c
 pub data Again (c : State) (os : List Origin) : Move → Move → Type 0 where
   reacts : (r : ℕ) (ps ps′ : List ℕ) → originsOf (picked c ps′) ≡ os → Again c os (react r ps) (react r ps′)
   commits : (b b′ : ℕ) → ((o : Origin) → isInO o (marksIn (b′ ∷ []) c) ≡ isInO o os) → b′ ≡ least (markValues (entriesIn b′ c)) → Again c os (commit b) (commit b′)
   aborts : (b b′ : ℕ) → ((o : Origin) → isInO o (marksIn (b′ ∷ []) c) ≡ isInO o os) → b′ ≡ least (markValues (entriesIn b′ c)) → Again c os (abort b) (abort b′)
-
-pub again-same : (s c : State) (os : List Origin) {m m′ : Move} → Again c os m m′ → os ≡ handled s m → SameMove s c m m′
-unfolding handled
-again-same s c os (reacts r ps ps′ h) q = reaction r ps ps′ (h ∙ q)
-again-same s c os (commits b b′ h k) q = committed b b′ (record { members = λ o. h o ∙ ap (isInO o) q; smallest = k })
-again-same s c os (aborts b b′ h k) q = aborted b b′ (record { members = λ o. h o ∙ ap (isInO o) q; smallest = k })
 
 -- ---- one move
 
@@ -142,47 +132,3 @@ replay-runs t right sd (a ∷ xs) c F G ρ rel sound known h =
     let e = replay-runs t right sd xs (after t (suc (a .place)) c m) (astep t F a) G (n .names) (subst (λ (x : State). Rel x (astep t F a) (n .names)) q (n .rel))
     (subst (Sound (t .sizes)) q still) (known .1) (h .1) in
     record { state = e .state; names = e .names; goes = (n .allows, e .goes); agains = (rel .uniq, n .again, e .agains); rel = e .rel; sound = e .sound }
-
--- ---- the j-th move
-
--- a is the log's move at its place
-abbrev pub Placed : Table → State → List Move → Deed → Type 0
-Placed t s ms a = (a .move ≡ getD ms (a .place) noMove) × (a .picks ≡ handled (stateBefore t (upFrom 0 (length ms)) s ms (a .place)) (a .move))
-
-pub deeds-placed : (t : Table) (i : ℕ) (s : State) (ms : List Move)
-    → All (λ a. (n : ℕ) × (a .place ≡ i + n) × (a .move ≡ getD ms n noMove) × (a .picks ≡ handled (stateBefore t (upFrom i (length ms)) s ms n) (a .move)))
-    (deeds t i s ms)
-unfolding deeds stateBefore
-deeds-placed t i s [] = tt
-deeds-placed t i s (m ∷ ms) = (
-  (0, omega arith, refl, refl),
-  All-map {P = λ a. (n : ℕ) × (a .place ≡ suc i + n) × (a .move ≡ getD ms n noMove) ×
-      (a .picks ≡ handled (stateBefore t (upFrom (suc i) (length ms)) (after t (suc i) s m) ms n) (a .move))}
-      {Q = λ a. (n : ℕ) × (a .place ≡ i + n) × (a .move ≡ getD (m ∷ ms) n noMove) ×
-      (a .picks ≡ handled (stateBefore t (upFrom i (length (m ∷ ms))) s (m ∷ ms) n) (a .move))}
-      (λ a h. (suc (h .0), (let w = h .1 in omega arith), h .2, h .3)) (deeds t (suc i) (after t (suc i) s m) ms) (deeds-placed t (suc i) (after t (suc i) s m) ms),
-)
-
-pub all-placed : (t : Table) (s : State) (ms : List Move) → All (Placed t s ms) (deeds t 0 s ms)
-all-placed t s ms = All-map {P = λ a. (n : ℕ) × (a .place ≡ 0 + n) × (a .move ≡ getD ms n noMove) ×
-    (a .picks ≡ handled (stateBefore t (upFrom 0 (length ms)) s ms n) (a .move))} {Q = Placed t s ms}
-    (λ a h. let w : h .0 ≡ a .place = (let v = h .1 in omega arith) in
-    subst (λ (n : ℕ). (a .move ≡ getD ms n noMove) × (a .picks ≡ handled (stateBefore t (upFrom 0 (length ms)) s ms n) (a .move))) w (h .2, h .3)) (deeds t 0 s ms)
-    (deeds-placed t 0 s ms)
-
-pub same-moves : (t : Table) (s : State) (ms : List Move) (ds : List Deed) (c : State) → Agains t c ds → All (Placed t s ms) ds → (j : ℕ) → j < length ds
-    → SameMove (stateBefore t (upFrom 0 (length ms)) s ms (getD (map (λ a. a .place) ds) j 0)) (stateBefore t (map (λ a. a .place) ds) c (replayed t c (map actOf ds)) j)
-    (getD ms (getD (map (λ a. a .place) ds) j 0) noMove) (getD (replayed t c (map actOf ds)) j noMove)
-unfolding replayed stateBefore
-same-moves t s ms [] c A P j h = absurd (not-suc-le-zero h)
-same-moves t s ms (a ∷ ds) c A P zero h =
-    subst (λ (m : Move). SameMove (stateBefore t (upFrom 0 (length ms)) s ms (a .place)) c m (again c (actOf a) (a .move))) (P .0 .0)
-    (again-same (stateBefore t (upFrom 0 (length ms)) s ms (a .place)) c (a .picks) (A .1) (P .0 .1))
-same-moves t s ms (a ∷ ds) c A P (suc j) h = same-moves t s ms ds (after t (suc (a .place)) c (again c (actOf a) (a .move))) (A .2) (P .1) j (omega arith)
-
-pub serial-uniq : (t : Table) (ds : List Deed) (c : State) → Agains t c ds → (j : ℕ) → j < length ds
-    → Uniq (stateBefore t (map (λ a. a .place) ds) c (replayed t c (map actOf ds)) j .entries)
-unfolding replayed stateBefore
-serial-uniq t [] c A j h = absurd (not-suc-le-zero h)
-serial-uniq t (a ∷ ds) c A zero h = A .0
-serial-uniq t (a ∷ ds) c A (suc j) h = serial-uniq t ds (after t (suc (a .place)) c (again c (actOf a) (a .move))) (A .2) j (omega arith)

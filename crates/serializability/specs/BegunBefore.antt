@@ -14,19 +14,18 @@ use Rattle.lists.specs.Tests.{or-right-true}
 use Rattle.semantics.specs.Table.{Table, Rule, ruleAt, begins, productAtoms}
 use Rattle.semantics.specs.State.{Origin, Entry, owned}
 use Rattle.semantics.specs.Move.{Move, react, commit, abort, toGlobal}
-use Rattle.semantics.specs.Serial.{isEnd, sameOrigin}
+use Rattle.semantics.specs.Serial.{isEnd, sameOrigin, isBegin}
 use Rattle.semantics.specs.declared.Atom.{Atom}
-use Rattle.serializability.specs.Statement.{isBegin}
-use Rattle.serializability.specs.Base.{isInO, isInO-head, look, some-inj, none-some, look-all, same-eq, omap-some}
-use Rattle.serializability.specs.View.{look-map}
-use Rattle.serializability.specs.Rules.{Shape, plain, begin, inner, Shaped, make, make-kinds, kinds-plain, kinds-inner, kinds-rest}
-use Rattle.serializability.specs.Key.{Deed}
-use Rattle.serializability.specs.Cells.{Cells, Source, apply-inv}
-use Rattle.serializability.specs.Actions.{Seen, strip, received, left, actionBy, actionOf, astep, end-ok}
-use Rattle.serializability.specs.Marks.{firstOf}
-use Rattle.serializability.specs.Link.{Good}
-use Rattle.serializability.specs.Fate.{LogRuns}
-use Rattle.serializability.specs.Follow.{seenAfter, log-rest}
+use Rattle.cells.specs.Origins.{isInO, isInO-head, look, some-inj, none-some, look-all, same-eq, omap-some}
+use Rattle.cells.specs.ByOrigin.{look-map}
+use Rattle.cells.specs.Rules.{Shape, plain, begin, inner, Shaped, make, make-kinds, kinds-plain, kinds-inner, kinds-rest}
+use Rattle.cells.specs.Deeds.{Deed}
+use Rattle.cells.specs.Cells.{Cells, Source, apply-inv}
+use Rattle.cells.specs.Actions.{Seen, strip, received, left, actionBy, actionOf, astep, end-ok}
+use Rattle.cells.specs.Marks.{firstOf}
+use Rattle.cells.specs.Simulation.{Good}
+use Rattle.serializability.specs.SameKey.{LogRuns}
+use Rattle.serializability.specs.FollowMark.{seenAfter, log-rest}
 use Rattle.serializability.specs.Blocks.{end-member}
 
 no-marks : (i w : ℕ) (vs : List ℕ) (q : ℕ) (ats : List Atom) (o : Origin) (d : Entry) → all (λ e. ltb (e .kind) 3) (make i w vs q ats) ≡ true

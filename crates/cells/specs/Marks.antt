@@ -14,16 +14,15 @@ use Rattle.lists.specs.Each.{head-eq, tail-eq}
 use Rattle.semantics.specs.Table.{Table, Rule, ruleAt, consumed, productAtoms, begins}
 use Rattle.semantics.specs.State.{Origin, Entry, isMessage, isMemberMark, owned}
 use Rattle.semantics.specs.Move.{Move, react, commit, abort, merged, kindMade}
-use Rattle.semantics.specs.Serial.{isEnd}
+use Rattle.semantics.specs.Serial.{isEnd, isBegin}
 use Rattle.semantics.specs.declared.Atom.{Atom}
-use Rattle.serializability.specs.Statement.{isBegin}
-use Rattle.serializability.specs.Base.{orElse, bindO, isInO, look, some-inj, none-some, found-at, same-refl}
-use Rattle.serializability.specs.View.{ports-messages}
-use Rattle.serializability.specs.Rules.{productOf, Shape, plain, begin, inner, Shaped, owners, touched-plain, touched-inner, make}
-use Rattle.serializability.specs.Key.{Deed}
-use Rattle.serializability.specs.Cells.{Cells, apply, Source}
-use Rattle.serializability.specs.Actions.{Seen, strip, left, endAction, actionBy, markOf, EndTests, Tests, Ok, product-of, left-result, in-one, end-local}
-use Rattle.serializability.specs.Link.{Mark}
+use Rattle.cells.specs.Origins.{orElse, bindO, isInO, look, some-inj, none-some, found-at, same-refl}
+use Rattle.cells.specs.ByOrigin.{ports-messages}
+use Rattle.cells.specs.Rules.{productOf, Shape, plain, begin, inner, Shaped, owners, touched-plain, touched-inner, make}
+use Rattle.cells.specs.Deeds.{Deed}
+use Rattle.cells.specs.Cells.{Cells, apply, Source}
+use Rattle.cells.specs.Actions.{Seen, strip, left, endAction, actionBy, markOf, EndTests, Tests, Ok, product-of, left-result, in-one, end-local}
+use Rattle.cells.specs.Simulation.{Mark}
 
 -- ---- where an owner comes from
 

@@ -13,12 +13,11 @@ use Rattle.lists.specs.Numbers.{isIn-head, isIn-one, least-in}
 use Rattle.semantics.specs.Table.{Table, Rule, ruleAt, consumed, productAtoms}
 use Rattle.semantics.specs.State.{Origin, Entry, isMessage, isAbortMark, isMemberMark, owned}
 use Rattle.semantics.specs.Move.{Move, react, commit, abort, onPorts, ownersFit, merged, toGlobal}
-use Rattle.semantics.specs.Serial.{isEnd}
-use Rattle.serializability.specs.Statement.{isBegin}
-use Rattle.serializability.specs.Base.{isInO, distinctO, look, some-inj, none-some, look-origin, look-all}
-use Rattle.serializability.specs.Rules.{owners, touchedBy, merged-other, merged-in, make, make-all}
-use Rattle.serializability.specs.Key.{Deed}
-use Rattle.serializability.specs.Cells.{Cells, Action, apply, mine, Local, Inner}
+use Rattle.semantics.specs.Serial.{isEnd, isBegin}
+use Rattle.cells.specs.Origins.{isInO, distinctO, look, some-inj, none-some, look-origin, look-all}
+use Rattle.cells.specs.Rules.{owners, touchedBy, merged-other, merged-in, make, make-all}
+use Rattle.cells.specs.Deeds.{Deed}
+use Rattle.cells.specs.Cells.{Cells, Action, apply, mine, Local, Inner}
 
 -- a member mark without its id
 abbrev pub strip : Entry → Entry
@@ -106,6 +105,11 @@ pub record Ok (t : Table) (F : Seen) (a : Deed) : Type 0 where
   pub fresh : (o : Origin) → o .maker ≡ suc (a .place) → F .cell o ≡ none
   pub unused : isBegin t (a .move) ≡ true → (o : Origin) (e : Entry) → F .cell o ≡ some e → isIn (e .owner) (a .touched) ≡ false
   pub whole : Whole t (F .cell) (least (a .touched)) (a .picks) (a .move)
+
+-- the moves are all allowed, one after another from F, and lead to G
+abbrev pub Runs : Table → Seen → List Deed → Seen → Type 0
+Runs t F [] G = F ≡ G
+Runs t F (a ∷ xs) G = Ok t F a × Runs t (astep t F a) xs G
 
 -- the move a of a log, at place i: a begin gets the next id
 pub record StepOk (t : Table) (i : ℕ) (F : Seen) (a : Deed) : Type 0 where

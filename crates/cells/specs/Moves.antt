@@ -20,10 +20,10 @@ use Rattle.semantics.specs.declared.Refusal.the-variants.{NoTransaction, EndNot
 use Rattle.semantics.specs.declared.Verdict.the-variants.{Allowed}
 use Rattle.wellformed.specs.Verdicts.{both-allowed, unless-allowed}
 use Rattle.wellformed.specs.Picks.{ReactGiven, react-given}
-use Rattle.serializability.specs.Base.{orElse, omap, bindO, same-eq, isInO, look, none-some, look-origin, look-all, is-none}
-use Rattle.serializability.specs.View.{look-append, look-map, Uniq, look-keep, uniq-keep, uniq-map, uniq-append, look-without, uniq-without, onlyIf}
-use Rattle.serializability.specs.Rules.{Shape, values, touchedBy, make, make-all, products-make}
-use Rattle.serializability.specs.Actions.{left}
+use Rattle.cells.specs.Origins.{orElse, omap, bindO, same-eq, isInO, look, none-some, look-origin, look-all, is-none}
+use Rattle.cells.specs.ByOrigin.{look-append, look-map, Uniq, look-keep, uniq-keep, uniq-map, uniq-append, look-without, uniq-without, onlyIf}
+use Rattle.cells.specs.Rules.{Shape, values, touchedBy, make, make-all, products-make}
+use Rattle.cells.specs.Actions.{left}
 
 -- ---- products have different origins
 

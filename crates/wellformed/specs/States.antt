@@ -1,5 +1,4 @@
--- Laws of the two columns in which words hold entries: what a loop over both has ahead of it, what depends on owners alone,
--- and what sizes in order say of the columns.
+-- What an accepted state gives, and the laws of the two columns in which its words hold entries.
 use Prim.Native.Nat.{ℕ, suc, _+_, _-_, _*_, _≤_, _<_}
 use mathlib.Core.Path.{_≡_, refl}
 use mathlib.Core.Bool.{Bool, true, _&&_}
@@ -14,20 +13,20 @@ use Rattle.lists.specs.Lists.{all}
 use Rattle.lists.specs.Tests.{and-both}
 use Rattle.lists.specs.Walk.{drop-step}
 use Rattle.lists.specs.Ahead.{Tails}
 use Rattle.semantics.specs.State.{Entry, entryOf, entriesOf, entryCount, nextOf, ownersOf, itemsOf, stateSizesOk}
 
 -- the entries from place i on
 unfoldable pub entriesFrom : List ℕ → List ℕ → ℕ → List Entry
 entriesFrom os ws i = entriesOf i (drop i os) (drop i ws)
 
-abbrev pub entryAt : List ℕ → List ℕ → ℕ → Entry
-entryAt os ws i = entryOf i (getD os i 0) (getD ws i 0)
+abbrev pub columnEntry : List ℕ → List ℕ → ℕ → Entry
+columnEntry os ws i = entryOf i (getD os i 0) (getD ws i 0)
 
-pub entries-tails : (os ws : List ℕ) → length os ≡ length ws → Tails (entryAt os ws) (entriesFrom os ws) (length os)
+pub entries-tails : (os ws : List ℕ) → length os ≡ length ws → Tails (columnEntry os ws) (entriesFrom os ws) (length os)
 unfolding entriesFrom
 entries-tails os ws e = record { more = more; none = λ i h. rw (drop-of-length-le os h) }
   where
-    more : (i : ℕ) → i < length os → entriesOf i (drop i os) (drop i ws) ≡ entryAt os ws i ∷ entriesOf (i + 1) (drop (i + 1) os) (drop (i + 1) ws)
+    more : (i : ℕ) → i < length os → entriesOf i (drop i os) (drop i ws) ≡ columnEntry os ws i ∷ entriesOf (i + 1) (drop (i + 1) os) (drop (i + 1) ws)
     more i h =
         let l : i < length ws = omega arith in
         rw (drop-step os i 0 h, drop-step ws i 0 l, add-one i)
@@ -38,7 +37,7 @@ all-owners p i (o ∷ os) [] h = absurd (omega arith)
 all-owners p i (o ∷ os) (w ∷ ws) h = rw (all-owners p (suc i) os ws (omega arith))
 
 -- what sizes in order say
-pub record Sized (s : List ℕ) : Type 0 where
+pub record StateSized (s : List ℕ) : Type 0 where
   pub count : entryCount s ≤ 1024
   pub first : 1 ≤ nextOf s
   pub last : nextOf s ≤ 65536
@@ -46,9 +45,9 @@ pub record Sized (s : List ℕ) : Type 0 where
   pub owners : length (ownersOf s) ≡ entryCount s
   pub items : length (itemsOf s) ≡ entryCount s
 
-pub sized : (s : List ℕ) → stateSizesOk s ≡ true → Sized s
+pub state-sized : (s : List ℕ) → stateSizesOk s ≡ true → StateSized s
 unfolding stateSizesOk
-sized s h =
+state-sized s h =
     let n = entryCount s in
     let next = leb 1 (nextOf s) && leb (nextOf s) 65536 in
     let (two, rest) = and-both (leb 2 (length s)) (leb n 1024 && next && eqb (length s) (2 + 2 * n)) h in

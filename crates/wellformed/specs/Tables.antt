@@ -14,31 +14,31 @@ use Rattle.lists.specs.Counting.{count-le, count-map, all-map, all-each, all-we
 use Rattle.lists.specs.Parts.{any-map}
 use Rattle.lists.specs.Rising.{zeros-first, rises-map}
 use Rattle.lists.specs.Walk.{below-each, getD-upFrom, length-upFrom}
 use Rattle.semantics.specs.Words.{atomRole, atomMode, portOf, valueOf}
 use Rattle.semantics.specs.Table.{sizesOf, numbersOf, atomWordsOf, ruleWords, portCount, sizesWithin, tableSizesOk, occurs, numbersOk, isRole, modeOk, consumeOk, emitOk, markOk, beginOk, innerOk, compensateOk, atomOk, shapeOf, ruleOk, rulesOk, tableContentsOk, atomValue, atomOf, Rule, ruleOf, tableOf, noRule, ruleAt, hasRole, consumed, productAtoms}
 use Rattle.semantics.specs.Move.{unless, both}
 use Rattle.semantics.specs.Answers.{tableVerdict}
 use Rattle.semantics.specs.declared.Sizes.{Sizes}
 use Rattle.semantics.specs.declared.Shape.{Shape}
 use Rattle.semantics.specs.declared.Atom.{Atom}
 use Rattle.semantics.specs.declared.AtomValue.{AtomValue}
 use Rattle.semantics.specs.declared.AtomValue.the-variants.{Constant, Received}
 use Rattle.semantics.specs.declared.Refusal.{Refusal}
 use Rattle.semantics.specs.declared.Refusal.the-variants.{TableSizes, TableContents}
 use Rattle.semantics.specs.declared.Verdict.the-variants.{Allowed}
 
 -- ---- sizes and length
 
-pub record Sized (t : List ℕ) : Type 0 where
+pub record TableSized (t : List ℕ) : Type 0 where
   pub long : 5 ≤ length t
   pub ports : portCount (sizesOf t) ≤ 256
   pub rules : sizesOf t .rules ≤ 64
   pub atoms : sizesOf t .atoms ≤ 512
   pub whole : length t ≡ 5 + 2 * sizesOf t .atoms
 
-pub sized : (t : List ℕ) → tableSizesOk t ≡ true → Sized t
+pub table-sized : (t : List ℕ) → tableSizesOk t ≡ true → TableSized t
 unfolding tableSizesOk
-sized t h =
+table-sized t h =
     let z = sizesOf t in
     let (l, h) = and-both (leb 5 (length t)) (sizesWithin z && eqb (length t) (5 + 2 * z .atoms)) h in
     let (h, w) = and-both (sizesWithin z) (eqb (length t) (5 + 2 * z .atoms)) h in
@@ -52,10 +52,10 @@ sized t h =
       whole = eqb-true (length t) (5 + 2 * z .atoms) w;
     }
 
-pub numbers-length : (t : List ℕ) → Sized t → length (numbersOf t) ≡ sizesOf t .atoms
+pub numbers-length : (t : List ℕ) → TableSized t → length (numbersOf t) ≡ sizesOf t .atoms
 numbers-length t s = length-take-le (sizesOf t .atoms) (drop 5 t) (omega (arith, length-drop 5 t))
 
-pub words-length : (t : List ℕ) → Sized t → length (atomWordsOf t) ≡ sizesOf t .atoms
+pub words-length : (t : List ℕ) → TableSized t → length (atomWordsOf t) ≡ sizesOf t .atoms
 words-length t s = omega (arith, length-drop (5 + sizesOf t .atoms) t)
 
 -- the two parts, as they are cut out
@@ -78,7 +78,7 @@ numbers-rise rules ns h =
     and-both (all (λ n. ltb n rules) ns) (risesFrom 0 (λ n. n) ns) h .1
 
 pub record WellFormed (t : List ℕ) : Type 0 where
-  pub sizes : Sized t
+  pub sizes : TableSized t
   pub numbers : numbersOk (sizesOf t .rules) (numbersOf t) ≡ true
   pub each : (r : ℕ) → r < sizesOf t .rules → ruleOk (sizesOf t) (ruleWords r (numbersOf t) (atomWordsOf t)) ≡ true
 
@@ -98,7 +98,7 @@ well-formed t h =
     let (s, c) = verdict-allowed t h in
     let z = sizesOf t in
     let (n, k) = and-both (numbersOk (z .rules) (numbersOf t)) (rulesOk z (numbersOf t) (atomWordsOf t)) c in
-    record { sizes = sized t s; numbers = n; each = λ r. below-each (λ r. ruleOk z (ruleWords r (numbersOf t) (atomWordsOf t))) (z .rules) r k }
+    record { sizes = table-sized t s; numbers = n; each = λ r. below-each (λ r. ruleOk z (ruleWords r (numbersOf t) (atomWordsOf t))) (z .rules) r k }
 
 -- ---- a rule
 

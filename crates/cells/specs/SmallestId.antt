@@ -16,9 +16,9 @@ use Rattle.semantics.specs.declared.Sizes.{Sizes}
 use Rattle.lists.specs.Members.{Among}
 use Rattle.wellformed.specs.Entries as Entries
 use Rattle.wellformed.specs.Entries.{StateRight}
-use Rattle.serializability.specs.Base.{look, some-inj, none-some}
-use Rattle.serializability.specs.View.{Uniq, look-head, look-deeper, uniq-keep, look-kept, kept-look}
-use Rattle.serializability.specs.Rules.{values}
+use Rattle.cells.specs.Origins.{look, some-inj, none-some}
+use Rattle.cells.specs.ByOrigin.{Uniq, look-head, look-deeper, uniq-keep, look-kept, kept-look}
+use Rattle.cells.specs.Rules.{values}
 
 -- the transaction v's own mark
 abbrev pub OwnMark : List Entry → ℕ → Type 0
