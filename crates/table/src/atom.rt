@@ -6,6 +6,7 @@ ghost use Rattle.semantics.specs.Words.{atomRole};
 ghost use Rattle.semantics.specs.Table.{classOf, modeOk, atomOk};
 use semantics::Shape;
 use semantics::Sizes;
+use words::atom;
 
 // The class of a port: 0 global, 1 local, 2 merge.
 pub fn class_of(z: Sizes, port: u32) -> u32
@@ -26,19 +27,18 @@ fn value_ok(s: Shape, w: u32) -> bool
     requires { ⌜ s .consumes ≤ 16 ⌝ }
     ensures { λ r. ⌜ r ≡ modeOk s w ⌝ }
 {
-    let mode = w / 16777216 % 16;
-    let value = mode * 65536 + w % 65536;
-    (value as usize) < 65536 + s.consumes
+    let value = atom::moded_value_of(w);
+    (value as usize) < atom::VALUES + s.consumes
 }
 
 fn atom_ok(z: Sizes, s: Shape, w: u32) -> bool
     requires { ⌜ s .consumes ≤ 16 ⌝ }
     ensures { λ r. ⌜ r ≡ atomOk z s w ⌝ }
 {
-    let role = w / 268435456;
-    let mode = w / 16777216 % 16;
-    let port = w / 65536 % 256;
-    let value = w % 65536;
+    let role = atom::role_of(w);
+    let mode = atom::mode_of(w);
+    let port = atom::port_of(w);
+    let value = atom::value_of(w);
     let globals = z.globals;
     let ports = z.globals as usize + z.locals as usize + z.merges as usize;
     let begins = s.begins;
@@ -66,7 +66,7 @@ pub fn in_run(z: Sizes, s: Shape, role: u32, w: u32) -> bool
     requires { ⌜ s .consumes ≤ 16 ⌝ }
     ensures { λ r. ⌜ r ≡ inRun atomRole (atomOk z s) role w ⌝ }
 {
-    if w / 268435456 != role {
+    if atom::role_of(w) != role {
         return false;
     }
     atom_ok(z, s, w)

@@ -20,6 +20,7 @@ use crate::rule::rule_class;
 use semantics::Atom;
 use semantics::AtomValue;
 use semantics::Sizes;
+use words::atom;
 
 // The first count atoms are the rule's, the consumes (takes) first among them.
 pub struct Rule {
@@ -33,10 +34,11 @@ pub struct Rule {
 fn value_of(w: u32) -> AtomValue
     ensures { λ r. ⌜ r ≡ atomValue (eqb (atomMode w) 1) (valueOf w) ⌝ }
 {
-    if w / 16777216 % 16 == 1 {
-        AtomValue::Received((w % 65536) as u16)
+    let value = atom::value_of(w) as u16;
+    if atom::mode_of(w) == 1 {
+        AtomValue::Received(value)
     } else {
-        AtomValue::Constant((w % 65536) as u16)
+        AtomValue::Constant(value)
     }
 }
 
@@ -45,8 +47,8 @@ pub fn atom_of(w: u32) -> Atom
 {
     let value = value_of(w);
     Atom {
-        role: (w / 268435456) as u16,
-        port: (w / 65536 % 256) as u16,
+        role: atom::role_of(w) as u16,
+        port: atom::port_of(w) as u16,
         value: value,
     }
 }

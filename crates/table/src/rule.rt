@@ -13,6 +13,8 @@ use crate::atom::class_of;
 use crate::atom::in_run;
 use semantics::Shape;
 use semantics::Sizes;
+use words::atom::port_of;
+use words::atom::role_of;
 
 // The place behind the consumes (takes), which come first.
 pub fn consumes_of(ws: &[u32]) -> usize
@@ -20,7 +22,7 @@ pub fn consumes_of(ws: &[u32]) -> usize
 {
     let mut i = 0;
     while i < ws.len() {
-        if ws[i] / 268435456 != 0 {
+        if role_of(ws[i]) != 0 {
             return i;
         }
         i += 1;
@@ -33,7 +35,7 @@ pub fn has_role(ws: &[u32], role: u32) -> bool
 {
     let mut i = 0;
     while i < ws.len() {
-        if ws[i] / 268435456 == role {
+        if role_of(ws[i]) == role {
             return true;
         }
         i += 1;
@@ -52,7 +54,7 @@ fn first(ws: &[u32]) -> u32
 pub fn rule_class(ws: &[u32], z: Sizes) -> u32
     ensures { λ r. ⌜ r ≡ classOf z (portOf (getD (now (ws .entry)) 0 0)) ⌝ }
 {
-    class_of(z, first(ws) / 65536 % 256)
+    class_of(z, port_of(first(ws)))
 }
 
 // The place behind the atoms of a role from a place on, up to the first that is of another role or

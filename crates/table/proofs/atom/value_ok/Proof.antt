@@ -5,7 +5,7 @@ use Rattle.table.proofs.atom.value_ok.Statement.{statement}
 use Rattle.table.proofs.atom.value_ok.Tie as tie
 
 returns : tie.Need-returns
-returns c = value-with-mode (c .before .args .s) _ (search needs)
+returns c = rw (c .before .moded-value-of .ensures) (value-with-mode (c .before .before .args .s) _ (c .before .before .pre))
 
 pub value-ok-spec : {M : Type 1} → statement M
-value-ok-spec = tie.close (tie.spec (λ c. search needs) (λ c. search needs) (λ c. search needs) (λ c. search needs) returns)
+value-ok-spec = tie.close (tie.spec (λ c κs. search needs) (λ c. search needs) (λ c. search needs) returns)

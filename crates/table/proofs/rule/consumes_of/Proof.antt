@@ -1,4 +1,5 @@
 -- `rule::consumes_of` meets its contract: the atoms so far are consumes.
+use mathlib.Core.Path.{sym, _∙_}
 use borrow.Author.Needs.{needs}
 use borrow.Author.Tests.{eq-eqb, ne-eqb}
 use Prim.Native.Nat.{_-_}
@@ -18,10 +19,10 @@ loop-holds : tie.Need-loop-holds Inv μ
 loop-holds c = skipping-start _ _ _ (search needs)
 
 returns : tie.Need-returns Inv μ
-returns c = skipping-here (c .before .before .before .loop .inv) 0 (search needs) (ne-eqb _ _ (c .if1 .taken))
+returns c = skipping-here (c .before .before .before .before .loop .inv) 0 (search needs) (ne-eqb _ _ (λ e. c .if1 .taken (c .before .role-of .ensures ∙ e)))
 
 loop-again : tie.Need-loop-again Inv μ
-loop-again c = skipping-next (c .before .before .before .loop .inv) 0 (search needs) (eq-eqb _ _ (c .if1 .left))
+loop-again c = skipping-next (c .before .before .before .before .loop .inv) 0 (search needs) (eq-eqb _ _ (sym (c .before .role-of .ensures) ∙ c .if1 .left))
 
 returns-2 : tie.Need-returns-2 Inv μ
 returns-2 c = skipping-done (c .before .loop .inv) (search needs)
@@ -35,6 +36,7 @@ consumes-of-spec =
     loop-holds
     (λ c. search needs)
     (λ c. search needs)
+    (λ c κs. search needs)
     returns
     (λ c. search needs)
     (λ c. search needs)

@@ -1,4 +1,5 @@
 -- `rule::has_role` meets its contract: none of the atoms so far is of the role.
+use mathlib.Core.Path.{sym, _∙_}
 use borrow.Author.Needs.{needs}
 use borrow.Author.Tests.{eq-eqb, ne-eqb}
 use Prim.Native.Nat.{_-_}
@@ -21,10 +22,10 @@ loop-holds : tie.Need-loop-holds Inv μ
 loop-holds c = ahead-start _ _ _
 
 returns : tie.Need-returns Inv μ
-returns c = ahead-here (slice-tails 0 _) (c .before .before .before .loop .inv) (search needs) true (λ xs. or-true _ (eq-eqb _ _ (c .if1 .taken)))
+returns c = ahead-here (slice-tails 0 _) (c .before .before .before .before .loop .inv) (search needs) true (λ xs. or-true _ (eq-eqb _ _ (sym (c .before .role-of .ensures) ∙ c .if1 .taken)))
 
 loop-again : tie.Need-loop-again Inv μ
-loop-again c = ahead-next (slice-tails 0 _) (c .before .before .before .loop .inv) (search needs) _ (λ xs. or-false _ (ne-eqb _ _ (c .if1 .left)))
+loop-again c = ahead-next (slice-tails 0 _) (c .before .before .before .before .loop .inv) (search needs) _ (λ xs. or-false _ (ne-eqb _ _ (λ e. c .if1 .left (c .before .role-of .ensures ∙ e))))
 
 returns-2 : tie.Need-returns-2 Inv μ
 returns-2 c = ahead-done (slice-tails 0 _) (c .before .loop .inv) (search needs)
@@ -38,6 +39,7 @@ has-role-spec =
     loop-holds
     (λ c. search needs)
     (λ c. search needs)
+    (λ c κs. search needs)
     returns
     (λ c. search needs)
     (λ c. search needs)
