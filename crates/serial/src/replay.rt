@@ -16,9 +16,9 @@ ghost use Rattle.step.specs.Make.{Indexed};
 ghost use Rattle.serial.specs.Replay.{placeIn, headAgain, Words, Readable, Replayable, ReplayedAs};
 use crate::chunk::chunk_of;
 use log::head_at;
+use rules::decode::consumes_at;
 use semantics::Verdict;
 use step::make::make;
-use table::decode::consumes_at;
 use table::parts::sizes_of;
 use words::head;
 

@@ -12,7 +12,7 @@ ghost use Rattle.semantics.specs.Move.{isZero, moveOk};
 ghost use Rattle.semantics.specs.Answers.{tableVerdict};
 ghost use Rattle.semantics.specs.declared.Verdict.the-variants.{Allowed};
 ghost use Rattle.table.specs.Index.{Starts};
-use table::decode::consumes_at;
+use rules::decode::consumes_at;
 use table::parts::sizes_of;
 use words::head;
 

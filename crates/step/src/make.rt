@@ -16,9 +16,9 @@ use ending::verdict::end_verdict;
 use products::append::next_after;
 use products::react::react;
 use reaction::verdict::react_verdict;
+use rules::decode::rule_at;
 use semantics::Refusal;
 use semantics::Verdict;
-use table::decode::rule_at;
 use table::parts::sizes_of;
 use words::head;
 
