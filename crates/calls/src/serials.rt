@@ -10,8 +10,8 @@ ghost use Rattle.semantics.specs.Answers.{answerOf, serialize, serializeTarget}
 ghost use Rattle.state.specs.Arrays.{Arrays};
 ghost use Rattle.calls.specs.Serials.{Serializable, Roomy, SerializedAs, Reorderable, ReorderedAs};
 use log::count_of;
-use opened::any_open;
 use ready::ready;
+use rules::emits::begins_emit;
 use semantics::Outcome;
 use semantics::Refusal;
 use semantics::Verdict;
@@ -20,11 +20,11 @@ use serial::order::order_of;
 use serial::record::record;
 use serial::replay::replay;
 use state::State;
+use state::any_open;
 use state::entry_count;
 use state::load;
 use state::owners_of;
-use table::begins_emit;
-use words::copy_words;
+use words::copy::copy_words;
 
 // Whether a transaction is open in a state's words.
 fn open_in(state: &[u32]) -> bool
