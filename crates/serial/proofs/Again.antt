@@ -16,7 +16,7 @@ use Rattle.semantics.specs.Move.{Move, react, commit, abort, picksUsed, moveOf,
 use Rattle.semantics.specs.Log.{headOf, fourPicks}
 use Rattle.semantics.specs.Serial.{Act, isEnd, placeOf, again}
 use Rattle.state.specs.Working.{originOf}
-use Rattle.serial.specs.Acts.{Recorded, ActsAgain, idOf, wordsOfMove}
+use Rattle.serial_laws.specs.Acts.{Recorded, ActsAgain, idOf, wordsOfMove}
 use Rattle.serial.specs.Replay.{placeIn, headAgain, Words}
 
 -- ---- the head that the code makes

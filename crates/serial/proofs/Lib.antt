@@ -3,6 +3,7 @@ pub mod Filling
 pub mod Chunking
 pub mod Marking
 pub mod Copying
+pub mod MarksKept
 pub mod Tracking
 pub mod Acting
 pub mod Recording

@@ -27,7 +27,7 @@ use Rattle.state.specs.declared.State.{State}
 use Rattle.state.specs.Working.{originOf, stateIn}
 use Rattle.step.specs.Make.{MadeAs}
 use Rattle.run.specs.Runs.{movesFrom, moves-tails, moves-whole, Reached, reached-start, reached-made, reached-refused, reached-end}
-use Rattle.serial.specs.Acts.{Recorded, endsBegun, endAfter}
+use Rattle.serial_laws.specs.Acts.{Recorded, endsBegun, endAfter}
 use Rattle.serial.specs.Marks.{Lent, OneOf}
 use Rattle.serial.specs.Recordings.{wordsAt, concernedBy, markIn, MoveNoted, ifGrown, Recordable, RecordRoom, RecordedAs}
 use Rattle.serial.proofs.Copying.{picks-before, picks-here}

@@ -16,14 +16,14 @@ use Rattle.lists.specs.Prefix.{prefix-tails}
 use Rattle.lists.specs.Columns.{row, row-first, row-second, rows-over}
 use Rattle.semantics.specs.Table.{Table}
 use Rattle.semantics.specs.State.{State}
-use Rattle.semantics.specs.Move.{Move, allowed, applied, to, refused, step, stepWords, moveVerdict}
+use Rattle.semantics.specs.Move.{applied, to, refused, stepWords, moveVerdict}
 use Rattle.semantics.specs.Log.{moveCount, headOf, fourPicks, allPicks, logWords}
 use Rattle.semantics.specs.Serial.{Act, after, again, replayed, fits}
 use Rattle.semantics.specs.declared.Refusal.{Refusal}
-use Rattle.semantics.specs.declared.Verdict.the-variants.{Allowed}
 use Rattle.wellformed.specs.Step.{stepWords-verdict, refused≢to, accepted}
 use Rattle.wellformed.specs.Length.{length-maker}
-use Rattle.serial.specs.Acts.{Recorded, wordsOfMove, ActsAgain, Replays, replayFits}
+use Rattle.cells.specs.Moves.{after-allowed}
+use Rattle.serial_laws.specs.Acts.{Recorded, wordsOfMove, ActsAgain, Replays, replayFits}
 use Rattle.serial.specs.Replay.{Words, Arranged}
 use Rattle.serial.proofs.Again.{words-same}
 
@@ -37,10 +37,6 @@ pub record Replaying (ceiling : ℕ) (t : Table) (start : State) (l order origin
   pub picks : take (4 * j) (drop (1 + moveCount l) out) ++ allPicks (replayed t c rest) ≡ allPicks (replayed t start xs)
 
 -- ---- one act
-
-after-allowed : (t : Table) (i : ℕ) (c : State) (m : Move) → allowed t c m ≡ Allowed → after t i c m ≡ applied t i c m
-unfolding after step
-after-allowed t i c m h = rw h
 
 -- an act made again that leaves few enough entries is a step, whoever makes it
 passes : (ceiling : ℕ) (t : Table) (i maker : ℕ) (c : State) (a : Act) → ActsAgain t c a → fits ceiling (after t i c (again c a (a .move))) ≡ true

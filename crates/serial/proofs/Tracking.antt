@@ -24,7 +24,7 @@ use Rattle.wellformed.specs.Entries.{Sound}
 use Rattle.wellformed.specs.Products.{among-products}
 use Rattle.cells.specs.Rules.{Shape, plain, begin, inner, Shaped}
 use Rattle.state.specs.Working.{originOf}
-use Rattle.serial.specs.Begun.{MarksHave, reacted-have, ended-have}
+use Rattle.serial.proofs.MarksKept.{MarksHave, reacted-have, ended-have}
 use Rattle.serial.specs.Marks.{isMarkOf, marksOf, OneOf}
 use Rattle.serial.specs.Recordings.{markIn, ifGrown}
 

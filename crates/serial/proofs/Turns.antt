@@ -21,7 +21,7 @@ use Rattle.state.specs.declared.State.{State}
 use Rattle.state.specs.Working.{stateIn}
 use Rattle.state.specs.Arrays.{count-in}
 use Rattle.step.specs.Make.{Workable, MadeAs}
-use Rattle.serial.specs.Acts.{replayFits}
+use Rattle.serial_laws.specs.Acts.{replayFits}
 use Rattle.serial.specs.Replay.{placeIn, Words, Replayable, Arranged, ReplayedAs}
 use Rattle.serial.proofs.Replaying.{Replaying, replaying-start, replaying-denied, replaying-next, replaying-end}
 

@@ -21,7 +21,7 @@ use Rattle.state.specs.declared.State.{State}
 use Rattle.state.specs.Working.{rowOf, stateIn}
 use Rattle.step.specs.Make.{Workable}
 use Rattle.run.specs.Runs.{Prepared, RanAs}
-use Rattle.serial.specs.Acts.{Recorded, endAfter}
+use Rattle.serial_laws.specs.Acts.{Recorded, endAfter}
 use Rattle.serial.specs.Marks.{marksOf, NotedAt}
 
 -- ---- one move, in the state before it

@@ -19,7 +19,7 @@ use Rattle.state.specs.declared.State.{State}
 use Rattle.state.specs.Working.{originOf}
 use Rattle.step.specs.Make.{Indexed, Workable}
 use Rattle.log.specs.Form.{LogSized}
-use Rattle.serial.specs.Acts.{Recorded, Replays, replayFits}
+use Rattle.serial_laws.specs.Acts.{Recorded, Replays, replayFits}
 
 -- the place of the first entry of the origin in a word
 abbrev pub placeIn : List Entry → ℕ → ℕ

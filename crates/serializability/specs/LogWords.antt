@@ -99,13 +99,13 @@ columns (m ∷ ms) = λ j. (headOf m ∷ take-at (fourPicks m) (allPicks ms) 4 (
     rest : map (fromColumns ms) (upFrom 0 (length ms)) ≡ map moveWords ms → map (fromColumns (m ∷ ms)) (upFrom 1 (length ms)) ≡ map moveWords ms
     rest ih = map-shift (fromColumns (m ∷ ms)) (length ms) 0 ∙ map-up (λ x. fromColumns (m ∷ ms) (suc x)) (fromColumns ms) (length ms) 0 (λ x l. shifted x) ∙ ih
 
-pub picks-length : (ms : List Move) → length (allPicks ms) ≡ 4 * length ms
-picks-length [] = refl
-picks-length (m ∷ ms) = let a = length-append (fourPicks m) (allPicks ms) in let b = fourPicks-length m in let c = picks-length ms in omega arith
+pub allPicks-length : (ms : List Move) → length (allPicks ms) ≡ 4 * length ms
+allPicks-length [] = refl
+allPicks-length (m ∷ ms) = let a = length-append (fourPicks m) (allPicks ms) in let b = fourPicks-length m in let c = allPicks-length ms in omega arith
 
 pub log-length : (ms : List Move) → length (logWords ms) ≡ 1 + 5 * length ms
 unfolding logWords
-log-length ms = let a = length-append (map headOf ms) (allPicks ms) in let b = length-map ms headOf in let c = picks-length ms in omega arith
+log-length ms = let a = length-append (map headOf ms) (allPicks ms) in let b = length-map ms headOf in let c = allPicks-length ms in omega arith
 
 log-count : (ms : List Move) → moveCount (logWords ms) ≡ length ms
 unfolding logWords
@@ -126,7 +126,8 @@ moves-back ms = map-up (moveAt (logWords ms)) (fromColumns ms) (length ms) 0 (λ
     at i h = λ j. head j ∷ take 4 (picks j)
       where
         head : getD (logWords ms) (1 + i) 0 ≡ getD (map headOf ms) i 0
-        head = ap (λ (n : ℕ). getD (logWords ms) n 0) (one-add i) ∙ List·getD-append (map headOf ms) (allPicks ms) 0 i (let w = length-map ms headOf in omega arith)
+        head = ap (λ (n : ℕ). getD (logWords ms) n 0) (one-add i)
+            ∙ List·getD-append (map headOf ms) (allPicks ms) 0 i (let w = length-map ms headOf in omega arith)
 
         picks : drop (1 + length ms + 4 * i) (logWords ms) ≡ drop (4 * i) (allPicks ms)
         picks = ap (λ (n : ℕ). drop n (logWords ms)) number ∙ drop-append-add (map headOf ms) (allPicks ms) (4 * i)

@@ -1,5 +1,5 @@
 -- The log's acts as the arrays of the first pass hold them, and the replay of the second pass.
-use Prim.Native.Nat.{ℕ, suc, _-_, _*_, _/_}
+use Prim.Native.Nat.{ℕ, suc, _-_, _*_, _/_, _≤_}
 use mathlib.Core.Path.{_≡_}
 use mathlib.Core.Bool.{Bool, true, false, _&&_, cond}
 use mathlib.Core.List.{List, [], _∷_, map}
@@ -17,6 +17,10 @@ use Rattle.state.specs.Working.{originOf}
 -- o is the origin of a member concerned
 abbrev pub concerns : Act → Origin → Bool
 concerns a o = any (sameOrigin o) (a .members)
+
+-- the members concerned were begun in the log
+abbrev pub Begun : Act → Type 0
+Begun a = (o : Origin) → concerns a o ≡ true → (1 ≤ o .maker) × (o .maker ≤ 1024)
 
 -- ---- the first pass
 

@@ -13,38 +13,32 @@ use Rattle.lists.specs.Members.{Among}
 use Rattle.semantics.specs.Table.{Table}
 use Rattle.semantics.specs.State.{Origin, State}
 use Rattle.semantics.specs.Move.{Move}
-use Rattle.semantics.specs.Serial.{Act, beginsEmit, anyOpen, after, acts, isEnd, ordered, replayed, along, fits, sameOrigin}
+use Rattle.semantics.specs.Serial.{Act, beginsEmit, anyOpen, acts, isEnd, ordered, replayed, along, fits, sameOrigin}
 use Rattle.wellformed.specs.Rules.{TableRight}
 use Rattle.wellformed.specs.Preservation.{RuleKnown}
 use Rattle.serializability.specs.Statement.{Accepted, Serial}
 use Rattle.cells.specs.Rules.{Shaped}
-use Rattle.cells.specs.Shapes.{table-shaped}
 use Rattle.cells.specs.Deeds.{Deed, actOf}
 use Rattle.serializability.specs.Keys.{deeds, acts-deeds, deeds-length}
 use Rattle.cells.specs.Simulation.{view, Good}
 use Rattle.cells.specs.Marks.{firstOf}
-use Rattle.serializability.specs.SameKey.{LogRuns, runs, pairs, key-bound}
+use Rattle.serializability.specs.SameKey.{LogRuns, key-bound}
 use Rattle.cells.specs.Steps.{NoneOpen}
-use Rattle.serializability.specs.LogOnCells.{log-runs}
-use Rattle.serializability.specs.Sort.{isort, sort-runs, arrange-isort, All-isort}
+use Rattle.serializability.specs.Sort.{isort, arrange-isort, All-isort}
 use Rattle.serializability.specs.Blocks.{order-sorted}
-use Rattle.cells.specs.Replay.{Ends, replay-runs}
-use Rattle.cells.specs.Start.{Start, uniq-numbered, closed-view, good-start, rel-start}
-use Rattle.serializability.specs.Decoded.{serial-decoded}
-use Rattle.serial.specs.Acts.{concerns, endAfter, Replays, replayFits}
-use Rattle.serial.specs.Order.{arrangedBy}
+use Rattle.cells.specs.Replay.{Ends}
+use Rattle.cells.specs.Start.{Start, closed-view}
+use Rattle.serializability.specs.Decoded as Decoded
+use Rattle.serializability.specs.Decoded.{deeds-known, serial-decoded}
+use Rattle.serial_laws.specs.Acts.{concerns, endAfter, Replays, replayFits}
+use Rattle.serial_laws.specs.Order.{arrangedBy}
 use Rattle.serial_laws.specs.ByKey.{arranged-acts}
 use Rattle.serial_laws.specs.EndPlace.{BeginsFirst, begin-of, end-place}
 use Rattle.serial_laws.specs.Keys.{Told, keysBy, begins-first, inner-end, keys-are}
 use Rattle.serial_laws.specs.Splits.{All-split, All-among}
 use Rattle.serial_laws.specs.Places.{noAct, places-below}
-use Rattle.serial_laws.specs.Again.{EndsSome, ends-some, replays}
+use Rattle.serial_laws.specs.MadeAgain.{EndsSome, ends-some, replays}
 use Rattle.serial_laws.specs.Room.{room-along}
-
-deeds-known : (t : Table) (i : ℕ) (s : State) (ms : List Move) → All (RuleKnown t) ms → All (λ a. RuleKnown t (a .move)) (deeds t i s ms)
-unfolding deeds
-deeds-known t i s [] h = tt
-deeds-known t i s (m ∷ ms) h = (h .0, deeds-known t (suc i) (after t (suc i) s m) ms (h .1))
 
 getD-below : {A : Type 0} (key : A → ℕ) (n : ℕ) (xs : List A) → All (λ x. key x < n) xs → (i : ℕ) → i < length xs → getD (map key xs) i 0 < n
 getD-below key n [] h i l = absurd (not-suc-le-zero l)
@@ -54,7 +48,7 @@ getD-below key n (x ∷ xs) h (suc i) l = getD-below key n xs (h .1) i (omega ar
 module _ (t : Table) (right : TableRight t) (few : length (t .rules) ≤ 64) (ne : beginsEmit t ≡ false) (s : State) (S : Start (t .sizes) s) (ms : List Move)
     (known : All (RuleKnown t) ms) (e : State) (run : Accepted t 0 s ms e) (cl : anyOpen e ≡ false) where
   sd : Shaped t
-  sd = table-shaped t right ne
+  sd = Decoded.sd t right ne s S ms known e run cl
 
   abbrev log-acts : List Act
   log-acts = acts t 0 s ms
@@ -66,10 +60,11 @@ module _ (t : Table) (right : TableRight t) (few : length (t .rules) ≤ 64) (ne
   acts-are = acts-deeds t 0 s ms
 
   g : Good 0 (view s)
-  g = good-start (t .sizes) s S
+  g = Decoded.g t right ne s S ms known e run cl
 
   ran : LogRuns t 0 (view s) ds (view e)
-  ran = log-runs t sd 0 s ms e (uniq-numbered 0 (s .entries) (S .numbered)) g run .0
+  unfolding Decoded.ds
+  ran = Decoded.ran t right ne s S ms known e run cl .0
 
   shut : NoneOpen (view e)
   shut = closed-view e cl
@@ -148,19 +143,16 @@ module _ (t : Table) (right : TableRight t) (few : length (t .rules) ≤ 64) (ne
   -- ---- the replay
 
   again-runs : Ends t s (isort ds) (view e)
-  again-runs = replay-runs t right sd (isort ds) s (view s) (view e) (λ v. v) (rel-start (t .sizes) s S) (S .sound) known-sorted
-      (sort-runs t (view e) ds (view s) (pairs t sd (view e) 0 (view s) ds g ran) (runs t 0 (view s) ds (view e) ran))
-    where
-      known-sorted : All (λ a. RuleKnown t (a .move)) (isort ds)
-      known-sorted = All-isort (λ a. RuleKnown t (a .move)) ds (deeds-known t 0 s ms known)
+  unfolding Decoded.ds
+  again-runs = Decoded.again-runs t right ne s S ms known e run cl
 
   sorted : map actOf (isort ds) ≡ ordered [] log-acts
   sorted = sym (ap (ordered []) acts-are ∙ order-is)
 
   pub order-replays : Replays t s (ordered [] log-acts)
-  order-replays = subst (Replays t s) sorted (replays t right few (isort ds) s (again-runs .state) (again-runs .goes) (again-runs .agains) (S .sound)
+  order-replays = subst (Replays t s) sorted (replays t right few (isort ds) s (again-runs .state) (again-runs .all-go) (again-runs .agains) (S .sound)
       (All-isort (λ a. RuleKnown t (a .move)) ds (deeds-known t 0 s ms known)) (All-isort EndsSome ds (ends-some t 0 (view s) (view e) ds ran)))
 
   pub order-room : (n : ℕ) → replayFits n t s (ordered [] log-acts) ≡ all (fits n) (along t 0 s (replayed t s (ordered [] log-acts)))
   order-room n = subst (λ (l : List Act). replayFits n t s l ≡ all (fits n) (along t 0 s (replayed t s l))) sorted
-      (room-along n t (map actOf (isort ds)) 0 s s (again-runs .state) refl (again-runs .goes))
+      (room-along n t (map actOf (isort ds)) 0 s s (again-runs .state) refl (again-runs .all-go))

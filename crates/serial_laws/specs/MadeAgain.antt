@@ -12,7 +12,7 @@ use Rattle.lists.specs.Each.{All}
 use Rattle.semantics.specs.Table.{Table}
 use Rattle.semantics.specs.State.{Origin, Entry, State, isMemberMark, owned}
 use Rattle.semantics.specs.Move.{Move, entryAt, applied}
-use Rattle.semantics.specs.Serial.{Act, marksIn, after, isEnd, placeOf, again, replayed}
+use Rattle.semantics.specs.Serial.{marksIn, after, isEnd, placeOf, again}
 use Rattle.wellformed.specs.Rules.{TableRight}
 use Rattle.wellformed.specs.Entries.{Sound}
 use Rattle.wellformed.specs.Preservation.{RuleKnown, applied-keeps}
@@ -26,7 +26,7 @@ use Rattle.serializability.specs.SameKey.{LogRuns}
 use Rattle.cells.specs.Replay.{Again, reacts, commits, aborts, Goes, Agains, again-known}
 use Rattle.serializability.specs.LogWords.{Holdable, words-ok, words-back}
 use Rattle.serializability.specs.RunWords.{all-holdable}
-use Rattle.serial.specs.Acts.{idOf, Replays}
+use Rattle.serial_laws.specs.Acts.{idOf, Replays}
 
 -- ---- the owner of a member's mark
 
@@ -65,7 +65,8 @@ ends-some t i F G (a ∷ xs) r = (
 -- ---- all moves
 
 module _ (t : Table) (right : TableRight t) (few : length (t .rules) ≤ 64) where
-  pub replays : (ds : List Deed) (c e : State) → Goes t c (map actOf ds) e → Agains t c ds → Sound (t .sizes) c → All (λ a. RuleKnown t (a .move)) ds → All EndsSome ds
+  pub replays : (ds : List Deed) (c e : State) → Goes t c (map actOf ds) e → Agains t c ds → Sound (t .sizes) c → All (λ a. RuleKnown t (a .move)) ds
+      → All EndsSome ds
       → Replays t c (map actOf ds)
   replays [] c e g A sound known sm = tt
   replays (a ∷ ds) c e g A sound known sm =
@@ -82,9 +83,3 @@ module _ (t : Table) (right : TableRight t) (few : length (t .rules) ≤ 64) whe
         },
         replays ds (after t (suc (a .place)) c m) e (g .1) (A .2) still (known .1) (sm .1),
       )
-
--- one move for each act
-pub replayed-length : (t : Table) (c : State) (xs : List Act) → length (replayed t c xs) ≡ length xs
-unfolding replayed
-replayed-length t c [] = refl
-replayed-length t c (a ∷ xs) = ap suc (replayed-length t (after t (suc (a .place)) c (again c a (a .move))) xs)
