@@ -8,8 +8,8 @@ use semantics::Outcome;
 use semantics::Refusal;
 use semantics::Verdict;
 use state::State;
+use step::form::form_ok;
 use step::make::make;
-use step::moves::form_ok;
 
 // A move in order, with a target that is long enough: 7 to 12.
 fn moved<'a>(

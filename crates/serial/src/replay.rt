@@ -11,7 +11,7 @@ ghost use Rattle.semantics.specs.Table.{tableOf};
 ghost use Rattle.semantics.specs.Move.{picksUsed, entryAt};
 ghost use Rattle.semantics.specs.Log.{moveCount};
 ghost use Rattle.state.specs.Working.{rowOf, stateIn, held};
-ghost use Rattle.step.specs.Working.{Columns};
+ghost use Rattle.state.specs.Lent.{Columns};
 ghost use Rattle.step.specs.Make.{Indexed};
 ghost use Rattle.serial.specs.Replay.{placeIn, headAgain, Words, Readable, Replayable, ReplayedAs};
 use crate::chunk::chunk_of;

@@ -2,3 +2,4 @@ pub mod Check
 pub mod Working
 pub mod Arrays
 pub mod Compact
+pub mod Lent

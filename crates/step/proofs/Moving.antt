@@ -22,9 +22,11 @@ use Rattle.table.specs.Decode.{Decodes}
 use Rattle.state.specs.declared.State.{State}
 use Rattle.state.specs.Working.{stateIn, held, rowOf}
 use Rattle.state.specs.Arrays.{Arrays, HoldsIn}
-use Rattle.step.specs.Working.{ruleIn, stateFrom, reactVerdict}
-use Rattle.step.specs.End.{endVerdict}
-use Rattle.step.specs.Narrow.{Ready, rule-ready}
+use Rattle.reaction.specs.Decoded.{ruleIn}
+use Rattle.state.specs.Lent.{stateFrom}
+use Rattle.reaction.specs.Verdict.{reactVerdict}
+use Rattle.ending.specs.End.{endVerdict}
+use Rattle.products.specs.Narrow.{Ready, rule-ready}
 use Rattle.step.specs.Moves.{IsMove, form-end, form-rule, verdict-react, verdict-end, applied-react, applied-end}
 use Rattle.step.specs.Bounds.{verdict-higher}
 use Rattle.step.specs.Make.{Workable, MadeAs, made-refused, made-allowed}

@@ -7,8 +7,7 @@ use lib.Dec.{leb, ltb}
 use lib.ListN.{length}
 use borrow.Author.Tests.{leb-true, le-leb, ltb-true}
 use Rattle.semantics.specs.Table.{Table, ruleAt, begins}
-use Rattle.semantics.specs.State as semantics
-use Rattle.semantics.specs.Move.{unless, both, Move, react, commit, abort, reacted, ended, allowed, applied, moveVerdict}
+use Rattle.semantics.specs.Move.{unless, Move, react, commit, abort, reacted, ended, allowed, applied, moveVerdict}
 use Rattle.semantics.specs.declared.Refusal.the-variants.{TooManyEntries}
 use Rattle.semantics.specs.declared.Verdict.the-variants.{Allowed}
 use Rattle.wellformed.specs.Verdicts.{both-allowed, both-intro, unless-allowed, unless-intro}
@@ -17,6 +16,7 @@ use Rattle.wellformed.specs.Length.{length-maker}
 use Rattle.state.specs.declared.State.{State}
 use Rattle.state.specs.Working.{Holds}
 use Rattle.state.specs.Arrays.{held-next, held-len}
+use Rattle.semantics.specs.State as semantics
 
 -- a working state within a ceiling, its next id within 01's limit
 pub record Bounded (s : State) (ceiling : ℕ) : Type 0 where

@@ -4,7 +4,6 @@ use mathlib.Core.Path.{_≡_, refl, sym, _∙_}
 use mathlib.Core.Bool.{true, false}
 use mathlib.Core.List.{List}
 use Rattle.semantics.specs.Table.{Table, sizesOf, numbersOf}
-use Rattle.semantics.specs.State as semantics
 use Rattle.semantics.specs.Move.{moveOk, moveOf, applied, refused, steppedBy, stepWords, moveVerdict}
 use Rattle.semantics.specs.Answers.{tableVerdict}
 use Rattle.semantics.specs.declared.Refusal.{Refusal}
@@ -18,6 +17,7 @@ use Rattle.state.specs.declared.State.{State}
 use Rattle.state.specs.Working.{stateIn}
 use Rattle.state.specs.Arrays.{Arrays, HoldsIn}
 use Rattle.step.specs.Bounds.{Bounded, applied-bounded}
+use Rattle.semantics.specs.State as semantics
 
 -- a table that is accepted, with the index of its rules
 pub record Indexed (t index : List ℕ) : Type 0 where

@@ -12,7 +12,6 @@ use Rattle.lists.specs.Choices.{by-bool}
 use Rattle.lists.specs.Tests.{and-false, and-true}
 use Rattle.semantics.specs.Words.{headKind, headNumber}
 use Rattle.semantics.specs.Table.{Table, sizesOf, tableOf, ruleAt, consumed}
-use Rattle.semantics.specs.State as semantics
 use Rattle.semantics.specs.Move.{Move, react, commit, abort, unless, both, isZero, moveOk, moveOf, reacted, isOpen, mayCommit, mayAbort, ended, allowed, applied, moveVerdict}
 use Rattle.semantics.specs.declared.Refusal.the-variants.{NoTransaction, EndNotAllowed}
 use Rattle.semantics.specs.declared.Sizes.{Sizes}
@@ -22,8 +21,10 @@ use Rattle.wellformed.specs.Verdicts.{length-rules}
 use Rattle.wellformed.specs.Length.{length-commit, length-abort}
 use Rattle.table.specs.declared.decode.Rule.{Rule}
 use Rattle.table.specs.Decode.{Decodes}
-use Rattle.step.specs.Working.{ruleIn, rule-in, reactVerdict, react-verdict-is}
-use Rattle.step.specs.End.{endVerdict}
+use Rattle.reaction.specs.Decoded.{ruleIn, rule-in}
+use Rattle.reaction.specs.Verdict.{reactVerdict, react-verdict-is}
+use Rattle.ending.specs.End.{endVerdict}
+use Rattle.semantics.specs.State as semantics
 
 -- x is the rule of a reaction's head; an end has none
 abbrev pub RuleFor : Rule → Table → ℕ → Type 0

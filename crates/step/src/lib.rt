@@ -1,7 +1,3 @@
 // A single move on a working state.
-mod end;
-mod few;
+pub mod form;
 pub mod make;
-pub mod moves;
-mod products;
-mod react;

@@ -8,8 +8,8 @@ use native.Mathlib.Omega.{arith}
 use lib.ListN.{length}
 use Rattle.semantics.specs.Table.{tableOf}
 use Rattle.semantics.specs.Move.{moveOk}
+use Rattle.reaction.specs.Decoded.{decodes-itself}
 use Rattle.wellformed.specs.Tables.{well-formed}
-use Rattle.step.specs.Working.{decodes-itself}
 use Rattle.step.specs.Moves.{below-rules, form-no-rule}
 use Rattle.step.specs.Make.{made-malformed}
 use Rattle.step.proofs.Moving.{Chosen, reaction-form, reaction-refused, reaction-asked, reaction-made}

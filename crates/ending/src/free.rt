@@ -1,0 +1,64 @@
+// What the end of a transaction leaves.
+ghost use Prim.Native.Nat.{ℕ, _%_, _^_, _≤_};
+ghost use mathlib.Core.Path.{_≡_};
+ghost use mathlib.Core.Bool.{not, cond, _||_};
+ghost use lib.Dec.{eqb};
+ghost use Rattle.lists.specs.Lists.{oneIf};
+ghost use Rattle.semantics.specs.Words.{itemKind};
+ghost use Rattle.semantics.specs.Move.{ended};
+ghost use Rattle.state.specs.Working.{held, stateIn};
+ghost use Rattle.state.specs.Arrays.{Arrays, HoldsIn};
+ghost use Rattle.ending.specs.End.{NoneBefore};
+
+// The owner of an entry that stays.
+fn owner_after(owner: u32, id: u32) -> u32
+    ensures { λ r. ⌜ r ≡ cond (eqb owner id) 0 owner ⌝ }
+{
+    if owner == id { 0 } else { owner }
+}
+
+// The item of an entry that stays: what is freed becomes a message.
+fn item_after(owner: u32, item: u32, id: u32) -> u32
+    ensures { λ r. ⌜ r ≡ cond (eqb owner id) (item % 2 ^ 24) item ⌝ }
+{
+    if owner == id { item % 16777216 } else { item }
+}
+
+// 1 where an entry stays, else 0.
+fn stays(owner: u32, item: u32, id: u32, kind: u32) -> usize
+    ensures { λ r. ⌜ (r ≡ oneIf (not (eqb owner id) || eqb (itemKind item) kind)) × (r ≤ 1) ⌝ }
+{
+    if owner == id {
+        if item / 16777216 == kind { 1 } else { 0 }
+    } else {
+        1
+    }
+}
+
+// The transaction's entries of this kind become the global owner's in their places; its others go.
+pub fn end_transaction(
+    owners: &mut [u32; 1024],
+    items: &mut [u32; 1024],
+    origins: &mut [u32; 1024],
+    from: usize,
+    n: usize,
+    id: u32,
+    kind: u32,
+) -> usize
+    requires { ⌜ Arrays (now owners) (now items) (now origins) × (n ≤ 1024) × NoneBefore (now owners) id n from ⌝ }
+    ensures { λ r. ⌜ ((next : ℕ) → HoldsIn (held (now (owners .exit)) (now (items .exit)) (now (origins .exit)) r next) (ended (λ e. eqb (e .kind) kind) id (stateIn (held (now (owners .entry)) (now (items .entry)) (now (origins .entry)) n next)))) ⌝ }
+{
+    let mut i = from;
+    let mut w = from;
+    while i < n {
+        let owner = owners[i];
+        let item = items[i];
+        let origin = origins[i];
+        owners[w] = owner_after(owner, id);
+        items[w] = item_after(owner, item, id);
+        origins[w] = origin;
+        w += stays(owner, item, id, kind);
+        i += 1;
+    }
+    w
+}

@@ -1,0 +1,61 @@
+// What a transaction owns.
+ghost use Prim.Native.Nat.{ℕ, _≤_};
+ghost use mathlib.Core.Path.{_≡_};
+ghost use mathlib.Core.List.{List};
+ghost use lib.ListN.{length};
+ghost use Rattle.state.specs.Lent.{stateFrom, Columns};
+ghost use Rattle.ending.specs.End.{NoneBefore, Surveyed};
+
+// What a transaction owns: anything, an abort mark (stop mark), a message that is on no global port.
+pub struct Survey {
+    pub open: bool,
+    pub aborting: bool,
+    pub inside: bool,
+}
+
+// The place of the transaction's first entry, n where it has none: what is before it matters to no end.
+pub fn first_owned(owners: &[u32; 1024], n: usize, id: u32) -> usize
+    requires { ⌜ (n ≤ 1024) × (length (now owners) ≡ 1024) ⌝ }
+    ensures { λ r. ⌜ NoneBefore (now (owners .entry)) id n r ⌝ }
+{
+    let mut i = 0;
+    while i < n {
+        if owners[i] == id {
+            return i;
+        }
+        i += 1;
+    }
+    n
+}
+
+pub fn surveyed<'a>(
+    owners: &'a [u32; 1024],
+    items: &'a [u32; 1024],
+    from: usize,
+    n: usize,
+    id: u32,
+    globals: u32,
+) -> Survey
+    requires { ⌜ Columns (now owners) (now items) n × NoneBefore (now owners) id n from ⌝ }
+    ensures { λ r. ⌜ ((gs : List ℕ) (next : ℕ) → Surveyed r (stateFrom (now (owners .entry)) (now (items .entry)) gs n next) id globals) ⌝ }
+{
+    let mut open = false;
+    let mut aborting = false;
+    let mut inside = false;
+    let mut i = from;
+    while i < n {
+        let owned = owners[i] == id;
+        let item = items[i];
+        let kind = item / 16777216;
+        let port = item / 65536 % 256;
+        open = open | owned;
+        aborting = aborting | (owned & (kind == 2));
+        inside = inside | (owned & ((kind == 0) & (globals <= port)));
+        i += 1;
+    }
+    Survey {
+        open,
+        aborting,
+        inside,
+    }
+}

@@ -1,0 +1,3 @@
+pub mod Merging
+pub mod Appending
+pub mod Reacted

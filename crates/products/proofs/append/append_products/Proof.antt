@@ -1,0 +1,55 @@
+-- `append_products` meets its contract: the products made, followed by those ahead, are the products.
+use Prim.Native.Nat.{_+_, _-_, _<_}
+use mathlib.Core.List.{_++_, map}
+use native.Mathlib.Omega.{arith}
+use borrow.Author.Needs.{needs}
+use Rattle.lists.specs.Rows.{rows}
+use Rattle.semantics.specs.Words.{valueOf}
+use Rattle.state.specs.Working.{rowOf}
+use Rattle.products.specs.Products.{productsFrom}
+use Rattle.reaction.specs.Decoded.{consumes-within, atom-among, begins-by, makingAtoms}
+use Rattle.products.proofs.Appending.{Making, making-start, making-next, making-done}
+use Rattle.products.proofs.append.append_products.Statement.{statement}
+use Rattle.products.proofs.append.append_products.Tie as tie
+
+abbrev Inv : tie.InvT-loop
+Inv owners₀ items₀ origins₀ n next received home maker rule class from made q₀ owners items origins q =
+    Making rule next home maker (map valueOf received) n q owners items origins
+    (rows (rowOf owners₀ items₀ origins₀) 0 n ++ productsFrom (rule .class) next home (map valueOf received) maker 0 (makingAtoms rule))
+
+abbrev μ : tie.MeasureT-loop
+μ owners₀ items₀ origins₀ n next received home maker rule class from made q₀ owners items origins q = made - q
+
+sub-made : tie.Need-sub-made Inv μ
+sub-made c = omega (arith, consumes-within (c .args .t6) (c .pre .2 .rule))
+
+loop-holds : tie.Need-loop-holds Inv μ
+loop-holds c = making-start (c .args .t6) _ (c .args .home) (c .args .maker) _ _ _ _ _ (c .pre .2) (c .pre .0) (c .pre .1)
+
+item-made-requires : tie.Need-item-made-requires Inv μ
+item-made-requires c κs =
+    let start = c .before .before .before .before in
+    let x = start .args .t6 in
+    let d = start .pre .2 .rule in
+    let q = c .before .before .before .loop .q in
+    let low : x .consumes + q < x .count = omega (arith, consumes-within x d, c .before .before .loop-test .taken) in
+    let m = atom-among x d (x .consumes + q) low in
+    (start .pre .2 .narrow _ m, λ e. start .pre .3 (begins-by x d _ m e))
+
+loop-again : tie.Need-loop-again Inv μ
+loop-again c =
+    let l = c .before .before .before .before in
+    let a = l .before .args in
+    making-next (a .t6) _ (a .home) (a .maker) _ (l .loop .inv) (c .before .before .before .loop-test .taken) _ _ (c .before .owner-made .ensures) (c .item-made .ensures)
+
+returns : tie.Need-returns Inv μ
+returns c =
+    let a = c .before .before .args in
+    making-done (a .t6) _ (a .home) (a .maker) _ (c .before .loop .inv) (c .loop-test .left) _
+
+pub append-products-spec : {M : Type 1} → statement M
+append-products-spec =
+    tie.close
+    (tie.spec Inv μ sub-made loop-holds (λ c. search needs) (λ c. search needs) (λ c. search needs) (λ c. search needs) (λ c κs. search needs)
+    (λ c. search needs) (λ c. search needs) item-made-requires (λ c. search needs) (λ c. search needs) (λ c. search needs) (λ c. search needs)
+    (λ c. search needs) (λ c. search needs) (λ c. search needs) (λ c. search needs) (λ c. search needs) loop-again (λ c. search needs) returns)

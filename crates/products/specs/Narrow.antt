@@ -1,0 +1,52 @@
+-- What keeps an item and an origin within their words: ports below 256, constants and a begin's id below 65,536, makers up to 1,024.
+use Prim.Native.Nat.{ℕ, _≤_, _<_}
+use mathlib.Core.Path.{_≡_}
+use mathlib.Core.List.{List}
+use native.Mathlib.Omega.{arith}
+use Rattle.lists.specs.Members.{Among}
+use Rattle.semantics.specs.Table.{sizesOf, tableOf, ruleAt}
+use Rattle.semantics.specs.Answers.{tableVerdict}
+use Rattle.semantics.specs.declared.Atom.{Atom}
+use Rattle.semantics.specs.declared.AtomValue.{AtomValue}
+use Rattle.semantics.specs.declared.AtomValue.the-variants.{Constant, Received}
+use Rattle.semantics.specs.declared.Verdict.the-variants.{Allowed}
+use Rattle.wellformed.specs.Verdicts.{table-given, sizes-given}
+use Rattle.wellformed.specs.Rules.{ValueRight, rules-right}
+use Rattle.table.specs.declared.decode.Rule.{Rule}
+use Rattle.table.specs.Decode.{Decodes}
+use Rattle.reaction.specs.Decoded.{ruleIn, decodes-itself}
+
+abbrev pub narrowValue : AtomValue → Type 0
+narrowValue (Constant v) = v < 65536
+narrowValue (Received i) = Unit
+
+pub record Narrow (a : Atom) : Type 0 where
+  pub port : a .port < 256
+  pub value : narrowValue (a .value)
+
+-- a rule that the code can react by, from a state of this next id, as this maker
+pub record Ready (x : Rule) (next maker : ℕ) : Type 0 where
+  pub rule : Decodes x (ruleIn x)
+  pub narrow : (a : Atom) → Among a (ruleIn x .atoms) → Narrow a
+  pub limit : next ≤ 65536
+  pub makers : maker ≤ 1024
+
+narrow-value : (n : ℕ) (v : AtomValue) → ValueRight n v → narrowValue v
+narrow-value n (Constant v) h = h
+narrow-value n (Received i) h = tt
+
+-- every rule of an accepted table is
+pub rule-ready : (t : List ℕ) → tableVerdict t ≡ Allowed → (r : ℕ) → r < sizesOf t .rules → (x : Rule) → Decodes x (ruleAt (tableOf t) r)
+    → (next maker : ℕ) → next ≤ 65536 → maker ≤ 1024 → Ready x next maker
+rule-ready t h r l x d next maker n m =
+    let right = rules-right t h r l in
+    let ports = sizes-given t (table-given t h .0) .ports in
+    record {
+      rule = decodes-itself x (ruleAt (tableOf t) r) d;
+      narrow = λ a k.
+          let fits = right .each a (rw (d .atoms) at k) in
+          let p = fits .port-lt in
+          record { port = omega arith; value = narrow-value _ (a .value) (fits .value-right) };
+      limit = n;
+      makers = m;
+    }

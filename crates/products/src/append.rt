@@ -1,0 +1,112 @@
+// The products of a reaction, made and appended.
+ghost use Prim.Native.Nat.{_+_, _-_, _≤_, _<_};
+ghost use mathlib.Core.Path.{_≡_};
+ghost use mathlib.Core.Bool.{true};
+ghost use mathlib.Core.List.{map, _++_};
+ghost use lib.ListN.{take, drop};
+ghost use Rattle.lists.specs.Rows.{rows};
+ghost use Rattle.semantics.specs.Words.{valueOf};
+ghost use Rattle.semantics.specs.Move.{kindMade};
+ghost use Rattle.state.specs.Working.{rowOf, held};
+ghost use Rattle.state.specs.Arrays.{Arrays, HoldsIn};
+ghost use Rattle.products.specs.Narrow.{narrowValue, Narrow, Ready};
+ghost use Rattle.products.specs.Products.{ownerOfRole, nextAfter, valueMade, ItemMade, productsFrom};
+use semantics::Atom;
+use semantics::AtomValue;
+use state::item::item_of;
+use state::item::value_of;
+use table::decode::Rule;
+
+fn kind_made(role: u16) -> u32
+    ensures { λ r. ⌜ (r ≡ kindMade role) × (r < 4) ⌝ }
+{
+    if role == 2 {
+        return 3;
+    }
+    if role == 4 {
+        return 1;
+    }
+    if role == 5 {
+        return 2;
+    }
+    0
+}
+
+// The value of an atom's product: a begin's is the new id.
+fn value_made(atom: Atom, items: [u32; 4], next: u32) -> u32
+    requires { ⌜ narrowValue (atom .value) × (atom .role ≡ 2 → next < 65536) ⌝ }
+    ensures { λ r. ⌜ (r ≡ valueMade (map valueOf items) next atom) × (r < 65536) ⌝ }
+{
+    if atom.role == 2 {
+        return next;
+    }
+    let value = atom.value;
+    match value {
+        AtomValue::Constant(v) => v as u32,
+        AtomValue::Received(i) => {
+            if i < 4 {
+                value_of(items[i as usize])
+            } else {
+                0
+            }
+        }
+    }
+}
+
+fn item_made(atom: Atom, items: [u32; 4], next: u32) -> u32
+    requires { ⌜ Narrow atom × (atom .role ≡ 2 → next < 65536) ⌝ }
+    ensures { λ r. ⌜ ItemMade r (map valueOf items) next atom ⌝ }
+{
+    item_of(
+        kind_made(atom.role),
+        atom.port as u32,
+        value_made(atom, items, next),
+    )
+}
+
+fn owner_made(class: u32, role: u16, home: u32, next: u32) -> u32
+    ensures { λ r. ⌜ r ≡ ownerOfRole class next home role ⌝ }
+{
+    if (class == 0) & (role != 1) {
+        next
+    } else {
+        home
+    }
+}
+
+pub fn next_after(begins: bool, next: u32) -> u32
+    requires { ⌜ next ≤ 65536 ⌝ }
+    ensures { λ r. ⌜ r ≡ nextAfter begins next ⌝ }
+{
+    if begins { next + 1 } else { next }
+}
+
+// The products follow in atom order; home owns the emits of a global rule and all of another rule. Answers the new number of entries.
+pub fn append_products(
+    owners: &mut [u32; 1024],
+    items: &mut [u32; 1024],
+    origins: &mut [u32; 1024],
+    n: usize,
+    next: u32,
+    rule: Rule,
+    received: [u32; 4],
+    home: u32,
+    maker: u32,
+) -> usize
+    requires { ⌜ Arrays (now owners) (now items) (now origins) × (n + (rule .count - rule .consumes) ≤ 1024) × Ready rule next maker × (rule .begins ≡ true → next < 65536) ⌝ }
+    ensures { λ r. ⌜ HoldsIn (held (now (owners .exit)) (now (items .exit)) (now (origins .exit)) r (nextAfter (rule .begins) next)) (record { next = nextAfter (rule .begins) next; entries = rows (rowOf (now (owners .entry)) (now (items .entry)) (now (origins .entry))) 0 n ++ productsFrom (rule .class) next home (map valueOf received) maker 0 (drop (rule .consumes) (take (rule .count) (rule .atoms))) }) ⌝ }
+{
+    let class = rule.class;
+    let from = rule.consumes;
+    let made = rule.count - from;
+    let mut q = 0;
+    while q < made {
+        let atom = rule.atoms[from + q];
+        let w = n + q;
+        owners[w] = owner_made(class, atom.role, home, next);
+        items[w] = item_made(atom, received, next);
+        origins[w] = maker * 1024 + (q as u32);
+        q += 1;
+    }
+    n + made
+}

@@ -1,0 +1,37 @@
+// The owners of a reaction's picks put under one of them.
+ghost use Prim.Native.Nat.{ℕ, _+_, _-_, _≤_, _<_};
+ghost use mathlib.Core.Path.{_≡_};
+ghost use mathlib.Core.List.{[], _∷_};
+ghost use lib.ListN.{length, getD, take};
+ghost use Rattle.products.specs.Products.{mergedOwner};
+use reaction::picks::repeated;
+
+fn merged_owner(owner: u32, a: u32, b: u32, c: u32, d: u32, home: u32) -> u32
+    ensures { λ r. ⌜ r ≡ mergedOwner (a ∷ b ∷ c ∷ d ∷ []) home owner ⌝ }
+{
+    if (owner == a) | ((owner == b) | ((owner == c) | (owner == d))) {
+        home
+    } else {
+        owner
+    }
+}
+
+// All entries of the owners found go under the smallest of them, home, not only the picked ones.
+pub fn merge(owners: &mut [u32; 1024], n: usize, found: [u32; 4], k: usize, home: u32)
+    requires { ⌜ (length (now owners) ≡ 1024) × (n ≤ 1024) × (1 ≤ k) × (k ≤ 4) ⌝ }
+    ensures { λ _. ⌜ (length (now (owners .exit)) ≡ 1024) × ((j : ℕ) → j < n → getD (now (owners .exit)) j 0 ≡ mergedOwner (take k found) home (getD (now (owners .entry)) j 0)) ⌝ }
+{
+    let few = repeated(found, k);
+    let a = few[0];
+    let b = few[1];
+    let c = few[2];
+    let d = few[3];
+    if (a == home) & (b == home) & (c == home) & (d == home) {
+        return;
+    }
+    let mut j = 0;
+    while j < n {
+        owners[j] = merged_owner(owners[j], a, b, c, d, home);
+        j += 1;
+    }
+}

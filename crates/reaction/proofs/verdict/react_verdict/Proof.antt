@@ -1,0 +1,108 @@
+-- `react_verdict` meets its contract: the first fault counts, and the tests are the definition's (`Reacting`).
+use Prim.Native.Nat.{ℕ, _+_, _-_, _≤_}
+use mathlib.Core.Path.{_≡_, sym, ap, _∙_}
+use mathlib.Core.Bool.{true, _&&_, not}
+use mathlib.Core.List.{List, []}
+use native.Mathlib.Omega.{arith}
+use borrow.Author.Needs.{needs}
+use borrow.Author.Tests.{not-true, not-false}
+use lib.ListN.{length, take}
+use Rattle.semantics.specs.State.{State}
+use Rattle.semantics.specs.Move.{picksOk, ownersAt, ownersFit, reacted}
+use Rattle.wellformed.specs.Picks.{ReactGiven}
+use Rattle.reaction.specs.Decoded.{ruleIn, consumes-within}
+use Rattle.state.specs.Lent.{stateFrom}
+use Rattle.reaction.specs.Places.{Places, owners-at, places}
+use Rattle.reaction.proofs.Refusing.{picks-found, picks-parts, wrong-pick, wrong-owner, no-more-ids, too-many, allowed-is, id-test}
+use Rattle.reaction.specs.Verdict.{picks-fit, count-left}
+use Rattle.reaction.proofs.verdict.react_verdict.Statement.{statement}
+use Rattle.reaction.proofs.verdict.react_verdict.Tie as tie
+
+-- the state, whatever its origins, and the picks in use
+abbrev σ : tie.Start → List ℕ → State
+σ c gs = stateFrom (c .args .owners .now) (c .args .items .now) gs (c .args .n) (c .args .next)
+
+abbrev ps : tie.Start → List ℕ
+ps c = take (c .args .rule .consumes) (c .args .picks)
+
+-- where the tests began
+abbrev tested : tie.After-on-ports → tie.Start
+tested c = c .before .before .before
+
+abbrev placed : tie.After-owners-fit → tie.Start
+placed c = tested (c .before .before)
+
+abbrev allowed : tie.Else3 → tie.Start
+allowed c = placed (c .before .before .before)
+
+-- ---- what each test says
+
+picks : (c : tie.After-on-ports) (gs : List ℕ) → c .before .before .all-differ .result && c .on-ports .result ≡ picksOk (ruleIn (tested c .args .rule)) (σ (tested c) gs) (ps (tested c))
+picks c gs = picks-found (ruleIn (tested c .args .rule)) (σ (tested c) gs) (ps (tested c)) (c .before .before .all-differ .ensures) (c .on-ports .ensures (tested c .args .owners .now) gs) (c .before .consume-ports .ensures .0)
+
+picks-pass : (c : tie.Else1) (gs : List ℕ) → picksOk (ruleIn (tested (c .before) .args .rule)) (σ (tested (c .before)) gs) (ps (tested (c .before))) ≡ true
+picks-pass c gs = sym (picks (c .before) gs) ∙ not-false _ (c .if1 .left)
+
+in-place : (c : tie.Else1) → Places (tested (c .before) .args .n) (ps (tested (c .before)))
+in-place c =
+    let start = tested (c .before) in
+    let a = start .args in
+    places (a .rule) (start .pre .1) (a .picks) (search needs) (a .owners .now) (a .items .now) [] (a .n) (a .next) (picks-parts (ruleIn (a .rule)) (σ start []) (ps start) (picks-pass c []) .1)
+
+owners : (c : tie.After-owners-fit) (gs : List ℕ) → c .owners-fit .result ≡ ownersFit (placed c .args .rule .class) (ownersAt (σ (placed c) gs) (ps (placed c)))
+owners c gs =
+    let a = placed c .args in
+    c .owners-fit .ensures ∙ ap (ownersFit (a .rule .class)) (sym (owners-at (a .owners .now) (a .items .now) gs (a .n) (ps (placed c)) (in-place (c .before))))
+
+given : (c : tie.Else3) (gs : List ℕ) → ReactGiven (ruleIn (allowed c .args .rule)) (σ (allowed c) gs) (ps (allowed c))
+given c gs =
+    let start = allowed c in
+    let (a, b) = picks-parts (ruleIn (start .args .rule)) (σ start gs) (ps start) (picks-pass (c .before .before .before .before) gs) in
+    record {
+      different = a;
+      ports = b;
+      owners = sym (owners (c .before .before .before) gs) ∙ not-false _ (c .before .before .if2 .left);
+      ids = id-test (start .args .rule) (start .pre .1) (σ start gs) ∙ ap not (c .if3 .left);
+    }
+
+left : (c : tie.Else3) (gs : List ℕ)
+    → length (reacted (ruleIn (allowed c .args .rule)) 0 (σ (allowed c) gs) (ps (allowed c)) .entries)
+    ≡ allowed c .args .n - allowed c .args .rule .consumes + (allowed c .args .rule .count - allowed c .args .rule .consumes)
+left c gs =
+    let start = allowed c in
+    let a = start .args in
+    count-left (a .rule) (start .pre .1) (a .picks) (search needs) (a .owners .now) (a .items .now) gs (a .n) (a .next) 0 (given c gs)
+
+-- ---- needs
+
+returns : tie.Need-returns
+returns c = λ gs. wrong-pick _ _ _ _ (sym (picks (c .before) gs) ∙ not-true _ (c .if1 .taken))
+
+owners-fit-requires : tie.Need-owners-fit-requires
+owners-fit-requires c κs = (search needs, search needs, search needs, λ p m. let l = in-place c p m in omega arith)
+
+returns-2 : tie.Need-returns-2
+returns-2 c = λ gs. wrong-owner _ _ _ _ (picks-pass (c .before .before) gs) (sym (owners (c .before) gs) ∙ not-true _ (c .if2 .taken))
+
+returns-3 : tie.Need-returns-3
+returns-3 c = λ gs.
+    let start = placed (c .before .before .before) in
+    no-more-ids _ _ _ _ (picks-pass (c .before .before .before .before) gs) (sym (owners (c .before .before .before) gs) ∙ not-false _ (c .before .before .if2 .left))
+    (id-test (start .args .rule) (start .pre .1) (σ start gs) ∙ ap not (c .if3 .taken))
+
+fits : (c : tie.Else3) → allowed c .args .rule .consumes ≤ allowed c .args .n
+fits c =
+    let start = allowed c in
+    let a = start .args in
+    picks-fit (a .rule) (start .pre .1) (a .picks) (search needs) (a .owners .now) (a .items .now) [] (a .n) (a .next) (given c [])
+
+sub-if4-2 : tie.Need-sub-if4-2
+sub-if4-2 c = let start = allowed c in omega (arith, consumes-within (start .args .rule) (start .pre .1))
+
+pub react-verdict-spec : {M : Type 1} → statement M
+react-verdict-spec =
+    tie.close
+    (tie.spec (λ c κs. search needs) (λ c κs. search needs) (λ c κs. search needs) returns owners-fit-requires returns-2 returns-3
+    (λ c. omega (arith, fits c)) sub-if4-2 (λ c. search needs)
+    (λ c gs. too-many _ _ _ _ (given (c .before) gs) (omega (arith, left (c .before) gs, c .if4 .taken)))
+    (λ c gs. allowed-is _ _ _ _ (given (c .before) gs) (omega (arith, left (c .before) gs, c .if4 .left))))

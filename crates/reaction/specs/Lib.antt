@@ -1,0 +1,4 @@
+pub mod Decoded
+pub mod Four
+pub mod Places
+pub mod Verdict

@@ -1,0 +1,3 @@
+// When a reaction is allowed, by its picks.
+pub mod picks;
+pub mod verdict;

@@ -1,0 +1,74 @@
+// The picks of a reaction, at most four, and what a column holds there.
+ghost use mathlib.Core.Path.{_≡_};
+ghost use mathlib.Core.Bool.{cond, true};
+ghost use Prim.Native.Nat.{ℕ, min, _≤_, _<_};
+ghost use lib.ListN.{take, length, getD};
+ghost use Rattle.lists.specs.Lists.{isIn, distinct, least};
+ghost use Rattle.reaction.specs.Places.{Places, fourAt};
+
+// Whether the first k differ: none of them stands again after itself.
+pub fn all_differ(few: [u32; 4], k: usize) -> bool
+    requires { ⌜ k ≤ 4 ⌝ }
+    ensures { λ r. ⌜ r ≡ distinct (take k few) ⌝ }
+{
+    ((k < 2) | (few[0] != few[1]))
+        & ((k < 3) | (few[0] != few[2]) & (few[1] != few[2]))
+        & ((k < 4) | (few[0] != few[3]) & (few[1] != few[3]) & (few[2] != few[3]))
+}
+
+fn smaller(a: u32, b: u32) -> u32
+    ensures { λ r. ⌜ r ≡ min a b ⌝ }
+{
+    if a <= b { a } else { b }
+}
+
+// The smallest of the first k.
+pub fn smallest(few: [u32; 4], k: usize) -> u32
+    requires { ⌜ (1 ≤ k) × (k ≤ 4) ⌝ }
+    ensures { λ r. ⌜ r ≡ least (take k few) ⌝ }
+{
+    let mut m = few[0];
+    let mut i = 1;
+    while i < k {
+        m = smaller(m, few[i]);
+        i += 1;
+    }
+    m
+}
+
+fn either(b: bool, x: u32, y: u32) -> u32
+    ensures { λ r. ⌜ r ≡ cond b x y ⌝ }
+{
+    if b { x } else { y }
+}
+
+// The first k and then the first again, so that a number is compared with four always.
+pub fn repeated(few: [u32; 4], k: usize) -> [u32; 4]
+    requires { ⌜ (1 ≤ k) × (k ≤ 4) ⌝ }
+    ensures { λ r. ⌜ ((x : ℕ) → isIn x r ≡ isIn x (take k few)) ⌝ }
+{
+    let a = few[0];
+    let b = either(1 < k, few[1], a);
+    let c = either(2 < k, few[2], a);
+    let d = either(3 < k, few[3], a);
+    [a, b, c, d]
+}
+
+fn at_pick(column: &[u32; 1024], pick: u32, used: bool) -> u32
+    requires { ⌜ (length (now column) ≡ 1024) × (used ≡ true → pick < 1024) ⌝ }
+    ensures { λ r. ⌜ r ≡ cond used (getD (now (column .entry)) pick 0) 0 ⌝ }
+{
+    if used { column[pick as usize] } else { 0 }
+}
+
+// A column at the first k picks, and 0 after them. One by one, so that no array is filled in a loop.
+pub fn at_picks(column: &[u32; 1024], picks: [u32; 4], k: usize) -> [u32; 4]
+    requires { ⌜ (k ≤ 4) × (length (now column) ≡ 1024) × Places 1024 (take k picks) ⌝ }
+    ensures { λ r. ⌜ r ≡ fourAt (now (column .entry)) (take k picks) ⌝ }
+{
+    let a = at_pick(column, picks[0], 0 < k);
+    let b = at_pick(column, picks[1], 1 < k);
+    let c = at_pick(column, picks[2], 2 < k);
+    let d = at_pick(column, picks[3], 3 < k);
+    [a, b, c, d]
+}

@@ -1,0 +1,122 @@
+// When a reaction is allowed.
+ghost use Prim.Native.Nat.{ℕ, _≤_, _<_};
+ghost use mathlib.Core.Path.{_≡_};
+ghost use mathlib.Core.Bool.{true, _&&_};
+ghost use mathlib.Core.List.{List, map};
+ghost use lib.Dec.{eqb};
+ghost use lib.ListN.{length, take};
+ghost use Rattle.lists.specs.Rows.{rows};
+ghost use Rattle.semantics.specs.State.{isMessage};
+ghost use Rattle.semantics.specs.Table.{consumed};
+ghost use Rattle.semantics.specs.Move.{entryAt, onPorts, ownersFit};
+ghost use Rattle.table.specs.Decode.{Decodes};
+ghost use Rattle.state.specs.Working.{rowOf};
+ghost use Rattle.reaction.specs.Decoded.{ruleIn};
+ghost use Rattle.state.specs.Lent.{stateFrom, Columns};
+ghost use Rattle.reaction.specs.Verdict.{reactVerdict, ownerFits};
+ghost use Rattle.reaction.specs.Places.{Places, column};
+use crate::picks::all_differ;
+use semantics::Refusal;
+use semantics::Verdict;
+use state::item::MESSAGE;
+use state::item::kind_of;
+use state::item::port_of;
+use table::decode::Rule;
+
+// Whether a message on this port stands at place p.
+fn message_on(items: &[u32; 1024], n: usize, p: usize, port: u16) -> bool
+    requires { ⌜ (n ≤ 1024) × (length (now items) ≡ 1024) ⌝ }
+    ensures { λ r. ⌜ ((os gs : List ℕ) → r ≡ isMessage (entryAt (rows (rowOf os (now (items .entry)) gs) 0 n) p) && eqb (entryAt (rows (rowOf os (now (items .entry)) gs) 0 n) p .port) port) ⌝ }
+{
+    if n <= p {
+        return false;
+    }
+    let item = items[p];
+    (kind_of(item) == MESSAGE) & (port_of(item) == port as u32)
+}
+
+// The ports of the consumes (takes), which come first. By constant places, so that the atoms are not copied.
+fn consume_ports(rule: Rule) -> [u16; 4]
+    requires { ⌜ Decodes rule (ruleIn rule) ⌝ }
+    ensures { λ r. ⌜ (take (rule .consumes) r ≡ consumed (ruleIn rule)) × (length r ≡ 4) ⌝ }
+{
+    let a = rule.atoms[0];
+    let b = rule.atoms[1];
+    let c = rule.atoms[2];
+    let d = rule.atoms[3];
+    [a.port, b.port, c.port, d.port]
+}
+
+// Whether the first k picks are messages on these ports.
+fn on_ports(items: &[u32; 1024], n: usize, ports: [u16; 4], picks: [u32; 4], k: usize) -> bool
+    requires { ⌜ (n ≤ 1024) × (length (now items) ≡ 1024) × (k ≤ 4) ⌝ }
+    ensures { λ r. ⌜ ((os gs : List ℕ) → r ≡ onPorts (take k ports) (map (entryAt (rows (rowOf os (now (items .entry)) gs) 0 n)) (take k picks))) ⌝ }
+{
+    let mut i = 0;
+    while i < k {
+        if !message_on(items, n, picks[i] as usize, ports[i]) {
+            return false;
+        }
+        i += 1;
+    }
+    true
+}
+
+// The owner that a rule of this class wants; one stands for all where they must be the same.
+fn owner_fits(class: u32, owner: u32, one: u32) -> bool
+    ensures { λ r. ⌜ r ≡ ownerFits class one owner ⌝ }
+{
+    if class == 0 {
+        return owner == 0;
+    }
+    if class == 1 {
+        return (0 < owner) & (owner == one);
+    }
+    0 < owner
+}
+
+// Whether a rule of this class may consume at the picks, by the owners there.
+fn owners_fit(class: u32, owners: &[u32; 1024], picks: [u32; 4], k: usize) -> bool
+    requires { ⌜ (1 ≤ k) × (k ≤ 4) × (length (now owners) ≡ 1024) × Places 1024 (take k picks) ⌝ }
+    ensures { λ r. ⌜ r ≡ ownersFit class (column (now (owners .entry)) (take k picks)) ⌝ }
+{
+    let one = owners[picks[0] as usize];
+    let mut i = 0;
+    while i < k {
+        if !owner_fits(class, owners[picks[i] as usize], one) {
+            return false;
+        }
+        i += 1;
+    }
+    true
+}
+
+// Why a reaction is refused. The other column, of origins, does not matter.
+pub fn react_verdict<'a>(
+    owners: &'a [u32; 1024],
+    items: &'a [u32; 1024],
+    n: usize,
+    next: u32,
+    rule: Rule,
+    picks: [u32; 4],
+    ceiling: usize,
+) -> Verdict
+    requires { ⌜ Columns (now owners) (now items) n × Decodes rule (ruleIn rule) ⌝ }
+    ensures { λ r. ⌜ ((gs : List ℕ) → r ≡ reactVerdict ceiling (ruleIn rule) (stateFrom (now (owners .entry)) (now (items .entry)) gs n next) (take (rule .consumes) picks)) ⌝ }
+{
+    let k = rule.consumes;
+    if !(all_differ(picks, k) & on_ports(items, n, consume_ports(rule), picks, k)) {
+        return Verdict::Denied(Refusal::WrongPick);
+    }
+    if !owners_fit(rule.class, owners, picks, k) {
+        return Verdict::Denied(Refusal::WrongOwner);
+    }
+    if rule.begins & (65536 <= next) {
+        return Verdict::Denied(Refusal::NoMoreIds);
+    }
+    let count = rule.count;
+    if ceiling < (n - k) + (count - k) {
+        return Verdict::Denied(Refusal::TooManyEntries);
+    }
+    Verdict::Allowed
+}

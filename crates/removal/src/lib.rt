@@ -1,0 +1,3 @@
+// The picked entries taken out of the columns.
+mod lower;
+pub mod remove;

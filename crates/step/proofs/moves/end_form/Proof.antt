@@ -1,6 +1,0 @@
-use borrow.Author.Needs.{needs}
-use Rattle.step.proofs.moves.end_form.Statement.{statement}
-use Rattle.step.proofs.moves.end_form.Tie as tie
-
-pub end-form-spec : {M : Type 1} → statement M
-end-form-spec = tie.close (tie.spec (λ c κs. search needs) (λ c. rw (c .unused-zero .ensures)))

@@ -1,6 +1,0 @@
-use Rattle.step.proofs.Merging.{or-end}
-use Rattle.step.proofs.products.merged_owner.Statement.{statement}
-use Rattle.step.proofs.products.merged_owner.Tie as tie
-
-pub merged-owner-spec : {M : Type 1} → statement M
-merged-owner-spec = tie.close (tie.spec (λ c. rw (or-end, c .if1 .taken)) (λ c. rw (or-end, c .if1 .left)))
