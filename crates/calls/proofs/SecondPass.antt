@@ -27,8 +27,8 @@ use Rattle.run.specs.Whole.{words-indexed, loaded-workable}
 use Rattle.serial.specs.Replay.{Replayable, Arranged, ReplayedAs}
 use Rattle.serial_laws.specs.Acts.{Recorded, endAfter}
 use Rattle.serial_laws.specs.Order.{arrangedBy}
-use Rattle.serial.specs.Counting.{Keys}
-use Rattle.serial.specs.Keys.{Keyable, KeysOf}
+use Rattle.order.specs.Counting.{Keys}
+use Rattle.order.specs.Keys.{Keyable, KeysOf}
 use Rattle.serial_laws.specs.Places.{noAct}
 use Rattle.serial_laws.specs.Keys.{Told, keysBy, recorded-told}
 use Rattle.serial_laws.specs.ByKey.{arranged-below}

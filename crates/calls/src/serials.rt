@@ -12,11 +12,11 @@ ghost use Rattle.calls.specs.Serials.{Serializable, Roomy, SerializedAs,
 use crate::checks::ready;
 use log::count_of;
 use opened::any_open;
+use order::keys::keys_of;
+use order::sort::order_of;
 use semantics::Outcome;
 use semantics::Refusal;
 use semantics::Verdict;
-use serial::keys::keys_of;
-use serial::order::order_of;
 use serial::record::record;
 use serial::replay::replay;
 use state::State;

@@ -79,7 +79,7 @@ module _ (t : Table) (F : Seen) (m x : Deed) (P : Apart m x) (km : Ok t F m) (kx
   unfolding f2 B
   found-after = map-frame (F .cell) f2 (mine (m .touched)) (m .picks) (km .es)
       (λ o e i h k. frame-keep (F .cell) B (x .touched) (x .place) LB o e h (not-x e k)
-          (is-false (B .gone o) (λ w. P .picks o i (gone-picked t (received F x) x o w))))
+      (is-false (B .gone o) (λ w. P .picks o i (gone-picked t (received F x) x o w))))
       (km .found) (km .own)
 
   pub fresh-after : (o : Origin) → o .maker ≡ suc (m .place) → f2 o ≡ none
@@ -103,7 +103,7 @@ module _ (t : Table) (F : Seen) (m x : Deed) (P : Apart m x) (km : Ok t F m) (kx
   unfolding f2 B
   theirs-after o e h k = frame-keep (F .cell) B (x .touched) (x .place) LB o e h (not-x e (mine-in (m .touched) e k))
       (is-false (B .gone o) (λ w. let q = found-at (F .cell) (mine (x .touched)) o (x .picks) (kx .es) (kx .found) (kx .own)
-          (gone-picked t (received F x) x o w) in
+      (gone-picked t (received F x) x o w) in
       clash k (subst (λ (z : Entry). isIn (z .owner) (m .touched) ≡ false) (some-inj (sym (q .1) ∙ h))
       (not-in (x .touched) (m .touched) (q .0) (km .noZero) (P .touched) (q .2)))))
 

@@ -120,7 +120,7 @@ module _ (c : State) (F : Seen) (ρ : ℕ → ℕ) (rel : Rel c F ρ) where
 
   pub picked-again : (os : List Origin) (es : List Entry) → map (F .cell) os ≡ map some es → all isMessage es ≡ true
       → (map (entryAt (c .entries)) (nowAt os) ≡ map (rename ρ) es) × (originsOf (map (entryAt (c .entries)) (nowAt os)) ≡ os)
-          × All (λ p. p < length (c .entries))
+      × All (λ p. p < length (c .entries))
       (nowAt os)
   picked-again [] [] h k = (refl, refl, tt)
   picked-again [] (e ∷ es) h k = absurd (let z : _≡_ {A = ℕ} 0 1 = cc in omega arith)

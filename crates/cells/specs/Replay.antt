@@ -131,7 +131,13 @@ replay-runs t right sd (a ∷ xs) c F G ρ rel sound known h =
     let q : applied t (suc (a .place)) c m ≡ after t (suc (a .place)) c m = sym (after-allowed t (suc (a .place)) c m (n .allows)) in
     let still = applied-keeps right sound (suc (a .place)) m (again-known t c (actOf a) (a .move) (known .0)) (n .allows) in
     let e = replay-runs t right sd xs (after t (suc (a .place)) c m) (astep t F a) G (n .names)
-        (subst (λ (x : State). Rel x (astep t F a) (n .names)) q (n .rel))
+    (subst (λ (x : State). Rel x (astep t F a) (n .names)) q (n .rel))
     (subst (Sound (t .sizes)) q still) (known .1) (h .1) in
-    record { state = e .state; names = e .names; all-go = (n .allows, e .all-go); agains = (rel .uniq, n .made-again, e .agains); rel = e .rel;
-        sound = e .sound }
+    record {
+      state = e .state;
+      names = e .names;
+      all-go = (n .allows, e .all-go);
+      agains = (rel .uniq, n .made-again, e .agains);
+      rel = e .rel;
+      sound = e .sound;
+    }

@@ -176,7 +176,7 @@ module _ (t : Table) (sd : Shaped t) (c : State) (F : Seen) (ρ : ℕ → ℕ) (
       ∙ cell-eq (isInO o (originsOf (picked c qs))) (look o (c .entries)) (look o (productsOf R (suc (a .place)) c qs)) (merged os′) (merged os′) (λ e. refl)
       ∙ (λ j. orElse (cond (isInO o (seen-again .1 j)) none (bindO (λ e. some (merged os′ e)) (there-is j))) (made-is j))
       ∙ cell-rename (isInO o (a .picks)) (F .cell o) (look o (map strip (make (suc (a .place)) (least bs) vs 0 (productAtoms R)))) ρ (merged os′) (merged bs)
-          (rename ρ′)
+      (rename ρ′)
       (λ e h. kept-entry o e h)
     where
       there-is : omap strip (look o (c .entries)) ≡ omap (rename ρ) (F .cell o)

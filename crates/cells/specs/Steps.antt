@@ -62,10 +62,10 @@ module _ (t : Table) (sd : Shaped t) (i : ℕ) (F : Seen) (a : Deed) (g : Good i
   unfolding astep
   mark-left v e h = by-bool (isBegin t (a .move))
       (λ b. let q = mark-made t sd (F .cell) a (received F a) (a .move) b (st .ok .fresh (firstOf (a .place)) refl) in
-          (firstOf (a .place), q .0, q .1, q .2, q .3))
+      (firstOf (a .place), q .0, q .1, q .2, q .3))
       (λ b. let l = touched-live t sd F a (st .ok) b v h in
       let m = keeps-mark v (λ z. absurd (clash z e)) (subst (λ (x : ℕ). Mark (F .cell) x) (l .3)
-          (g .marks (l .0) (l .1) (l .2) (λ z. not-zero v h (sym (l .3) ∙ z)))) in
+      (g .marks (l .0) (l .1) (l .2) (λ z. not-zero v h (sym (l .3) ∙ z)))) in
       subst (λ (x : Bool). Mark (astep t F a .cell) (cond x (least (a .touched)) v)) h m)
 
   came-from : (o : Origin) (e : Entry) → astep t F a .cell o ≡ some e → (e .owner ≡ 0 → ⊥) → From (F .cell) (a .touched) (isEnd (a .move)) o (e .owner)

@@ -1,5 +1,3 @@
-pub mod Tally
-pub mod Filling
 pub mod Chunking
 pub mod Marking
 pub mod Copying
@@ -7,7 +5,6 @@ pub mod MarksKept
 pub mod Tracking
 pub mod Acting
 pub mod Recording
-pub mod Keying
 pub mod Places
 pub mod Used
 pub mod Again

@@ -2,7 +2,5 @@
 // order, each on the entries of the same origin.
 pub mod chunk;
 pub mod ends;
-pub mod keys;
-pub mod order;
 pub mod record;
 pub mod replay;

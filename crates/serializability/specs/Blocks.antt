@@ -79,7 +79,7 @@ module _ (t : Table) (sd : Shaped t) (G : Seen) where
             let d = fo o e h k .0 (sym (key-is (e .owner) w) ∙ q) in
             let E = end-ok t Fa a (rest-a .0 .0 .step .ok) en in
             let z : isInO o (a .members) ≡ true = subst (λ (l : List Origin). isInO o l ≡ true) (sym (E .members))
-                (E .all-marks o (d .0) (d .1) (d .3) (d .2)) in
+            (E .all-marks o (d .0) (d .1) (d .3) (d .2)) in
             rw z
 
         back : shares x a ≡ true → eqb (x .key) (a .place) ≡ true
@@ -129,8 +129,10 @@ module _ (t : Table) (sd : Shaped t) (G : Seen) where
   before-block : (xs : List Deed) (i : ℕ) (F : Seen) (a : Deed) (ys : List Deed) → Good i F → LogRuns t i F (xs ++ a ∷ ys) G
       → All (λ x. keyIs (a .place) x ≡ cond (isInner (actOf a)) false (belongsTo (actOf a) (actOf x))) xs
   before-block [] i F a ys g r = tt
-  before-block (x ∷ xs) i F a ys g r = (in-block i F x xs ys a g r,
-      before-block xs (suc i) (astep t F x) a ys (next-good t sd G i F x (xs ++ a ∷ ys) g (r .0)) (r .1))
+  before-block (x ∷ xs) i F a ys g r = (
+    in-block i F x xs ys a g r,
+    before-block xs (suc i) (astep t F x) a ys (next-good t sd G i F x (xs ++ a ∷ ys) g (r .0)) (r .1),
+  )
 
   -- a's own key
   own-block : (i : ℕ) (F : Seen) (a : Deed) (ys : List Deed) → LogRuns t i F (a ∷ ys) G → keyIs (a .place) a ≡ not (isInner (actOf a))
@@ -144,7 +146,7 @@ module _ (t : Table) (sd : Shaped t) (G : Seen) where
       go false p true q = is-own (rw (p, empty-nil (a .touched) q)) ∙ rw (p, r .0 .marked p .1 ∙ q)
       go false p false q =
           ne-eqb (a .key) (a .place) (λ w. let y = r .0 .key ∙ key-full (isEnd (a .move)) i (a .touched) ys p q in
-              let z = ender-ge (suc i) ys (least (a .touched)) in
+          let z = ender-ge (suc i) ys (least (a .touched)) in
           let v = r .0 .step .place in omega arith)
           ∙ rw (p, r .0 .marked p .1 ∙ q)
 
@@ -204,4 +206,4 @@ module _ (t : Table) (sd : Shaped t) (G : Seen) where
   pub order-sorted : (xs : List Deed) (F : Seen) → Good 0 F → LogRuns t 0 F xs G → NoneOpen G → ordered [] (map actOf xs) ≡ map actOf (isort xs)
   order-sorted xs F g r n = ordered-is xs [] F g r ∙ ap (map actOf) (arrange-isort (length xs) 0 xs
       (All-map {P = λ x. x .key < 0 + length xs} {Q = λ x. (0 ≤ x .key) × (x .key < 0 + length xs)} (λ x k. (omega arith, k)) xs
-          (key-bound t sd G 0 F xs g r n)))
+      (key-bound t sd G 0 F xs g r n)))

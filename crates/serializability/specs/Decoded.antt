@@ -191,7 +191,7 @@ module _ (t : Table) (right : TableRight t) (ne : beginsEmit t ≡ false) (s : S
       (getD ms (getD (placesOf t s ms) j 0) noMove) (getD (serial t s ms) j noMove)
   same-at j h =
       subst (λ (ps : List ℕ). SameMove (stateBefore t (upFrom 0 (length ms)) s ms (getD ps j 0)) (stateBefore t ps s (serial t s ms) j)
-          (getD ms (getD ps j 0) noMove)
+      (getD ms (getD ps j 0) noMove)
       (getD (serial t s ms) j noMove)) (sym places-are)
       (subst (λ (l : List Move). SameMove (stateBefore t (upFrom 0 (length ms)) s ms (getD (map (λ a. a .place) (isort ds)) j 0))
       (stateBefore t (map (λ a. a .place) (isort ds)) s l j) (getD ms (getD (map (λ a. a .place) (isort ds)) j 0) noMove) (getD l j noMove)) (sym serial-is)

@@ -109,7 +109,7 @@ module _ (t : Table) (sd : Shaped t) (G : Seen) (a : Deed) (ys : List Deed) wher
             → ender i (x ∷ xs ++ a ∷ ys) (e .owner) ≡ ender (suc i) (xs ++ a ∷ ys) v
         same-end v n q = by-bool (isIn (e .owner) (x .touched))
             (λ w. let y : v ≡ least (x .touched) = q ∙ rw w in let z : isEnd (x .move) ≡ false = is-false (isEnd (x .move)) (λ z. clash w (n z)) in
-                rw (w, z, y))
+            rw (w, z, y))
             (λ w. let y : v ≡ e .owner = q ∙ rw w in rw (w, y))
 
         go : ((e′ : Entry) → astep t F x .cell o ≡ some e′ → e′ .kind ≡ 3 → Follows (suc i) (astep t F x) xs o e′) → (b : Bool) → isEnd (x .move) ≡ b
@@ -120,7 +120,7 @@ module _ (t : Table) (sd : Shaped t) (G : Seen) (a : Deed) (ys : List Deed) wher
           (λ d w v. absurd (none-some (sym
               (none-after t (suc i) (astep t F x) G xs (a ∷ ys) (r .1) o
               (mark-gone t (F .cell) x (r .0 .step .ok .es) (received F x) o e (x .move) (r .0 .step .ok .tests) p q h k)
-                  (let y = g .makers o e h in omega arith))
+              (let y = g .makers o e h in omega arith))
               ∙ w))),
         )
         go ih true p false q = let s = stays (λ z. q) in step-to (s .0) (ih (s .0) (s .1) (s .2)) (same-end (s .0 .owner) (λ z. q) (s .3))

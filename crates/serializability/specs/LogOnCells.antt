@@ -85,7 +85,7 @@ module _ (t : Table) (sd : Shaped t) (i k : ℕ) (s : State) (r : ℕ) (ps : Lis
           let x : d .kind ≡ 3 = ap (λ (x : Entry). x .kind) q ∙ k in
           let y : isIn (d .owner) os ≡ true = subst (λ (x : Entry). isIn (x .owner) os ≡ true) (sym q) w in
           origins-some o (keep inOs (s .entries)) (look-isIn o (keep inOs (s .entries)) d
-              (look-kept inOs o (s .entries) d u h (and-intro (eq-eqb (d .kind) 3 x) y)))
+          (look-kept inOs o (s .entries) d u h (and-intro (eq-eqb (d .kind) 3 x) y)))
 
       there : (o : Origin) (e : Entry) → view s .cell o ≡ some e → e .kind ≡ 3 → isIn (e .owner) os ≡ true → isEmpty (marksIn os s) ≡ false
       there o e h k w = let v = view-some s o e h in seen o e (v .0) (v .1) (v .2) k w

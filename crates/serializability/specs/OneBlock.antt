@@ -59,7 +59,7 @@ module _ (t : Table) (sd : Shaped t) (G : Seen) where
       let en = and-left (isEnd (b .move)) (belongsTo (actOf b) (actOf x)) h in
       let sh = and-right (isInner (actOf x)) (shares x b) (and-right (isEnd (b .move)) (belongsTo (actOf b) (actOf x)) h) in
       go en (any-found (λ o. MarkAt (astep t (seenAfter t (astep t F b) zs) x .cell) o (least (x .touched))) (λ o. any (sameOrigin o) (b .members))
-          (x .members) sh
+      (x .members) sh
       (rest .0 .marked nx .0)))
     where
       rest : LogRuns t (suc i + length zs) (seenAfter t (astep t F b) zs) (x ∷ ys) G

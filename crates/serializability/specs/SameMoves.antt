@@ -42,7 +42,7 @@ deeds-placed t i s (m ∷ ms) = (
       {Q = λ a. (n : ℕ) × (a .place ≡ i + n) × (a .move ≡ getD (m ∷ ms) n noMove) ×
       (a .picks ≡ handled (stateBefore t (upFrom i (length (m ∷ ms))) s (m ∷ ms) n) (a .move))}
       (λ a h. (suc (h .0), (let w = h .1 in omega arith), h .2, h .3)) (deeds t (suc i) (after t (suc i) s m) ms)
-          (deeds-placed t (suc i) (after t (suc i) s m) ms),
+      (deeds-placed t (suc i) (after t (suc i) s m) ms),
 )
 
 pub all-placed : (t : Table) (s : State) (ms : List Move) → All (Placed t s ms) (deeds t 0 s ms)
@@ -50,12 +50,12 @@ all-placed t s ms = All-map {P = λ a. (n : ℕ) × (a .place ≡ 0 + n) × (a .
     (a .picks ≡ handled (stateBefore t (upFrom 0 (length ms)) s ms n) (a .move))} {Q = Placed t s ms}
     (λ a h. let w : h .0 ≡ a .place = (let v = h .1 in omega arith) in
     subst (λ (n : ℕ). (a .move ≡ getD ms n noMove) × (a .picks ≡ handled (stateBefore t (upFrom 0 (length ms)) s ms n) (a .move))) w (h .2, h .3))
-        (deeds t 0 s ms)
+    (deeds t 0 s ms)
     (deeds-placed t 0 s ms)
 
 pub same-moves : (t : Table) (s : State) (ms : List Move) (ds : List Deed) (c : State) → Agains t c ds → All (Placed t s ms) ds → (j : ℕ) → j < length ds
     → SameMove (stateBefore t (upFrom 0 (length ms)) s ms (getD (map (λ a. a .place) ds) j 0))
-        (stateBefore t (map (λ a. a .place) ds) c (replayed t c (map actOf ds)) j)
+    (stateBefore t (map (λ a. a .place) ds) c (replayed t c (map actOf ds)) j)
     (getD ms (getD (map (λ a. a .place) ds) j 0) noMove) (getD (replayed t c (map actOf ds)) j noMove)
 unfolding replayed stateBefore
 same-moves t s ms [] c A P j h = absurd (not-suc-le-zero h)
