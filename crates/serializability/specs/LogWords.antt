@@ -11,7 +11,7 @@ use lib.ListN.{length, getD, take, drop, replicate, length-map, length-append, l
 use lib.Seq.{drop-append-add, take-at, take-take}
 use Rattle.lists.specs.Lists.{all, upFrom}
 use Rattle.lists.specs.Choices.{and-left, and-right, and-intro}
-use Rattle.lists.specs.Walk.{length-upFrom}
+use Rattle.lists.specs.Tabled.{length-tabled}
 use Rattle.lists.specs.UpFrom.{map-up, map-shift}
 use Rattle.semantics.specs.Words.{headKind, headNumber, headWord}
 use Rattle.semantics.specs.Table.{Table, ruleAt, consumed}
@@ -137,7 +137,7 @@ moves-back ms = map-up (moveAt (logWords ms)) (fromColumns ms) (length ms) 0 (λ
 
 -- as many moves as the log's first word says
 pub moves-count : (L : List ℕ) → length (movesOf L) ≡ moveCount L
-moves-count L = length-map (upFrom 0 (moveCount L)) (moveAt L) ∙ length-upFrom 0 (moveCount L)
+moves-count L = length-tabled (moveAt L) 0 (moveCount L)
 
 pub count-1024 : (L : List ℕ) → logSizesOk L ≡ true → moveCount L ≤ 1024
 unfolding logSizesOk

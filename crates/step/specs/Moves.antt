@@ -17,7 +17,7 @@ use Rattle.semantics.specs.declared.Refusal.the-variants.{NoTransaction, EndNot
 use Rattle.semantics.specs.declared.Sizes.{Sizes}
 use Rattle.semantics.specs.declared.Verdict.{Verdict}
 use Rattle.semantics.specs.declared.Verdict.the-variants.{Allowed, Denied}
-use Rattle.wellformed.specs.Verdicts.{length-rules}
+use Rattle.wellformed.specs.Tables.{length-rules}
 use Rattle.wellformed.specs.Length.{length-commit, length-abort}
 use Rattle.table.specs.declared.decode.Rule.{Rule}
 use Rattle.table.specs.Decode.{Decodes}

@@ -9,7 +9,7 @@ use Rattle.lists.specs.Lists.{any, count}
 use Rattle.lists.specs.Runs.{RunEnd, keys-count}
 use Rattle.semantics.specs.Words.{atomRole, portOf}
 use Rattle.semantics.specs.Table.{sizesOf, numbersOf, atomWordsOf, ruleWords, classOf, atomOf, ruleOf, tableOf, ruleAt, isRole, consumed}
-use Rattle.wellformed.specs.Tables.{WellFormed, well-formed, numbers-length, words-length, numbers-rise, RuleFits, rule-fits, rule-at, rule-has, consumed-length, rule-legal}
+use Rattle.wellformed.specs.Tables.{WellFormed, well-formed, numbers-length, words-length, numbers-rise, RuleFits, rule-fits, ruleAt-tableOf, rule-has, consumed-length, rule-legal}
 use Rattle.semantics.specs.Answers.{tableVerdict}
 use Rattle.semantics.specs.declared.Atom.{Atom}
 use Rattle.semantics.specs.declared.Sizes.{Sizes}
@@ -58,7 +58,7 @@ module _ (t starts : List ℕ) (r : ℕ) (v : tableVerdict t ≡ Allowed) (l : r
       cut-fits = rw (ez, rule-cut ex) (rule-fits (sizesOf t) (ruleWords r (numbersOf t) (atomWordsOf t)) (good .each r l))
 
       pub cut-rule : ruleOf z xs ≡ ruleAt (tableOf t) r
-      cut-rule = rw (ez, rule-cut ex) (sym (rule-at t r l))
+      cut-rule = rw (ez, rule-cut ex) (sym (ruleAt-tableOf t r l))
 
     pub cut-consumes : {xs : List ℕ} {k : ℕ} → xs ≡ cut starts r ws → RunEnd (isRole 0) xs 0 k → (k ≡ length (consumed (ruleAt (tableOf t) r))) × (k ≤ 4)
     cut-consumes {xs} e end =

@@ -9,7 +9,7 @@ use Rattle.lists.specs.Lists.{any}
 use Rattle.lists.specs.Tests.{or-true, or-false}
 use Rattle.lists.specs.Ahead.{Tails, slice-tails, Ahead, ahead-start, ahead-here, ahead-next, ahead-done}
 use Rattle.semantics.specs.Table.{sizesOf, numbersOf, atomWordsOf, isRole, begins, emits, Rule, ruleOf, tableOf, ruleAt, noRule}
-use Rattle.wellformed.specs.Tables.{rule-has, table-rules}
+use Rattle.wellformed.specs.Tables.{rule-has, length-rules}
 use Rattle.semantics.specs.Serial.{beginsEmit}
 use Rattle.semantics.specs.Answers.{tableVerdict}
 use Rattle.semantics.specs.declared.Sizes.{Sizes}
@@ -48,7 +48,7 @@ trying-start t starts v s ez ew = record {
 }
 
 rule-tails : (t : List ℕ) → Tails (λ k. ruleAt (tableOf t) k) (λ k. drop k (tableOf t .rules)) (sizesOf t .rules)
-rule-tails t = rw (table-rules t) at (slice-tails noRule (tableOf t .rules))
+rule-tails t = rw (length-rules t) at (slice-tails noRule (tableOf t .rules))
 
 module _ {t starts : List ℕ} {rules : ℕ} {words : List ℕ} {r : ℕ} (a : Trying t starts rules words r) where
   pub trying-done : rules ≤ r → false ≡ beginsEmit (tableOf t)

@@ -8,7 +8,7 @@ use Rattle.lists.specs.Lists.{allBelow}
 use Rattle.lists.specs.Tests.{and-false, and-true}
 use Rattle.lists.specs.Walk.{below-same}
 use Rattle.semantics.specs.Table.{sizesOf, numbersOf, atomWordsOf, ruleWords, tableSizesOk, numbersOk, ruleOk, rulesOk, tableContentsOk}
-use Rattle.wellformed.specs.Tables.{TableSized, numbers-length, words-length, numbers-rise, verdict-allowed}
+use Rattle.wellformed.specs.Tables.{TableSized, numbers-length, words-length, numbers-rise, table-given}
 use Rattle.semantics.specs.Move.{unless}
 use Rattle.semantics.specs.Answers.{tableVerdict}
 use Rattle.semantics.specs.declared.Refusal.the-variants.{TableSizes, TableContents}
@@ -75,7 +75,7 @@ module _ (t starts : List ℕ) where
   pub sizes-wrong : tableSizesOk t ≡ false → CheckedAs t (record { verdict = Denied TableSizes; starts = starts })
   unfolding tableVerdict
   sizes-wrong e =
-      record { verdict = rw e; starts = λ yes. absurd (false≢true (sym e ∙ verdict-allowed t yes .0)) }
+      record { verdict = rw e; starts = λ yes. absurd (false≢true (sym e ∙ table-given t yes .0)) }
 
   pub sizes-right :
       (b : Bool) {ok : Bool}
@@ -86,4 +86,4 @@ module _ (t starts : List ℕ) where
   unfolding tableVerdict
   sizes-right b e f g =
       let h : tableContentsOk t ≡ b = sym (f .answer) ∙ g in
-      record { verdict = rw (e, h); starts = λ yes. f .right (verdict-allowed t yes .1) }
+      record { verdict = rw (e, h); starts = λ yes. f .right (table-given t yes .1) }

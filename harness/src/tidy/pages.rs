@@ -30,7 +30,8 @@ pub fn stale_edits(tree: &Tree) -> Vec<Finding> {
     found
 }
 
-/// Crates that stand above one that they depend on, and dependencies that no file of theirs names.
+/// Crates that stand above one that they depend on, and dependencies that no file of theirs names. A
+/// value's type needs its crate without a name, so a crate that declares types is taken as needed.
 pub fn layers(tree: &Tree) -> Vec<Finding> {
     let page = tree.file("crates.txt").unwrap_or_else(|| panic!("no crates.txt"));
     let crates = tree.crates();
@@ -42,7 +43,7 @@ pub fn layers(tree: &Tree) -> Vec<Finding> {
             if *below > number {
                 found.push(page.at(number, format!("{own} stands above {need}, which it needs")));
             }
-            if !names_crate(tree, own, need) {
+            if !names_crate(tree, own, need) && !declares_types(tree, need) {
                 found.push(page.at(number, format!("{own} names nothing of {need}")));
             }
         }
@@ -57,6 +58,12 @@ fn names_crate(tree: &Tree, own: &str, need: &str) -> bool {
     let named = |text: &str| text.match_indices(&in_code).any(|(place, _)| is_path(&text[..place]));
     let files = tree.files.iter().filter(|file| file.place().is_some_and(|(name, _)| name == own));
     files.into_iter().any(|file| file.text.contains(&in_theory) || named(&file.text))
+}
+
+/// Whether the code of a crate declares public types.
+fn declares_types(tree: &Tree, name: &str) -> bool {
+    let mut code = tree.in_part(Part::Src).filter(|file| file.place().is_some_and(|(own, _)| own == name));
+    code.any(|file| file.lines().any(|(_, line)| line.starts_with("pub struct ") || line.starts_with("pub enum ")))
 }
 
 const ARCHITECTURE: &str = "docs/ARCHITECTURE.md";
@@ -195,16 +202,18 @@ mod tests {
     #[test]
     fn layers_are_held() {
         let tree = Tree::of(&[
-            ("crates.txt", "# all\nhigh: low mid none io\nlow:\nmid: low\nnone:\n"),
+            ("crates.txt", "# all\nhigh: low mid none types io\nlow:\nmid: low\nnone:\ntypes:\n"),
             ("crates/high/src/lib.rt", "use low::f;\nuse other_none::f;\nuse crate::none::f;\n"),
             ("crates/high/proofs/f/Proof.antt", "use Rattle.mid.specs.A.{x}\n"),
             ("crates/mid/src/lib.rt", "low::f()\n"),
+            ("crates/types/src/lib.rt", "pub struct S {\n"),
         ]);
         let wanted = [
             "crates.txt:2: high stands above low, which it needs",
             "crates.txt:2: high stands above mid, which it needs",
             "crates.txt:2: high stands above none, which it needs",
             "crates.txt:2: high names nothing of none",
+            "crates.txt:2: high stands above types, which it needs",
         ];
         assert_eq!(shown(layers(&tree)), wanted);
     }
