@@ -1,12 +1,2 @@
-pub mod Chunking
-pub mod Marking
-pub mod Copying
-pub mod MarksKept
-pub mod Tracking
-pub mod Acting
-pub mod Recording
-pub mod Places
-pub mod Used
-pub mod Again
-pub mod Replaying
-pub mod Turns
+pub mod FirstPass
+pub mod SecondPass

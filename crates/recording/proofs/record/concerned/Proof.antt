@@ -1,0 +1,10 @@
+use borrow.Author.Needs.{needs}
+use borrow.Author.Tests.{eq-eqb, ne-eqb}
+use Rattle.recording.proofs.record.concerned.Statement.{statement}
+use Rattle.recording.proofs.record.concerned.Tie as tie
+
+pub concerned-spec : {M : Type 1} → statement M
+concerned-spec =
+    tie.close
+    (tie.spec (λ c. search needs) (λ c κs. search needs)
+    (λ c. rw (eq-eqb _ _ (c .before .if1 .taken)) (c .word-at .ensures)) (λ c. rw (ne-eqb _ _ (c .if1 .left))))
