@@ -1,5 +1,5 @@
 pub mod Places
 pub mod Used
-pub mod Again
+pub mod WordsAgain
 pub mod Replaying
 pub mod Turns

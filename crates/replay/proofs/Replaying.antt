@@ -25,7 +25,7 @@ use Rattle.wellformed.specs.Length.{length-maker}
 use Rattle.cells.specs.Moves.{after-allowed}
 use Rattle.serial_laws.specs.Acts.{Recorded, wordsOfMove, ActsAgain, Replays, replayFits}
 use Rattle.replay.specs.Replay.{Words, Arranged}
-use Rattle.replay.proofs.Again.{words-same}
+use Rattle.replay.proofs.WordsAgain.{words-same}
 
 -- `rest` is left of the acts xs at the state c, and the rows of the others are written
 pub record Replaying (ceiling : ℕ) (t : Table) (start : State) (l order origins members : List ℕ) (xs rest : List Act) (j : ℕ) (c : State) (out : List ℕ) : Type 0 where

@@ -6,7 +6,7 @@ use native.Mathlib.Nat.{not-suc-le-zero}
 use native.Mathlib.Omega.{arith}
 use lib.ListN.{length, getD}
 use Rattle.lists.specs.Lists.{upFrom}
-use Rattle.lists.specs.Walk.{getD-upFrom}
+use Rattle.lists.specs.Tabled.{getD-upFrom}
 use Rattle.lists.specs.Each.{All}
 use Rattle.semantics.specs.Table.{Table}
 use Rattle.semantics.specs.State.{State}

@@ -1,5 +1,5 @@
 use borrow.Author.Needs.{needs}
-use Rattle.replay.proofs.Again.{words-made}
+use Rattle.replay.proofs.WordsAgain.{words-made}
 use Rattle.replay.proofs.again_at.Statement.{statement}
 use Rattle.replay.proofs.again_at.Tie as tie
 

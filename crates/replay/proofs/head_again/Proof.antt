@@ -1,5 +1,5 @@
 use borrow.Author.Needs.{needs}
-use Rattle.replay.proofs.Again.{head-react, head-commit, head-abort}
+use Rattle.replay.proofs.WordsAgain.{head-react, head-commit, head-abort}
 use Rattle.replay.proofs.head_again.Statement.{statement}
 use Rattle.replay.proofs.head_again.Tie as tie
 
