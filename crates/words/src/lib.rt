@@ -1,6 +1,7 @@
 // Words copied to the beginning of a target; picks put at a place; a word looked for in a column.
 pub mod picks;
 pub mod search;
+
 ghost use Prim.Native.Nat.{_≤_};
 ghost use mathlib.Core.Path.{_≡_};
 ghost use lib.ListN.{length, take};
