@@ -6,14 +6,14 @@ ghost use Rattle.semantics.specs.Serial.{anyOpen};
 ghost use Rattle.semantics.specs.Answers.{answerOf, serialize, serializeTarget};
 use crate::checks::ready;
 use log::count_of;
-use opened::any_open;
+use rules::emits::begins_emit;
 use semantics::Outcome;
 use semantics::Refusal;
 use semantics::Verdict;
 use serial::serialize_log;
+use state::any_open;
 use state::entry_count;
 use state::owners_of;
-use table::begins_emit;
 
 // Whether a transaction is open in a state's words.
 fn open_in(state: &[u32]) -> bool

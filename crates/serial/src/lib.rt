@@ -7,7 +7,6 @@ ghost use Rattle.semantics.specs.Log.{moveCount};
 ghost use Rattle.state.specs.Arrays.{Arrays};
 ghost use Rattle.serial.specs.Serialized.{Tested, Roomy, SerializedAs, Reorderable, ReorderedAs};
 use log::count_of;
-use opened::any_open;
 use order::keys::keys_of;
 use order::sort::order_of;
 use recording::record::record;
@@ -16,8 +15,9 @@ use semantics::Outcome;
 use semantics::Refusal;
 use semantics::Verdict;
 use state::State;
+use state::any_open;
 use state::load;
-use words::copy_words;
+use words::copy::copy_words;
 
 // The second pass, on the same columns: the log's moves in serial order. Nothing is written before all
 // of them fit: 17.

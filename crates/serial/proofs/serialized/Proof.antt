@@ -2,7 +2,7 @@ use mathlib.Core.Path.{refl, sym, _∙_}
 use native.Mathlib.Omega.{arith}
 use borrow.Author.Needs.{needs}
 use Rattle.wellformed.specs.States.{state-given}
-use Rattle.opened.specs.Owners.{open-held}
+use Rattle.state.specs.Owners.{open-held}
 use Rattle.serial.proofs.FirstPass.{recordable, record-room, ran-refused, ran-open, ran-closed, reorder-asked}
 use Rattle.serial.proofs.serialized.Statement.{statement}
 use Rattle.serial.proofs.serialized.Tie as tie
