@@ -17,7 +17,7 @@ use Rattle.semantics.specs.declared.Verdict.the-variants.{Allowed, Denied}
 use Rattle.semantics.specs.declared.Outcome.{Outcome}
 use Rattle.semantics.specs.declared.Outcome.the-variants.{Refused}
 use Rattle.wellformed.specs.Verdicts.{unless-intro, unless-false, FaultAt}
-use Rattle.calls.specs.Serials.{afterRun, SerializedAs}
+use Rattle.serial.specs.Serialized.{afterRun, SerializedAs}
 use Rattle.calls.proofs.Results.{fault-gives, passed-gives, too-short, long-enough, log-denied, log-missized, log-allowed}
 
 -- what `serialize` says
