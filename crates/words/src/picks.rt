@@ -1,0 +1,15 @@
+// Four words, those of a move's picks, put at a place.
+ghost use Prim.Native.Nat.{_+_, _≤_};
+ghost use lib.ListN.{length};
+ghost use Rattle.lists.specs.Over.{Pasted};
+
+pub fn put_picks(out: &mut [u32], at: usize, picks: [u32; 4])
+    requires { ⌜ at + 4 ≤ length (now out) ⌝ }
+    ensures { λ _. ⌜ Pasted (now (out .entry)) at picks 4 (now (out .exit)) ⌝ }
+{
+    let mut i = 0;
+    while i < 4 {
+        out[at + i] = picks[i];
+        i += 1;
+    }
+}
