@@ -12,8 +12,8 @@ use Rattle.semantics.specs.declared.AtomValue.the-variants.{Constant, Received}
 use Rattle.semantics.specs.declared.Verdict.the-variants.{Allowed}
 use Rattle.wellformed.specs.Tables.{well-formed}
 use Rattle.wellformed.specs.Rules.{ValueRight, rules-right}
-use Rattle.table.specs.declared.decode.Rule.{Rule}
-use Rattle.table.specs.Decode.{Decodes}
+use Rattle.rules.specs.declared.decode.Rule.{Rule}
+use Rattle.rules.specs.Decode.{Decodes}
 use Rattle.reaction.specs.Decoded.{ruleIn, decodes-itself}
 
 abbrev pub narrowValue : AtomValue → Type 0

@@ -15,7 +15,7 @@ use crate::merge::merge;
 use reaction::picks::at_picks;
 use reaction::picks::smallest;
 use removal::remove::remove;
-use table::decode::Rule;
+use rules::decode::Rule;
 
 // The whole reaction, in place. Answers the new number of entries.
 pub fn react(

@@ -9,19 +9,19 @@ ghost use Rattle.lists.specs.Rows.{rows};
 ghost use Rattle.semantics.specs.State.{isMessage};
 ghost use Rattle.semantics.specs.Table.{consumed};
 ghost use Rattle.semantics.specs.Move.{entryAt, onPorts, ownersFit};
-ghost use Rattle.table.specs.Decode.{Decodes};
+ghost use Rattle.rules.specs.Decode.{Decodes};
 ghost use Rattle.state.specs.Working.{rowOf};
 ghost use Rattle.reaction.specs.Decoded.{ruleIn};
 ghost use Rattle.state.specs.Lent.{stateFrom, Columns};
 ghost use Rattle.reaction.specs.Verdict.{reactVerdict, ownerFits};
 ghost use Rattle.reaction.specs.Places.{Places, column};
 use crate::picks::all_differ;
+use rules::decode::Rule;
 use semantics::Refusal;
 use semantics::Verdict;
-use state::item::MESSAGE;
-use state::item::kind_of;
-use state::item::port_of;
-use table::decode::Rule;
+use words::item::MESSAGE;
+use words::item::kind_of;
+use words::item::port_of;
 
 // Whether a message on this port stands at place p.
 fn message_on(items: &[u32; 1024], n: usize, p: usize, port: u16) -> bool

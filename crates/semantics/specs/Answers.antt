@@ -11,7 +11,9 @@ use Rattle.semantics.specs.Move.{unless, firstFault, Move, moveOk, moveO
 use Rattle.semantics.specs.Log.{moveCount, movesOf, logSizesOk, logWords, Ran, ended, stopped, run}
 use Rattle.semantics.specs.Serial.{beginsEmit, anyOpen, serial, serialFits}
 use Rattle.semantics.specs.declared.Refusal.{Refusal}
-use Rattle.semantics.specs.declared.Refusal.the-variants.{TableSizes, TableContents, StateSizes, StateContents, MoveForm, TargetTooShort, WrongPick, WrongOwner, NoTransaction, EndNotAllowed, NoMoreIds, TooManyEntries, LogSizes, BeginEmits, TransactionOpen, SerialTooManyEntries}
+use Rattle.semantics.specs.declared.Refusal.the-variants.{TableSizes, TableContents, StateSizes, StateContents, MoveForm, TargetTooShort}
+use Rattle.semantics.specs.declared.Refusal.the-variants.{WrongPick, WrongOwner, NoTransaction, EndNotAllowed, NoMoreIds, TooManyEntries}
+use Rattle.semantics.specs.declared.Refusal.the-variants.{LogSizes, BeginEmits, TransactionOpen, SerialTooManyEntries}
 use Rattle.semantics.specs.declared.Verdict.{Verdict}
 use Rattle.semantics.specs.declared.Verdict.the-variants.{Allowed, Denied}
 use Rattle.semantics.specs.declared.Outcome.{Outcome}

@@ -9,7 +9,9 @@ use Rattle.semantics.specs.Move.{moveOk, moveOf, reacted, allowed, appli
 use Rattle.semantics.specs.Move as Move
 use Rattle.semantics.specs.Log.{logSizesOk, logWords, run}
 use Rattle.semantics.specs.Serial.{after, acts, again, replayed, serial, along, serialFits}
-use Rattle.semantics.specs.Answers.{tableVerdict, stateOwnVerdict, stateVerdict, checkTable, checkState, moveResult, makeMove, makeMoveTarget, logVerdict, runResult, runLog, runLogTarget, serialOf, serialFitsOf, serialResult, serialize, serializeTarget}
+use Rattle.semantics.specs.Answers.{tableVerdict, stateOwnVerdict, stateVerdict, checkTable, checkState, moveResult, makeMove, makeMoveTarget}
+use Rattle.semantics.specs.Answers.{logVerdict, runResult, runLog, runLogTarget, serialOf, serialFitsOf, serialResult, serialize}
+use Rattle.semantics.specs.Answers.{serializeTarget}
 use Rattle.semantics.specs.declared.Answer.{Answer}
 
 -- two global ports, a local and a merge port, four rules of twelve atoms
@@ -128,5 +130,8 @@ cases =
     ∷ []
 
 pub cases-hold : map (λ c. found (c .call)) cases ≡ map (λ c. c .stated) cases
-unfolding twoLot start logA logC logD serialD cases found tableSizesOk numbersOk atomOk ruleOk rulesOk tableContentsOk ruleOf tableOf stateOf stateWords stateSizesOk entryOk entriesOk moveOk moveOf reacted Move.ended allowed applied step stepWords logSizesOk logWords run after acts again replayed serial along serialFits tableVerdict stateOwnVerdict stateVerdict checkTable checkState moveResult makeMove makeMoveTarget logVerdict runResult runLog runLogTarget serialOf serialFitsOf serialResult serialize serializeTarget
+unfolding twoLot start logA logC logD serialD cases found tableSizesOk numbersOk atomOk ruleOk rulesOk tableContentsOk ruleOf tableOf stateOf
+    stateWords stateSizesOk entryOk entriesOk moveOk moveOf reacted Move.ended allowed applied step stepWords logSizesOk logWords run after acts
+    again replayed serial along serialFits tableVerdict stateOwnVerdict stateVerdict checkTable checkState moveResult makeMove makeMoveTarget
+    logVerdict runResult runLog runLogTarget serialOf serialFitsOf serialResult serialize serializeTarget
 cases-hold = refl

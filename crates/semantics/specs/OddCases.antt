@@ -9,7 +9,8 @@ use Rattle.semantics.specs.Move.{moveOk, moveOf, reacted, allowed, appli
 use Rattle.semantics.specs.Move as Move
 use Rattle.semantics.specs.Log.{logSizesOk, logWords, run}
 use Rattle.semantics.specs.Serial.{after, acts, again, replayed, serial, along, serialFits}
-use Rattle.semantics.specs.Answers.{tableVerdict, stateOwnVerdict, stateVerdict, checkTable, checkState, moveResult, makeMove, logVerdict, runResult, runLog, serialOf, serialFitsOf, serialResult, serialize}
+use Rattle.semantics.specs.Answers.{tableVerdict, stateOwnVerdict, stateVerdict, checkTable, checkState, moveResult, makeMove, logVerdict}
+use Rattle.semantics.specs.Answers.{runResult, runLog, serialOf, serialFitsOf, serialResult, serialize}
 use Rattle.semantics.specs.Cases.{twoLot, start, rule1, rule2, release, callOff, logOf}
 
 pub record Odd : Type 0 where
@@ -155,9 +156,13 @@ pub givingTable : List ℕ
 givingTable = 1 ∷ 0 ∷ 0 ∷ 1 ∷ 3 ∷ 0 ∷ 0 ∷ 0 ∷ 0 ∷ 0x10000000 ∷ 0x20000000 ∷ []
 
 pub odd-hold : map (λ c. c .found) odd ≡ map (λ c. c .stated) odd
-unfolding twoLot start odd tableSizesOk numbersOk atomOk ruleOk rulesOk tableContentsOk ruleOf tableOf stateOf stateWords stateSizesOk entryOk entriesOk moveOk moveOf reacted Move.ended allowed applied step stepWords logSizesOk logWords run after acts again replayed serial along serialFits tableVerdict stateOwnVerdict stateVerdict checkTable checkState moveResult makeMove logVerdict runResult runLog serialOf serialFitsOf serialResult serialize
+unfolding twoLot start odd tableSizesOk numbersOk atomOk ruleOk rulesOk tableContentsOk ruleOf tableOf stateOf stateWords stateSizesOk entryOk
+    entriesOk moveOk moveOf reacted Move.ended allowed applied step stepWords logSizesOk logWords run after acts again replayed serial along
+    serialFits tableVerdict stateOwnVerdict stateVerdict checkTable checkState moveResult makeMove logVerdict runResult runLog serialOf
+    serialFitsOf serialResult serialize
 odd-hold = refl
 
 pub giving : serialize givingTable (1 ∷ 1 ∷ 0 ∷ 0 ∷ []) (0 ∷ []) (0 ∷ []) .number ≡ 14
-unfolding givingTable tableSizesOk numbersOk atomOk ruleOk rulesOk tableContentsOk ruleOf tableOf stateOf stateSizesOk entryOk entriesOk logSizesOk run tableVerdict stateOwnVerdict stateVerdict logVerdict serialResult serialize
+unfolding givingTable tableSizesOk numbersOk atomOk ruleOk rulesOk tableContentsOk ruleOf tableOf stateOf stateSizesOk entryOk entriesOk logSizesOk
+    run tableVerdict stateOwnVerdict stateVerdict logVerdict serialResult serialize
 giving = refl

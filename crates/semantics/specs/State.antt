@@ -62,7 +62,8 @@ abbrev pub itemsOf : List ℕ → List ℕ
 itemsOf s = drop (2 + entryCount s) s
 
 abbrev pub entryOf : ℕ → ℕ → ℕ → Entry
-entryOf place owner item = record { origin = record { maker = 0; index = place }; owner = owner; kind = itemKind item; port = portOf item; value = valueOf item }
+entryOf place owner item =
+    record { origin = record { maker = 0; index = place }; owner = owner; kind = itemKind item; port = portOf item; value = valueOf item }
 
 -- entries from the two columns; the first has the given place
 abbrev pub entriesOf : ℕ → List ℕ → List ℕ → List Entry

@@ -19,8 +19,8 @@ use Rattle.semantics.specs.declared.Verdict.{Verdict}
 use Rattle.semantics.specs.declared.Verdict.the-variants.{Allowed, Denied}
 use Rattle.wellformed.specs.Tables.{length-rules}
 use Rattle.wellformed.specs.Length.{length-commit, length-abort}
-use Rattle.table.specs.declared.decode.Rule.{Rule}
-use Rattle.table.specs.Decode.{Decodes}
+use Rattle.rules.specs.declared.decode.Rule.{Rule}
+use Rattle.rules.specs.Decode.{Decodes}
 use Rattle.reaction.specs.Decoded.{ruleIn, rule-in}
 use Rattle.reaction.specs.Verdict.{reactVerdict, react-verdict-is}
 use Rattle.ending.specs.End.{endVerdict}

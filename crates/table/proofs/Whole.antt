@@ -14,12 +14,12 @@ use Rattle.semantics.specs.Answers.{tableVerdict}
 use Rattle.semantics.specs.declared.Refusal.the-variants.{TableSizes, TableContents}
 use Rattle.semantics.specs.declared.Sizes.{Sizes}
 use Rattle.semantics.specs.declared.Verdict.the-variants.{Denied}
-use Rattle.table.specs.Index.{Starts, Indexed, Cut, cut, starts-within, starts-cut}
+use Rattle.table.specs.Index.{Starts, IndexMade, Cut, cut, starts-within, starts-cut}
 use Rattle.table.specs.Check.{CheckedAs}
 
 -- an answer and an index of a table's rules, right where the test holds
 abbrev pub IndexOf : List ℕ → Bool → Bool → List ℕ → Type 0
-IndexOf t test b starts = Indexed test (numbersOf t) (sizesOf t .rules) b starts
+IndexOf t test b starts = IndexMade test (numbersOf t) (sizesOf t .rules) b starts
 
 -- the code's sizes, numbers and words are the table's; b and the index are what the pass over the numbers answers and leaves
 module _
@@ -31,7 +31,7 @@ module _
     {starts : List ℕ}
     (ez : z ≡ sizesOf t)
     (en : ns ≡ numbersOf t)
-    (h : Indexed (numbersOk (z .rules) ns) ns (z .rules) b starts)
+    (h : IndexMade (numbersOk (z .rules) ns) ns (z .rules) b starts)
   where
     first : IndexOf t (numbersOk (sizesOf t .rules) (numbersOf t)) b starts
     first = rw (en, ez) at h
