@@ -26,7 +26,7 @@ returns-3 c =
 begins-emit-requires : tie.Need-begins-emit-requires
 begins-emit-requires c κs =
     let ok = (sym (c .before .before .before .before .before .before .before .before .ready .ensures .verdict) ∙ c .before .before .before .before .before .before .enum-told .given .1) in
-    (state-given _ _ ok .0, c .before .before .before .before .before .before .before .before .ready .ensures .starts ok)
+    (state-given _ _ ok .0, c .before .before .before .before .before .before .before .before .ready .ensures .ready ok .starts)
 
 returns-4 : tie.Need-returns-4
 returns-4 c =
@@ -51,7 +51,7 @@ serialize-log-requires c κs =
     let ok = (sym (c .before .before .before .before .before .before .before .before .before .before .before .before .before .before .ready .ensures .verdict) ∙ c .before .before .before .before .before .before .before .before .before .before .before .before .enum-told .given .1) in
     let sizes = (sym (c .before .before .before .before .before .before .before .before .before .before .before .sizes-ok .ensures) ∙ not-false _ (c .before .before .before .before .before .before .before .before .before .before .if1 .left)) in
     let room : 1 + 5 * moveCount (a .log .now) ≤ length (a .target .now) = omega (arith, c .before .before .before .before .before .before .before .before .before .count-of .ensures .0, c .before .before .before .before .before .before .before .before .if2 .left) in
-    record { state = ok; starts = c .before .before .before .before .before .before .before .before .before .before .before .before .before .before .ready .ensures .starts ok; sizes = sizes; room = room; quiet = (sym (c .before .before .before .before .before .begins-emit .ensures) ∙ c .before .before .before .before .if3 .left); closed = (sym (c .before .before .before .open-in .ensures) ∙ c .before .before .if4 .left) }
+    record { state = ok; starts = c .before .before .before .before .before .before .before .before .before .before .before .before .before .before .ready .ensures .ready ok .starts; sizes = sizes; room = room; quiet = (sym (c .before .before .before .before .before .begins-emit .ensures) ∙ c .before .before .before .before .if3 .left); closed = (sym (c .before .before .before .open-in .ensures) ∙ c .before .before .if4 .left) }
 
 returns-6 : tie.Need-returns-6
 returns-6 c =
