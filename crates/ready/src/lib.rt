@@ -13,6 +13,6 @@ pub fn ready(table: &[u32], state: &[u32]) -> Checked
         return checked;
     }
     let starts = checked.starts;
-    let verdict = state::check(table::sizes_of(table), state);
+    let verdict = state_check::check(table::sizes_of(table), state);
     Checked { verdict, starts }
 }

@@ -1,14 +1,12 @@
-// The state: its check on words, and the working state that a step changes.
-mod entries;
+// The state: the parts of its words, and the working state that a step changes.
 mod owners;
 mod parts;
 
 pub use owners::any_open;
 pub use parts::entry_count;
+pub use parts::items_of;
 pub use parts::owners_of;
-use semantics::Refusal;
-use semantics::Sizes;
-use semantics::Verdict;
+pub use parts::sizes_ok;
 use words::copy::copy_words;
 use words::copy::copy_words_at;
 ghost use Prim.Native.Nat.{ℕ, _+_, _*_, _≤_};
@@ -18,7 +16,6 @@ ghost use mathlib.Core.List.{List, []};
 ghost use lib.ListN.{length};
 ghost use Rattle.lists.specs.Filled.{Filled};
 ghost use Rattle.semantics.specs.State.{stateSizesOk, stateOf};
-ghost use Rattle.semantics.specs.Answers.{stateOwnVerdict};
 ghost use Rattle.state.specs.Working.{Holds, Stored, held};
 ghost use Rattle.state.specs.Arrays.{Arrays, HoldsIn};
 
@@ -51,19 +48,6 @@ impl State {
             next: 1,
         }
     }
-}
-
-// A state by itself, under a table of these sizes.
-pub fn check(z: Sizes, state: &[u32]) -> Verdict
-    ensures { λ r. ⌜ r ≡ stateOwnVerdict z (now (state .entry)) ⌝ }
-{
-    if !parts::sizes_ok(state) {
-        return Verdict::Denied(Refusal::StateSizes);
-    }
-    if !entries::entries_ok(z, state) {
-        return Verdict::Denied(Refusal::StateContents);
-    }
-    Verdict::Allowed
 }
 
 // How many entries were loaded, and N.

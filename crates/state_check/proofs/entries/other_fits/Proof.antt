@@ -1,8 +1,8 @@
 -- `other_fits` meets its contract: the code is the definition.
 use borrow.Author.Needs.{needs}
-use Rattle.state.specs.Check.{otherFits}
-use Rattle.state.proofs.entries.other_fits.Statement.{statement}
-use Rattle.state.proofs.entries.other_fits.Tie as tie
+use Rattle.state_check.specs.Check.{otherFits}
+use Rattle.state_check.proofs.entries.other_fits.Statement.{statement}
+use Rattle.state_check.proofs.entries.other_fits.Tie as tie
 
 returns : tie.Need-returns
 unfolding otherFits

@@ -6,17 +6,10 @@ use mathlib.Core.List.{List}
 use lib.Dec.{eqb, leb, ltb}
 use lib.ListN.{length}
 use Rattle.lists.specs.Lists.{all, any, distinct}
-use Rattle.semantics.specs.State.{Entry, isMessage, isCompensation, isAbortMark, isMemberMark, isOwnMark, owned, markValues, entryOk, entryCount}
+use Rattle.semantics.specs.State.{Entry, isMessage, isCompensation, isAbortMark, isMemberMark, isOwnMark, owned, markValues, entryOk}
 use Rattle.semantics.specs.Table.{portCount}
-use Rattle.wellformed.specs.States.{StateSized}
 use Rattle.semantics.specs.declared.Sizes.{Sizes}
 use Rattle.idset.specs.IdSet.{has}
-
--- a slice that is a column of a state whose sizes are in order
-pub record Column (xs column state : List ℕ) : Type 0 where
-  pub value : xs ≡ column
-  pub size : length xs ≡ entryCount state
-  pub sizes : StateSized state
 
 -- ---- one entry by itself, by its kind
 

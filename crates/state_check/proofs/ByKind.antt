@@ -10,7 +10,7 @@ use Rattle.lists.specs.Choices.{and-three, and-left}
 use Rattle.semantics.specs.Table.{portCount}
 use Rattle.semantics.specs.State.{Entry, isMemberMark, entryOk}
 use Rattle.semantics.specs.declared.Sizes.{Sizes}
-use Rattle.state.specs.Check.{messageFits, otherFits, markFits}
+use Rattle.state_check.specs.Check.{messageFits, otherFits, markFits}
 
 -- ---- the parts of `entryOk`, by kind
 

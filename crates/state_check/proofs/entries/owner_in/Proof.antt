@@ -2,8 +2,8 @@
 use mathlib.Core.Path.{sym}
 use borrow.Author.Needs.{needs}
 use Rattle.idset.specs.IdSet.{beyond}
-use Rattle.state.proofs.entries.owner_in.Statement.{statement}
-use Rattle.state.proofs.entries.owner_in.Tie as tie
+use Rattle.state_check.proofs.entries.owner_in.Statement.{statement}
+use Rattle.state_check.proofs.entries.owner_in.Tie as tie
 
 returns : tie.Need-returns
 returns c = sym (beyond _ _ (c .before .pre) (c .if1 .taken))

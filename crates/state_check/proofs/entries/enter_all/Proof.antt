@@ -10,9 +10,9 @@ use Rattle.lists.specs.Lists.{all, any, distinct}
 use Rattle.lists.specs.Ahead.{Ahead, ahead-start, ahead-here, ahead-next, ahead-done}
 use Rattle.semantics.specs.State.{entryOk, entriesOf, markValues, isOwnMark}
 use Rattle.wellformed.specs.States.{entriesFrom, entries-tails}
-use Rattle.state.proofs.Marks.{fine, fine-all, fine-none, fine-fails, fine-next, owns, owns-start, owns-none, owns-next}
-use Rattle.state.proofs.entries.enter_all.Statement.{statement}
-use Rattle.state.proofs.entries.enter_all.Tie as tie
+use Rattle.state_check.proofs.Marks.{fine, fine-all, fine-none, fine-fails, fine-next, owns, owns-start, owns-none, owns-next}
+use Rattle.state_check.proofs.entries.enter_all.Statement.{statement}
+use Rattle.state_check.proofs.entries.enter_all.Tie as tie
 
 abbrev Inv : tie.InvT-loop
 Inv z next owners items own₀ met₀ i₀ own met i =

@@ -3,9 +3,9 @@ use mathlib.Core.Path.{sym, ap, _∙_}
 use mathlib.Core.Bool.{not}
 use borrow.Author.Needs.{needs}
 use borrow.Author.Tests.{eq-eqb, not-true, not-false}
-use Rattle.state.proofs.Marks.{entering, unfit, not-new, entered-mark, entered-own, new-mark}
-use Rattle.state.proofs.entries.enter_mark.Statement.{statement}
-use Rattle.state.proofs.entries.enter_mark.Tie as tie
+use Rattle.state_check.proofs.Marks.{entering, unfit, not-new, entered-mark, entered-own, new-mark}
+use Rattle.state_check.proofs.entries.enter_mark.Statement.{statement}
+use Rattle.state_check.proofs.entries.enter_mark.Tie as tie
 
 returns : tie.Need-returns
 returns c = λ place. unfit (sym (c .before .mark-fits .ensures place) ∙ not-true _ (c .if1 .taken))

@@ -3,8 +3,8 @@ use mathlib.Core.Path.{sym, _∙_}
 use borrow.Author.Needs.{needs}
 use borrow.Author.Tests.{not-true, not-false}
 use Rattle.semantics.specs.Answers.{stateOwnVerdict}
-use Rattle.state.proofs.check.Statement.{statement}
-use Rattle.state.proofs.check.Tie as tie
+use Rattle.state_check.proofs.check.Statement.{statement}
+use Rattle.state_check.proofs.check.Tie as tie
 
 returns : tie.Need-returns
 unfolding stateOwnVerdict

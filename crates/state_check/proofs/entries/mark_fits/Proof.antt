@@ -1,8 +1,8 @@
 -- `mark_fits` meets its contract: the code is the definition.
 use borrow.Author.Needs.{needs}
-use Rattle.state.specs.Check.{markFits}
-use Rattle.state.proofs.entries.mark_fits.Statement.{statement}
-use Rattle.state.proofs.entries.mark_fits.Tie as tie
+use Rattle.state_check.specs.Check.{markFits}
+use Rattle.state_check.proofs.entries.mark_fits.Statement.{statement}
+use Rattle.state_check.proofs.entries.mark_fits.Tie as tie
 
 returns : tie.Need-returns
 unfolding markFits

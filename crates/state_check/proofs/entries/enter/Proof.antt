@@ -2,9 +2,9 @@
 use mathlib.Core.Path.{sym, _∙_}
 use borrow.Author.Needs.{needs}
 use borrow.Author.Tests.{eq-eqb, ne-eqb}
-use Rattle.state.proofs.Marks.{enter-message, enter-mark, enter-other}
-use Rattle.state.proofs.entries.enter.Statement.{statement}
-use Rattle.state.proofs.entries.enter.Tie as tie
+use Rattle.state_check.proofs.Marks.{enter-message, enter-mark, enter-other}
+use Rattle.state_check.proofs.entries.enter.Statement.{statement}
+use Rattle.state_check.proofs.entries.enter.Tie as tie
 
 returns : tie.Need-returns
 returns c = λ place. enter-message _ _ _ (sym (c .before .message-fits .ensures place) ∙ c .if1 .taken) (c .before .before .pre .0) (c .before .before .pre .1)

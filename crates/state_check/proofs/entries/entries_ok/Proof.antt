@@ -2,9 +2,9 @@
 use mathlib.Core.Path.{_∙_}
 use borrow.Author.Needs.{needs}
 use borrow.Author.Tests.{not-true, not-false}
-use Rattle.state.proofs.Marks.{none-own, first-fails, second-decides}
-use Rattle.state.proofs.entries.entries_ok.Statement.{statement}
-use Rattle.state.proofs.entries.entries_ok.Tie as tie
+use Rattle.state_check.proofs.Marks.{none-own, first-fails, second-decides}
+use Rattle.state_check.proofs.entries.entries_ok.Statement.{statement}
+use Rattle.state_check.proofs.entries.entries_ok.Tie as tie
 
 enter-all-requires : tie.Need-enter-all-requires
 enter-all-requires c κs = (search needs, none-own (c .before .before .insert .ensures))

@@ -1,9 +1,9 @@
 -- `message_fits` meets its contract: the owner chooses the ports.
 use borrow.Author.Needs.{needs}
 use borrow.Author.Tests.{eq-eqb, ne-eqb}
-use Rattle.state.specs.Check.{messageFits}
-use Rattle.state.proofs.entries.message_fits.Statement.{statement}
-use Rattle.state.proofs.entries.message_fits.Tie as tie
+use Rattle.state_check.specs.Check.{messageFits}
+use Rattle.state_check.proofs.entries.message_fits.Statement.{statement}
+use Rattle.state_check.proofs.entries.message_fits.Tie as tie
 
 returns : tie.Need-returns
 unfolding messageFits

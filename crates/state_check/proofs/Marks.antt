@@ -15,8 +15,9 @@ use Rattle.semantics.specs.State.{Entry, isMessage, isMemberMark, isOwnMark, ma
 use Rattle.wellformed.specs.States.{all-owners}
 use Rattle.semantics.specs.declared.Sizes.{Sizes}
 use Rattle.idset.specs.IdSet.{has, Inserted, empty}
-use Rattle.state.specs.Check.{messageFits, otherFits, markFits, newMark, Entered, Entering, OwnMarks, AllEntered, Column}
-use Rattle.state.proofs.ByKind.{by-kind}
+use Rattle.state_check.specs.Check.{messageFits, otherFits, markFits, newMark, Entered, Entering, OwnMarks, AllEntered}
+use Rattle.state.specs.Parts.{Column}
+use Rattle.state_check.proofs.ByKind.{by-kind}
 
 -- ---- an entry entered
 

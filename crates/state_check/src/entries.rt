@@ -1,6 +1,7 @@
 // The faults that a state's entries can have (4): each entry by itself, its member marks, its owners.
-use super::parts;
 use semantics::Sizes;
+use state::items_of;
+use state::owners_of;
 use words::item::ABORT_MARK;
 use words::item::COMPENSATION;
 use words::item::MEMBER_MARK;
@@ -17,15 +18,15 @@ ghost use Rattle.lists.specs.Lists.{all};
 ghost use Rattle.idset.specs.IdSet.{has};
 ghost use Rattle.semantics.specs.Words.{itemKind};
 ghost use Rattle.semantics.specs.State.{entryOk, entryOf, entriesOf, entriesOk, stateSizesOk, stateOf};
-ghost use Rattle.state.specs.Check.{messageFits, otherFits, markFits, Entering, AllEntered, OwnMarks};
+ghost use Rattle.state_check.specs.Check.{messageFits, otherFits, markFits, Entering, AllEntered, OwnMarks};
 
 // Each of a state's entries, their member marks and their owners.
 pub fn entries_ok(z: Sizes, state: &[u32]) -> bool
     requires { ⌜ stateSizesOk (now state) ≡ true ⌝ }
     ensures { λ r. ⌜ r ≡ entriesOk z (stateOf (now (state .entry))) ⌝ }
 {
-    let owners = parts::owners_of(state);
-    let items = parts::items_of(state);
+    let owners = owners_of(state);
+    let items = items_of(state);
     // Owner 0 needs no mark.
     let mut own = [0u64; idset::WORDS];
     idset::insert(&mut own, 0);

@@ -7,8 +7,8 @@ use lib.ListN.{length, drop}
 use Rattle.lists.specs.Lists.{all}
 use Rattle.lists.specs.Ahead.{Ahead, slice-tails, ahead-start, ahead-done, each-fails, each-next}
 use Rattle.idset.specs.IdSet.{has}
-use Rattle.state.proofs.entries.owners_in.Statement.{statement}
-use Rattle.state.proofs.entries.owners_in.Tie as tie
+use Rattle.state_check.proofs.entries.owners_in.Statement.{statement}
+use Rattle.state_check.proofs.entries.owners_in.Tie as tie
 
 abbrev Inv : tie.InvT-loop
 Inv own owners i₀ i = (length own ≡ 1024) × Ahead (λ k. drop k owners) (length owners) (all (has own)) i (all (has own) owners)
