@@ -35,11 +35,11 @@ use Rattle.serial_laws.specs.ByKey.{arranged-below}
 use Rattle.serial_laws.specs.Facts.{actsIn, orderIn, SerialFacts, serial-facts}
 use Rattle.serial.specs.Serialized.{Sortable, SortedAs, Reorderable, ReorderedAs, WrittenAs}
 
-cond-true : {A : Type 0} {x y : A} (b : Bool) → b ≡ true → cond b x y ≡ x
-cond-true b h = rw h
+cond-true : {A : Type 0} (x y : A) {b : Bool} → b ≡ true → cond b x y ≡ x
+cond-true x y h = rw h
 
-cond-false : {A : Type 0} {x y : A} (b : Bool) → b ≡ false → cond b x y ≡ y
-cond-false b h = rw h
+cond-false : {A : Type 0} (x y : A) {b : Bool} → b ≡ false → cond b x y ≡ y
+cond-false x y h = rw h
 
 zeros-getD : (n p : ℕ) → _≡_ {A = ℕ} (getD (replicate n 0) p 0) 0
 zeros-getD zero p = refl
@@ -193,10 +193,12 @@ module _ (t index s l origins members ends target : List ℕ) (k : Reorderable t
             (omega arith, omega arith, omega arith)
 
         pub reordered-as : {after : List ℕ} {a : Outcome} → WrittenAs fits n out target after a → ReorderedAs t s l target after a
-        reordered-as {after} {a} w = by-bool fits
-            (λ h. subst (ReorderedAs t s l target after) (sym (w .outcome ∙ cond-true fits h))
-            (written fits fits-are h before out after (1 + 5 * n) (omega arith) (out-is h) (w .target ∙ cond-true fits h)))
-            (λ h. record {
-              outcome = w .outcome ∙ cond-false fits h ∙ outgrown fits fits-are h .outcome;
-              target = w .target ∙ cond-false fits h ∙ outgrown fits fits-are h .target;
-            })
+        reordered-as {after} {a} w =
+            let done-by : Outcome = Written (1 + 5 * n) in
+            let full : Outcome = Refused SerialTooManyEntries in
+            let words = over (take (1 + 5 * n) out) target in
+            by-bool fits
+            (λ h. subst (ReorderedAs t s l target after) (sym (w .outcome ∙ cond-true done-by full h))
+            (written fits fits-are h before out after (1 + 5 * n) (omega arith) (out-is h) (w .target ∙ cond-true words target h)))
+            (λ h. subst (ReorderedAs t s l target after) (sym (w .outcome ∙ cond-false done-by full h))
+            (subst (λ (z : List ℕ). ReorderedAs t s l target z full) (sym (w .target ∙ cond-false words target h)) (outgrown fits fits-are h)))

@@ -7,37 +7,42 @@ use Rattle.serial.proofs.reordered.Statement.{statement}
 use Rattle.serial.proofs.reordered.Tie as tie
 
 order-log-requires : tie.Need-order-log-requires
-order-log-requires c κs = (sortable _ _ _ _ _ _ _ _ (c .before .before .before .before .before .before .before .before .pre .0), length-replicate {A = ℕ} 1024 0)
+order-log-requires c κs = (sortable _ _ _ _ _ _ _ _ (c .before .before .before .before .before .before .before .pre .0), length-replicate {A = ℕ} 1024 0)
 
 load-requires : tie.Need-load-requires
 load-requires c κs =
-    let p = c .before .before .before .before .before .before .before .before .before .before .before .before .pre in
+    let p = c .before .before .before .before .before .before .before .before .before .before .before .pre in
     (state-given _ _ (p .0 .begun .state) .1, p .1)
 
 replay-requires : tie.Need-replay-requires
 replay-requires c κs =
     let loaded = c .before .before .before .before .before in
     let ordered = loaded .before .before .before .before in
-    let p = ordered .before .before .before .before .before .before .before .before .before .pre in
+    let p = ordered .before .before .before .before .before .before .before .before .pre in
     replay-asked _ _ _ _ _ _ _ _ (p .0) (ordered .order-log .ensures) (loaded .load .ensures) (p .2)
 
 written-requires : tie.Need-written-requires
 written-requires c κs =
-    let replayed = c .before .before .before .before in
-    let loaded = replayed .before .before .before .before .before .before in
-    let ordered = loaded .before .before .before .before in
-    let p = ordered .before .before .before .before .before .before .before .before .before .pre in
-    written-asked _ _ _ _ _ _ _ _ (p .0) (ordered .order-log .ensures) (loaded .load .ensures) (replayed .replay .ensures) (c .before .count-of .ensures .0) (p .2)
-
-returns : tie.Need-returns
-returns c =
-    let counted = c .before .before .before .before in
+    let counted = c .before .before in
     let replayed = counted .before .before .before in
     let loaded = replayed .before .before .before .before .before .before in
     let ordered = loaded .before .before .before .before in
-    let p = ordered .before .before .before .before .before .before .before .before .before .pre in
-    reordered-as _ _ _ _ _ _ _ _ (p .0) (ordered .order-log .ensures) (loaded .load .ensures) (replayed .replay .ensures) (counted .count-of .ensures .0)
-    (c .before .before .written .ensures)
+    let p = ordered .before .before .before .before .before .before .before .before .pre in
+    written-asked _ _ _ _ _ _ _ _ (p .0) (ordered .order-log .ensures) (loaded .load .ensures) (replayed .replay .ensures)
+    (counted .count-of .ensures .0) (p .2)
+
+returns : tie.Need-returns
+returns c =
+    let counted = c .before .before .before .before .before in
+    let replayed = counted .before .before .before in
+    let loaded = replayed .before .before .before .before .before .before in
+    let ordered = loaded .before .before .before .before in
+    let p = ordered .before .before .before .before .before .before .before .before .pre in
+    reordered-as _ _ _ _ _ _ _ _ (p .0) (ordered .order-log .ensures) (loaded .load .ensures) (replayed .replay .ensures)
+    (counted .count-of .ensures .0) (c .before .before .written .ensures)
 
 pub reordered-spec : {M : Type 1} → statement M
-reordered-spec = tie.close (tie.spec order-log-requires load-requires replay-requires (λ c κs. search needs) written-requires returns)
+reordered-spec =
+    tie.close
+    (tie.spec order-log-requires load-requires replay-requires (λ c κs. search needs) written-requires (λ c. search needs) (λ c. search needs)
+    returns)

@@ -1,10 +1,7 @@
-use mathlib.Core.Bool.{Bool}
-use mathlib.Core.Path.{_≡_, refl, sym, _∙_}
+use mathlib.Core.Path.{refl}
 use native.Mathlib.Omega.{arith}
 use borrow.Author.Needs.{needs}
-use Rattle.semantics.specs.Serial.{anyOpen}
 use Rattle.wellformed.specs.States.{state-given}
-use Rattle.state.specs.Owners.{open-held}
 use Rattle.serial.proofs.FirstPass.{recordable, record-room, ran-refused, ran-open, ran-closed, reorder-asked}
 use Rattle.serial.proofs.serialized.Statement.{statement}
 use Rattle.serial.proofs.serialized.Tie as tie
@@ -35,21 +32,20 @@ returns-2 c =
     let ran = c .before .before .before .before .before .before .before in
     let loaded = ran .before .before .before .before .before .before .before .before in
     let p = loaded .before .before .before .before .before .before .before .before .before .before .before .before .before .before .pre in
-    let w = ran .«record» .ensures .0 .ran .workable in
-    let is-open = sym (open-held _ _ _ _ _ (omega (arith, w .bounds .fits, w .arrays .owners))) ∙ sym (c .before .any-open .ensures) ∙ c .if1 .taken in
-    ran-open _ _ _ _ _ (p .0) (loaded .load .ensures) (ran .«record» .ensures .0) (c .before .before .before .enum-told .given .1) is-open
+    ran-open _ _ _ _ _ (p .0) (loaded .load .ensures) (ran .«record» .ensures .0) (c .before .before .before .enum-told .given .1)
+    (c .before .any-open .ensures) (c .if1 .taken)
 
 reordered-requires : tie.Need-reordered-requires
 reordered-requires c κs =
     let tested = c .before .before .before .before .before .before .before .before in
     let ran = tested .before .before .before .before .before .before .before in
     let loaded = ran .before .before .before .before .before .before .before .before in
-    let p = loaded .before .before .before .before .before .before .before .before .before .before .before .before .before .before .pre in
-    let w = ran .«record» .ensures .0 .ran .workable in
-    let shut = sym (open-held _ _ _ _ _ (omega (arith, w .bounds .fits, w .arrays .owners))) ∙ sym (tested .before .any-open .ensures) ∙ tested .if1 .left in
-    let allowed = tested .before .before .before .enum-told .given .1 in
-    let asked = reorder-asked _ _ _ _ _ (p .0) (loaded .load .ensures) (ran .«record» .ensures .0) allowed shut refl (ran .«record» .ensures .1) in
-    (asked, w .arrays, p .1 .words)
+    let p = loaded .before .before .before .before .before .before .before .before .before .before .before .before .before .before .pre in (
+      reorder-asked _ _ _ _ _ (p .0) (loaded .load .ensures) (ran .«record» .ensures .0) (tested .before .before .before .enum-told .given .1)
+          (tested .before .any-open .ensures) (tested .if1 .left) refl (ran .«record» .ensures .1),
+      ran .«record» .ensures .0 .ran .workable .arrays,
+      p .1 .words,
+    )
 
 returns-3 : tie.Need-returns-3
 returns-3 c =
@@ -57,10 +53,8 @@ returns-3 c =
     let ran = tested .before .before .before .before .before .before .before in
     let loaded = ran .before .before .before .before .before .before .before .before in
     let p = loaded .before .before .before .before .before .before .before .before .before .before .before .before .before .before .pre in
-    let w = ran .«record» .ensures .0 .ran .workable in
-    let shut = sym (open-held _ _ _ _ _ (omega (arith, w .bounds .fits, w .arrays .owners))) ∙ sym (tested .before .any-open .ensures) ∙ tested .if1 .left in
-    let allowed = tested .before .before .before .enum-told .given .1 in
-    ran-closed _ _ _ _ _ (p .0) (loaded .load .ensures) (ran .«record» .ensures .0) allowed shut (c .before .before .before .before .reordered .ensures)
+    ran-closed _ _ _ _ _ (p .0) (loaded .load .ensures) (ran .«record» .ensures .0) (tested .before .before .before .enum-told .given .1)
+    (tested .before .any-open .ensures) (tested .if1 .left) (c .before .before .before .before .reordered .ensures)
 
 pub serialized-spec : {M : Type 1} → statement M
 serialized-spec =
