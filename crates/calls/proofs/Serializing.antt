@@ -55,7 +55,8 @@ module _ (t s l before : List ℕ) where
         serial-emits e =
             denied-gives _ _ before BeginEmits
             (both-second (logVerdict t s l) _ _ log-ok (both-second (hasWords (1 + 5 * moveCount l) before) _ _ room-ok
-            (both-first (unless (not (beginsEmit (tableOf t))) BeginEmits) _ _ (unless-false (not (beginsEmit (tableOf t))) BeginEmits (not-is (beginsEmit (tableOf t)) e)))))
+            (both-first (unless (not (beginsEmit (tableOf t))) BeginEmits) _ _
+            (unless-false (not (beginsEmit (tableOf t))) BeginEmits (not-is (beginsEmit (tableOf t)) e)))))
 
         module _ (quiet : beginsEmit (tableOf t) ≡ false) where
           quiet-ok : unless (not (beginsEmit (tableOf t))) BeginEmits ≡ Allowed
@@ -66,12 +67,14 @@ module _ (t s l before : List ℕ) where
           serial-open e =
               denied-gives _ _ before TransactionOpen
               (both-second (logVerdict t s l) _ _ log-ok (both-second (hasWords (1 + 5 * moveCount l) before) _ _ room-ok
-              (both-second (unless (not (beginsEmit (tableOf t))) BeginEmits) _ _ quiet-ok (unless-false (not (anyOpen (stateOf s))) TransactionOpen (not-is (anyOpen (stateOf s)) e)))))
+              (both-second (unless (not (beginsEmit (tableOf t))) BeginEmits) _ _ quiet-ok
+              (unless-false (not (anyOpen (stateOf s))) TransactionOpen (not-is (anyOpen (stateOf s)) e)))))
 
           pub serial-done : anyOpen (stateOf s) ≡ false → {after : List ℕ} {o : Outcome} → SerializedAs t s l before after o → SerialAs t s l before after o
           unfolding serialize serializeTarget serialResult
           serial-done e f =
               allowed-gives _ (afterRun t s l) before _ _
               (both-second (logVerdict t s l) _ _ log-ok (both-second (hasWords (1 + 5 * moveCount l) before) _ _ room-ok
-              (both-second (unless (not (beginsEmit (tableOf t))) BeginEmits) _ _ quiet-ok (unless-true (not (anyOpen (stateOf s))) TransactionOpen (not-is (anyOpen (stateOf s)) e)))))
+              (both-second (unless (not (beginsEmit (tableOf t))) BeginEmits) _ _ quiet-ok
+              (unless-true (not (anyOpen (stateOf s))) TransactionOpen (not-is (anyOpen (stateOf s)) e)))))
               (f .outcome) (f .target)

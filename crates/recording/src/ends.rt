@@ -60,7 +60,8 @@ fn note_rows<'a>(
     ended: &mut [u32; 1024],
 )
     requires { ⌜ Lent (now owners) (now items) (now origins) to × (from ≤ to) × (length (now ended) ≡ 1024) ⌝ }
-    ensures { λ _. ⌜ RowsNoted (rowOf (now (owners .entry)) (now (items .entry)) (now (origins .entry))) id place from to (now (ended .entry)) (now (ended .exit)) ⌝ }
+    ensures { λ _. ⌜ RowsNoted (rowOf (now (owners .entry)) (now (items .entry)) (now (origins .entry)))
+        id place from to (now (ended .entry)) (now (ended .exit)) ⌝ }
 {
     let mut i = from;
     while i < to {
@@ -82,7 +83,8 @@ fn note_chunk<'a>(
     ended: &mut [u32; 1024],
 )
     requires { ⌜ Lent (now owners) (now items) (now origins) to × (from ≤ to) × (to ≤ from + 32) × (from + 32 ≤ 1024) × (length (now ended) ≡ 1024) ⌝ }
-    ensures { λ _. ⌜ RowsNoted (rowOf (now (owners .entry)) (now (items .entry)) (now (origins .entry))) id place from to (now (ended .entry)) (now (ended .exit)) ⌝ }
+    ensures { λ _. ⌜ RowsNoted (rowOf (now (owners .entry)) (now (items .entry)) (now (origins .entry)))
+        id place from to (now (ended .entry)) (now (ended .exit)) ⌝ }
 {
     if chunk_has(owners, from, id) {
         note_rows(owners, items, origins, from, to, id, place, ended);
@@ -100,7 +102,8 @@ fn note_ends<'a>(
     ended: &mut [u32; 1024],
 )
     requires { ⌜ Lent (now owners) (now items) (now origins) n × (length (now ended) ≡ 1024) ⌝ }
-    ensures { λ _. ⌜ NotedAt place (marksOf id (rows (rowOf (now (owners .entry)) (now (items .entry)) (now (origins .entry))) 0 n)) (now (ended .entry)) (now (ended .exit)) ⌝ }
+    ensures { λ _. ⌜ NotedAt place (marksOf id (rows (rowOf (now (owners .entry)) (now (items .entry)) (now (origins .entry))) 0 n))
+        (now (ended .entry)) (now (ended .exit)) ⌝ }
 {
     let mut i = 0;
     while i < n {
@@ -121,7 +124,8 @@ pub fn note_if_end<'a>(
     ended: &mut [u32; 1024],
 )
     requires { ⌜ Lent (now owners) (now items) (now origins) n × (place < 1024) × (length (now ended) ≡ 1024) ⌝ }
-    ensures { λ _. ⌜ NotedAt place (marksEnded head (rows (rowOf (now (owners .entry)) (now (items .entry)) (now (origins .entry))) 0 n)) (now (ended .entry)) (now (ended .exit)) ⌝ }
+    ensures { λ _. ⌜ NotedAt place (marksEnded head (rows (rowOf (now (owners .entry)) (now (items .entry)) (now (origins .entry))) 0 n))
+        (now (ended .entry)) (now (ended .exit)) ⌝ }
 {
     if head::kind_of(head) == head::REACT {
         return;

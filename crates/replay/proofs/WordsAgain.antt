@@ -82,7 +82,8 @@ places-same es ws os u le rec used =
     let count : u ≡ length os = omega (arith, length-take-le u (take 4 (qs ++ replicate 4 0)) (omega arith), ap length used, length-map os (placeOf es)) in
     let few : length qs ≤ 4 = omega (arith, length-map os (placeOf es)) in
     let same : map (placeIn es) (take u (take 4 ws)) ≡ qs =
-    ap (map (placeIn es)) (take-take u 4 ws le ∙ ap (λ (n : ℕ). take n ws) count) ∙ sym (map-map (placeOf es) originOf (take (length os) ws)) ∙ ap (map (placeOf es)) (sym rec) in
+    ap (map (placeIn es)) (take-take u 4 ws le ∙ ap (λ (n : ℕ). take n ws) count) ∙ sym (map-map (placeOf es) originOf (take (length os) ws))
+    ∙ ap (map (placeOf es)) (sym rec) in
     ap (padded 4 0) same ∙ padded-cut 4 0 qs few
 
 module _ {t : Table} {l origins members : List ℕ} {c : State} {a : Act} (r : Recorded t l origins members a) (g : ActsAgain t c a) where
@@ -118,7 +119,8 @@ module _ {t : Table} {l origins members : List ℕ} {c : State} {a : Act} (r : R
           let q = rw e at l in
           rw e (omega arith)
 
-  picks-same : picksUsed t was ≤ 4 → padded 4 0 (map (placeIn (c .entries)) (take (picksUsed t was) (take 4 (drop (4 * a .place) origins)))) ≡ fourPicks (again c a (a .move))
+  picks-same : picksUsed t was ≤ 4 → padded 4 0 (map (placeIn (c .entries)) (take (picksUsed t was) (take 4 (drop (4 * a .place) origins)))) ≡ fourPicks
+      (again c a (a .move))
   unfolding moveOf again
   picks-same u = go (eqb (headKind was) 0) refl (eqb (headKind was) 1) (a .move) _ (r .move) (g .words)
     where

@@ -49,7 +49,8 @@ module _ (t index s l target : List ℕ) (k : Tested t index s l target) {x : St
         workable = loaded-workable s (state-given s t (k .state) .1) loaded;
       }
 
-  module _ {v : Verdict} {place : ℕ} {x′ : State} {origins members before ends : List ℕ} (done : RecordedAs v place lineCeiling (tableOf t) l x x′ origins members before ends) where
+  module _ {v : Verdict} {place : ℕ} {x′ : State} {origins members before ends : List ℕ}
+      (done : RecordedAs v place lineCeiling (tableOf t) l x x′ origins members before ends) where
     run-by : {u : Verdict} → v ≡ u → runOf lineCeiling t s l ≡ ranBy u place (stateIn x′)
     run-by e = sym (ran-whole t s l loaded (done .ran)) ∙ rw e
 
@@ -82,7 +83,8 @@ module _ (t index s l target : List ℕ) (k : Tested t index s l target) {x : St
               target = f .target ∙ ap (λ (y : Result). targetAfter y target) (sym result-is);
             }
 
-        pub reorder-asked : before ≡ replicate 1024 0 → {begun : List ℕ} → RecordRoom l origins members ends begun → Reorderable t index s l origins members ends target
+        pub reorder-asked : before ≡ replicate 1024 0 → {begun : List ℕ} → RecordRoom l origins members ends begun
+            → Reorderable t index s l origins members ends target
         reorder-asked zeros room =
             record {
               begun = k;

@@ -111,7 +111,8 @@ module _ (t index s l origins members ends target : List ℕ) (k : Reorderable t
       below : All (λ p. p < moveCount l) (take (moveCount l) order)
       below =
           subst (λ (ps : List ℕ). All (λ p. p < moveCount l) ps) (sym order-is)
-          (subst (λ (n : ℕ). All (λ p. p < n) (arrangedBy (keysBy (actsIn t s l) members))) (facts .keys-count members) (arranged-below (keysBy (actsIn t s l) members)))
+          (subst (λ (n : ℕ). All (λ p. p < n) (arrangedBy (keysBy (actsIn t s l) members))) (facts .keys-count members)
+          (arranged-below (keysBy (actsIn t s l) members)))
 
       -- what the replay asks
       pub order-below : length order ≡ 1024 → (j : ℕ) → j < moveCount l → getD order j 0 < moveCount l
@@ -128,7 +129,8 @@ module _ (t index s l origins members ends target : List ℕ) (k : Reorderable t
       acts-recorded =
           subst (All (Recorded (tableOf t) l origins members)) (sym (facts .order members told))
           (All-at (Recorded (tableOf t) l origins members) noAct (actsIn t s l) (arrangedBy (keysBy (actsIn t s l) members)) (k .recordings .each)
-          (subst (λ (n : ℕ). All (λ p. p < n) (arrangedBy (keysBy (actsIn t s l) members))) (facts .keys-count members ∙ sym (facts .acts-count)) (arranged-below (keysBy (actsIn t s l) members))))
+          (subst (λ (n : ℕ). All (λ p. p < n) (arrangedBy (keysBy (actsIn t s l) members))) (facts .keys-count members ∙ sym (facts .acts-count))
+          (arranged-below (keysBy (actsIn t s l) members))))
 
   words-count : length (logWords (serialOf t s l)) ≡ 1 + 5 * moveCount l
   words-count = demand3 lineCeiling t s l (k .end) (k .begun .state) (k .begun .quiet) (k .begun .closed) (k .begun .sizes) (k .ran) (k .shut) .words
@@ -139,11 +141,13 @@ module _ (t index s l origins members ends target : List ℕ) (k : Reorderable t
         let f : serialFitsOf lineCeiling t s l ≡ false = sym room ∙ e in
         record { outcome = rw f; target = rw f }
 
-    pub written : fits ≡ true → (zeros out after : List ℕ) (n : ℕ) → n ≡ 1 + 5 * moveCount l → out ≡ over (logWords (serialOf t s l)) zeros → after ≡ over (take n out) target
+    pub written : fits ≡ true → (zeros out after : List ℕ) (n : ℕ) → n ≡ 1 + 5 * moveCount l → out ≡ over (logWords (serialOf t s l)) zeros
+        → after ≡ over (take n out) target
         → ReorderedAs t s l target after (Written n)
     written e zeros out after n size o a =
         let f : serialFitsOf lineCeiling t s l ≡ true = sym room ∙ e in
-        let w : take n out ≡ logWords (serialOf t s l) = ap (take n) o ∙ take-at (logWords (serialOf t s l)) (drop (length (logWords (serialOf t s l))) zeros) n (words-count ∙ sym size) in
+        let w : take n out ≡ logWords (serialOf t s l) = ap (take n) o
+        ∙ take-at (logWords (serialOf t s l)) (drop (length (logWords (serialOf t s l))) zeros) n (words-count ∙ sym size) in
         record { outcome = rw f (ap Written (size ∙ sym words-count)); target = rw f (a ∙ ap (λ (x : List ℕ). over x target) w) }
 
   -- ---- what the code hands over

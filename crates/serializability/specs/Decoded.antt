@@ -84,7 +84,8 @@ replayed-known t c (a ∷ xs) h = (again-known t c a (a .move) (h .0), replayed-
 
 -- ---- the theorem
 
-module _ (t : Table) (right : TableRight t) (ne : beginsEmit t ≡ false) (s : State) (S : Start (t .sizes) s) (ms : List Move) (known : All (RuleKnown t) ms) (e : State)
+module _ (t : Table) (right : TableRight t) (ne : beginsEmit t ≡ false) (s : State) (S : Start (t .sizes) s) (ms : List Move) (known : All (RuleKnown t) ms)
+    (e : State)
     (run : Accepted t 0 s ms e) (cl : anyOpen e ≡ false) where
   pub sd : Shaped t
   sd = table-shaped t right ne

@@ -7,7 +7,11 @@ use Rattle.serial.proofs.serialized.Statement.{statement}
 use Rattle.serial.proofs.serialized.Tie as tie
 
 load-requires : tie.Need-load-requires
-load-requires c κs = (state-given _ _ (c .before .before .before .before .before .before .before .before .before .before .before .before .before .pre .0 .state) .1, search needs)
+load-requires c κs = (
+  state-given _ _
+      (c .before .before .before .before .before .before .before .before .before .before .before .before .before .pre .0 .state) .1,
+  search needs,
+)
 
 record-requires : tie.Need-record-requires
 record-requires c κs =
