@@ -1,18 +1,17 @@
 -- The serial log, case by case.
 use Prim.Native.Nat.{ℕ, _+_, _*_, _≤_, _<_}
-use mathlib.Core.Bool.{Bool, true, false, not, cond}
+use mathlib.Core.Bool.{Bool, true, false, not}
 use mathlib.Core.List.{List}
-use mathlib.Core.Path.{_≡_, refl, sym, ap, _∙_}
+use mathlib.Core.Path.{_≡_, ap}
 use lib.ListN.{length}
 use Rattle.semantics.specs.Table.{tableOf}
-use Rattle.semantics.specs.State.{State, stateOf}
-use Rattle.semantics.specs.Move.{unless, both}
-use Rattle.semantics.specs.Log.{moveCount, logSizesOk, Ran, ended, stopped}
+use Rattle.semantics.specs.State.{stateOf}
+use Rattle.semantics.specs.Move.{unless}
+use Rattle.semantics.specs.Log.{moveCount, logSizesOk}
 use Rattle.semantics.specs.Serial.{beginsEmit, anyOpen}
-use Rattle.semantics.specs.Answers.{answerOf, outcomeOf, targetAfter, Result, lineCeiling, stateVerdict, logVerdict, hasWords, runOf, serialAfter, serialResult, serialize, serializeTarget}
+use Rattle.semantics.specs.Answers.{answerOf, stateVerdict, logVerdict, hasWords, serialResult, serialize, serializeTarget}
 use Rattle.semantics.specs.declared.Refusal.{Refusal}
 use Rattle.semantics.specs.declared.Refusal.the-variants.{LogSizes, TargetTooShort, BeginEmits, TransactionOpen}
-use Rattle.semantics.specs.declared.Verdict.{Verdict}
 use Rattle.semantics.specs.declared.Verdict.the-variants.{Allowed, Denied}
 use Rattle.semantics.specs.declared.Outcome.{Outcome}
 use Rattle.semantics.specs.declared.Outcome.the-variants.{Refused}

@@ -10,7 +10,7 @@ use Rattle.semantics.specs.State.{stateOf}
 use Rattle.semantics.specs.Move.{unless}
 use Rattle.semantics.specs.Log.{logWords}
 use Rattle.semantics.specs.Serial.{anyOpen}
-use Rattle.semantics.specs.Answers.{outcomeOf, targetAfter, Result, write, refuse, unlessDenied, lineCeiling, runOf, serialOf, serialFitsOf, serialAfter}
+use Rattle.semantics.specs.Answers.{outcomeOf, targetAfter, Result, write, refuse, unlessDenied, lineCeiling, runOf, serialOf, serialFitsOf}
 use Rattle.semantics.specs.declared.Refusal.{Refusal}
 use Rattle.semantics.specs.declared.Refusal.the-variants.{TransactionOpen, SerialTooManyEntries}
 use Rattle.semantics.specs.declared.Verdict.{Verdict}

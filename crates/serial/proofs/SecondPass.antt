@@ -98,8 +98,8 @@ module _ (t index s l origins members ends target : List ℕ) (k : Reorderable t
     keys-are = found .value (tableOf t) origins (actsIn t s l) keyable
 
     -- what the sort asks
-    pub keys-below : (i : ℕ) → i < moveCount l → getD keys i 0 < moveCount l
-    keys-below i h =
+    pub keys-in-log : (i : ℕ) → i < moveCount l → getD keys i 0 < moveCount l
+    keys-in-log i h =
         let b = facts .keys-below members told i h in
         let e = sym (getD-take (moveCount l) keys i 0 h) ∙ ap (λ (ks : List ℕ). getD ks i 0) keys-are in
         omega arith
@@ -141,10 +141,10 @@ module _ (t index s l origins members ends target : List ℕ) (k : Reorderable t
         let f : serialFitsOf lineCeiling t s l ≡ false = sym room ∙ e in
         record { outcome = rw f; target = rw f }
 
-    pub written : fits ≡ true → (zeros out after : List ℕ) (n : ℕ) → n ≡ 1 + 5 * moveCount l → out ≡ over (logWords (serialOf t s l)) zeros
+    pub log-written : fits ≡ true → (zeros out after : List ℕ) (n : ℕ) → n ≡ 1 + 5 * moveCount l → out ≡ over (logWords (serialOf t s l)) zeros
         → after ≡ over (take n out) target
         → ReorderedAs t s l target after (Written n)
-    written e zeros out after n size o a =
+    log-written e zeros out after n size o a =
         let f : serialFitsOf lineCeiling t s l ≡ true = sym room ∙ e in
         let w : take n out ≡ logWords (serialOf t s l) = ap (take n) o
         ∙ take-at (logWords (serialOf t s l)) (drop (length (logWords (serialOf t s l))) zeros) n (words-count ∙ sym size) in
@@ -154,7 +154,7 @@ module _ (t index s l origins members ends target : List ℕ) (k : Reorderable t
 
   pub sortable : Sortable l members ends
   sortable =
-      record { log = log-sized l (k .begun .sizes); members-size = k .record-sizes .1; ends-size = k .record-sizes .2; below = keys-below }
+      record { log = log-sized l (k .begun .sizes); members-size = k .record-sizes .1; ends-size = k .record-sizes .2; below = keys-in-log }
 
   module _ {order : List ℕ} (o : SortedAs l members ends order) {x : State} (loaded : HoldsIn x (stateOf s)) where
     pub replay-asked : {out : List ℕ} → 1 + 5 * moveCount l ≤ length out → Replayable t index x l order origins members lineCeiling out
@@ -203,6 +203,6 @@ module _ (t index s l origins members ends target : List ℕ) (k : Reorderable t
             let words = over (take (1 + 5 * n) out) target in
             by-bool fits
             (λ h. subst (ReorderedAs t s l target after) (sym (w .outcome ∙ cond-true done-by full h))
-            (written fits fits-are h before out after (1 + 5 * n) (omega arith) (out-is h) (w .target ∙ cond-true words target h)))
+            (log-written fits fits-are h before out after (1 + 5 * n) (omega arith) (out-is h) (w .target ∙ cond-true words target h)))
             (λ h. subst (ReorderedAs t s l target after) (sym (w .outcome ∙ cond-false done-by full h))
             (subst (λ (z : List ℕ). ReorderedAs t s l target z full) (sym (w .target ∙ cond-false words target h)) (outgrown fits fits-are h)))

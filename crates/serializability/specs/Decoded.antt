@@ -2,7 +2,7 @@
 use mathlib.Core.Path.{_≡_, refl, sym, ap, subst, _∙_}
 use mathlib.Core.Bool.{Bool, true, false, not, _&&_, _||_}
 use mathlib.Core.List.{List, [], _∷_, _++_, map}
-use Prim.Native.Nat.{ℕ, suc, _+_, _≤_, _<_}
+use Prim.Native.Nat.{ℕ, suc, _≤_, _<_}
 use native.Mathlib.Omega.{arith}
 use lib.ListN.{length, getD, length-map}
 use Rattle.lists.specs.Lists.{any, keep, count, upFrom}
@@ -100,7 +100,7 @@ module _ (t : Table) (right : TableRight t) (ne : beginsEmit t ≡ false) (s : S
   unfolding ds
   ran = log-runs t sd 0 s ms e (uniq-numbered 0 (s .entries) (S .numbered)) g run
 
-  shut : NoneOpen (view e)
+  pub shut : NoneOpen (view e)
   shut = closed-view e cl
 
   acts-are : acts t 0 s ms ≡ map actOf ds

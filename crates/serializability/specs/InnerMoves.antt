@@ -1,12 +1,12 @@
 -- The moves that blocks are made of: a move of an accepted log is inner exactly if it begins a transaction or is made in some.
-use mathlib.Core.Path.{_≡_, refl, sym, ap, _∙_}
-use mathlib.Core.Bool.{Bool, false, not, _&&_, _||_}
+use mathlib.Core.Path.{_≡_, refl, ap, _∙_}
+use mathlib.Core.Bool.{false, not, _&&_, _||_}
 use mathlib.Core.List.{List, _∷_, _++_}
 use Prim.Native.Nat.{ℕ, _+_}
 use lib.Dec.{eqb}
 use lib.ListN.{length}
 use Rattle.lists.specs.Lists.{isEmpty, least}
-use Rattle.semantics.specs.Table.{Table, Rule, ruleAt, consumed, begins}
+use Rattle.semantics.specs.Table.{Table, ruleAt, consumed, begins}
 use Rattle.semantics.specs.Move.{Move, react, commit, abort}
 use Rattle.semantics.specs.Serial.{isEnd, isBegin, isInner}
 use Rattle.cells.specs.Rules.{Shape, plain, begin, inner, Shaped, owners, touched-plain, touched-begin, touched-inner}
