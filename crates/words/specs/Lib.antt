@@ -1,2 +1,3 @@
+pub mod Copy
 pub mod Origin
 pub mod Search
