@@ -1,5 +1,5 @@
 // The ends of members: an end is noted at the place of the begin of each member that it ends.
-ghost use Prim.Native.Nat.{_+_, _/_, _≤_, _<_};
+ghost use Prim.Native.Nat.{_+_, _≤_, _<_};
 ghost use mathlib.Core.Path.{_≡_};
 ghost use mathlib.Core.Bool.{_&&_, cond};
 ghost use mathlib.Core.List.{[], _∷_};
@@ -7,6 +7,7 @@ ghost use lib.Dec.{eqb};
 ghost use lib.ListN.{length};
 ghost use Rattle.lists.specs.Rows.{rows};
 ghost use Rattle.semantics.specs.Words.{itemKind};
+ghost use Rattle.words.specs.Origin.{originOf};
 ghost use Rattle.state.specs.Working.{rowOf};
 ghost use Rattle.recording.specs.Marks.{Lent, marksOf, NotedAt, RowsNoted};
 ghost use Rattle.recording.specs.Recordings.{marksEnded};
@@ -25,7 +26,7 @@ fn is_mark(owner: u32, item: u32, id: u32) -> bool
 
 // The maker of an entry that is a member mark of id, else 0.
 fn begun_by(owner: u32, item: u32, origin: u32, id: u32) -> u32
-    ensures { λ r. ⌜ r ≡ cond (eqb (itemKind item) 3 && eqb owner id) (origin / 1024) 0 ⌝ }
+    ensures { λ r. ⌜ r ≡ cond (eqb (itemKind item) 3 && eqb owner id) (originOf origin .maker) 0 ⌝ }
 {
     if is_mark(owner, item, id) {
         origin::maker_of(origin)

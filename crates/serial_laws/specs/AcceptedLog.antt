@@ -35,7 +35,7 @@ use Rattle.serial_laws.specs.Order.{arrangedBy}
 use Rattle.serial_laws.specs.ByKey.{arranged-acts}
 use Rattle.serial_laws.specs.EndPlace.{BeginsFirst, begin-of, end-place}
 use Rattle.serial_laws.specs.Keys.{Told, keysBy, begins-first, inner-end, keys-are}
-use Rattle.serial_laws.specs.Splits.{All-split, All-among}
+use Rattle.lists.specs.Splits.{All-split, All-among}
 use Rattle.serial_laws.specs.Places.{noAct, places-below}
 use Rattle.serial_laws.specs.MadeAgain.{EndsSome, ends-some, replays}
 use Rattle.serial_laws.specs.Room.{room-along}

@@ -25,7 +25,7 @@ use Rattle.cells.specs.Steps.{NoneOpen}
 use Rattle.serializability.specs.FollowMark.{seenAfter, log-rest, place-length, ender-not, follow}
 use Rattle.words.specs.Origin.{originOf}
 use Rattle.serial_laws.specs.Acts.{Recorded, concerns, endAfter, keyBy}
-use Rattle.serial_laws.specs.Splits.{place-split, All-split}
+use Rattle.lists.specs.Splits.{place-split, All-split}
 use Rattle.serial_laws.specs.EndPlace.{BeginsFirst}
 
 -- the word of an inner act is the origin of one of its members
