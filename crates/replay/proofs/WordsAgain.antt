@@ -57,10 +57,9 @@ id-narrow : (t : Table) (w : ℕ) (ps : List ℕ) → headNumber (idOf (moveOf t
 unfolding moveOf
 id-narrow t w ps = go (eqb (headKind w) 0) (eqb (headKind w) 1)
   where
-    abbrev made : Bool → Bool → Move
-    made k one = cond k (react (headNumber w) (take (picksUsed t w) ps)) (cond one (commit (headNumber w)) (abort (headNumber w)))
-
-    go : (k one : Bool) → headNumber (idOf (made k one)) ≡ idOf (made k one)
+    go : (k one : Bool)
+        → headNumber (idOf (cond k (react (headNumber w) (take (picksUsed t w) ps)) (cond one (commit (headNumber w)) (abort (headNumber w)))))
+        ≡ idOf (cond k (react (headNumber w) (take (picksUsed t w) ps)) (cond one (commit (headNumber w)) (abort (headNumber w))))
     go true one = omega arith
     go false true = omega arith
     go false false = omega arith
