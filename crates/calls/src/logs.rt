@@ -1,8 +1,9 @@
 // The run of a log.
 ghost use mathlib.Core.Path.{_≡_};
 ghost use Rattle.semantics.specs.Answers.{answerOf, runLog, runLogTarget};
-ghost use Rattle.calls.specs.Logs.{Runnable, FinishedAs};
-use crate::checks::ready;
+ghost use Rattle.calls.specs.Logs.{Runnable, runMade};
+ghost use Rattle.calls.specs.Results.{ComesTo};
+use ready::ready;
 use run::run_log;
 use semantics::Outcome;
 use semantics::Refusal;
@@ -18,7 +19,7 @@ fn finished<'a>(
     target: &mut [u32],
 ) -> Outcome
     requires { ⌜ Runnable (now table) (now starts) (now state) (now log) (now target) ⌝ }
-    ensures { λ r. ⌜ FinishedAs (now (table .entry)) (now (state .entry)) (now (log .entry)) (now (target .entry)) (now (target .exit)) r ⌝ }
+    ensures { λ r. ⌜ ComesTo (runMade (now (table .entry)) (now (state .entry)) (now (log .entry))) (now (target .entry)) (now (target .exit)) r ⌝ }
 {
     let s = State::empty();
     let mut owners = s.owners;

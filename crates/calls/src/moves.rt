@@ -2,8 +2,9 @@
 ghost use mathlib.Core.List.{_∷_};
 ghost use mathlib.Core.Path.{_≡_};
 ghost use Rattle.semantics.specs.Answers.{answerOf, makeMove, makeMoveTarget};
-ghost use Rattle.calls.specs.Moves.{Movable, MovedAs};
-use crate::checks::ready;
+ghost use Rattle.calls.specs.Moves.{Movable, moveMade};
+ghost use Rattle.calls.specs.Results.{ComesTo};
+use ready::ready;
 use semantics::Outcome;
 use semantics::Refusal;
 use semantics::Verdict;
@@ -21,7 +22,7 @@ fn moved<'a>(
     target: &mut [u32],
 ) -> Outcome
     requires { ⌜ Movable (now table) (now starts) (now state) (now target) ⌝ }
-    ensures { λ r. ⌜ MovedAs (now (table .entry)) (now (state .entry)) (head ∷ picks) (now (target .entry)) (now (target .exit)) r ⌝ }
+    ensures { λ r. ⌜ ComesTo (moveMade (now (table .entry)) (now (state .entry)) (head ∷ picks)) (now (target .entry)) (now (target .exit)) r ⌝ }
 {
     let s = State::empty();
     let mut owners = s.owners;

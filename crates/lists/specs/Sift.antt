@@ -62,7 +62,8 @@ module _ {A : Type 0} where
           go false e h = record { within = omega arith; behind = omega arith; so-far = rw (add-zero w, made, left) h }
 
     -- the loop may begin behind elements that stay as they are
-    pub sifting-from : (row : ℕ → A) (n i : ℕ) → i ≤ n → ((k : ℕ) → k < i → (q k (row k) ≡ true) × (row k ≡ f (row k))) → Sifting q f row n i i (sift q f 0 (rows row 0 n))
+    pub sifting-from : (row : ℕ → A) (n i : ℕ) → i ≤ n → ((k : ℕ) → k < i → (q k (row k) ≡ true) × (row k ≡ f (row k)))
+        → Sifting q f row n i i (sift q f 0 (rows row 0 n))
     sifting-from row n zero l stay = sifting-start row n
     sifting-from row n (suc i) l stay =
         let (a, b) = stay i (omega arith) in

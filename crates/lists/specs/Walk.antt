@@ -17,7 +17,8 @@ module _ {A : Type 0} where
   drop-step xs i d h = rw (add-one, drop-cons xs i d h)
 
   -- four elements in a row
-  pub take-four : (l : List A) (at : ℕ) (d : A) → at + 4 ≤ length l → getD l at d ∷ getD l (at + 1) d ∷ getD l (at + 2) d ∷ getD l (at + 3) d ∷ [] ≡ take 4 (drop at l)
+  pub take-four : (l : List A) (at : ℕ) (d : A) → at + 4 ≤ length l
+      → getD l at d ∷ getD l (at + 1) d ∷ getD l (at + 2) d ∷ getD l (at + 3) d ∷ [] ≡ take 4 (drop at l)
   take-four l at d h =
       let two : at + 1 + 1 ≡ at + 2 = omega arith in
       let three : at + 2 + 1 ≡ at + 3 = omega arith in

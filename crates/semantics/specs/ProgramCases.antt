@@ -39,8 +39,8 @@ pub case-a-lines : lines (partsOf (wordsOf inputA)) ≡ line 0 0 4 2 ∷ line 1 
 unfolding lines linesFrom partsOf twoLot start logA tableOf ruleOf stateOf moveOk moveOf reacted Move.ended allowed applied step stepWords
 case-a-lines = refl
 
--- whole; empty; the table cut at its last byte, with a size over its limit, with a bad atom and cut; a bad atom before a cut state; the state cut, N = 0; the log
--- cut, k over its limit; one to five bytes left over
+-- whole; empty; the table cut at its last byte, with a size over its limit, with a bad atom and cut; a bad atom before a cut state;
+-- the state cut, N = 0; the log cut, k over its limit; one to five bytes left over
 pub damaged : map said
     (inputA
     ∷ []
@@ -59,5 +59,6 @@ pub damaged : map said
     ∷ (inputA ++ 0 ∷ 0 ∷ 0 ∷ 0 ∷ 0 ∷ [])
     ∷ [])
     ≡ 0 ∷ 1 ∷ 1 ∷ 1 ∷ 1 ∷ 2 ∷ 3 ∷ 3 ∷ 13 ∷ 13 ∷ 13 ∷ 13 ∷ 13 ∷ 13 ∷ 13 ∷ []
-unfolding inputVerdict partsOf twoLot start logA tableSizesOk numbersOk atomOk ruleOk rulesOk tableContentsOk stateOf stateSizesOk entryOk entriesOk logSizesOk tableVerdict stateOwnVerdict stateVerdict logVerdict
+unfolding inputVerdict partsOf twoLot start logA tableSizesOk numbersOk atomOk ruleOk rulesOk tableContentsOk stateOf stateSizesOk entryOk entriesOk
+    logSizesOk tableVerdict stateOwnVerdict stateVerdict logVerdict
 damaged = refl

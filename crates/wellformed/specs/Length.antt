@@ -19,7 +19,8 @@ pub length-products : (R : Rule) (s : State) (es : List Entry) (i q : ℕ) (atom
 length-products R s es i q [] = refl
 length-products R s es i q (a ∷ atoms) = ap suc (length-products R s es i (suc q) atoms)
 
-pub length-reacted : (R : Rule) (i : ℕ) (s : State) (ps : List ℕ) → length (reacted R i s ps .entries) ≡ length (without ps 0 (s .entries)) + length (productAtoms R)
+pub length-reacted : (R : Rule) (i : ℕ) (s : State) (ps : List ℕ)
+    → length (reacted R i s ps .entries) ≡ length (without ps 0 (s .entries)) + length (productAtoms R)
 unfolding reacted
 length-reacted R i s ps =
     length-append (map (merged (ownersAt s ps)) (without ps 0 (s .entries))) (products R s (picked s ps) i 0 (productAtoms R))

@@ -1,5 +1,5 @@
 use native.Mathlib.Omega.{arith}
-use Rattle.wellformed.specs.States.{state-given}
+use Rattle.ready.specs.Ready.{ready-sizes}
 use Rattle.run.specs.Whole.{words-prepared, loaded-workable}
 use Rattle.calls.proofs.Running.{finish-refused, finish-written}
 use borrow.Author.Needs.{needs}
@@ -9,12 +9,12 @@ use Rattle.calls.proofs.logs.finished.Tie as tie
 load-requires : tie.Need-load-requires
 load-requires c κs =
     let p = c .before .before .before .before .before .before .before .before .before .before .before .pre in
-    (state-given _ _ (p .state) .1, search needs)
+    (ready-sizes (p .ready), search needs)
 
 run-log-requires : tie.Need-run-log-requires
 run-log-requires c κs =
     let p = c .before .before .before .before .before .before .before .before .before .before .before .before .before .before .before .pre in
-    (words-prepared _ _ (p .state) (p .starts) (p .sizes), loaded-workable _ (state-given _ _ (p .state) .1) (c .before .before .before .load .ensures))
+    (words-prepared _ _ (p .ready .accepted) (p .ready .starts) (p .sizes), loaded-workable _ (ready-sizes (p .ready)) (c .before .before .before .load .ensures))
 
 returns : tie.Need-returns
 returns c =

@@ -1,5 +1,5 @@
 use native.Mathlib.Omega.{arith}
-use Rattle.wellformed.specs.States.{state-given}
+use Rattle.ready.specs.Ready.{ready-sizes}
 use Rattle.run.specs.Whole.{words-indexed, loaded-workable}
 use Rattle.calls.proofs.Moving.{moved-refused, moved-written}
 use borrow.Author.Needs.{needs}
@@ -9,12 +9,12 @@ use Rattle.calls.proofs.moves.moved.Tie as tie
 load-requires : tie.Need-load-requires
 load-requires c κs =
     let p = c .before .before .before .before .before .before .before .before .before .before .pre in
-    (state-given _ _ (p .state) .1, search needs)
+    (ready-sizes (p .ready), search needs)
 
 make-requires : tie.Need-make-requires
 make-requires c κs =
     let p = c .before .before .before .before .before .before .before .before .before .before .before .before .before .before .pre in
-    (words-indexed _ _ (p .state) (p .starts), loaded-workable _ (state-given _ _ (p .state) .1) (c .before .before .before .load .ensures), omega arith)
+    (words-indexed _ _ (p .ready .accepted) (p .ready .starts), loaded-workable _ (ready-sizes (p .ready)) (c .before .before .before .load .ensures), omega arith)
 
 returns : tie.Need-returns
 returns c =

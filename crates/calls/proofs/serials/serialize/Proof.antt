@@ -46,7 +46,7 @@ module _ (c : tie.Else2) where
 begins-emit-requires : tie.Need-begins-emit-requires
 begins-emit-requires c κs =
     let long = c .before .before in
-    (state-given _ _ (ok long) .0, long .before .before .before .before .before .before .ready .ensures .starts (ok long))
+    (state-given _ _ (ok long) .0, long .before .before .before .before .before .before .ready .ensures .ready (ok long) .starts)
 
 returns-4 : tie.Need-returns-4
 returns-4 c =
@@ -70,7 +70,7 @@ serialize-log-requires c κs =
     let long = c .before .before .before .before .before .before .before .before in
     record {
       state = ok long;
-      starts = long .before .before .before .before .before .before .ready .ensures .starts (ok long);
+      starts = long .before .before .before .before .before .before .ready .ensures .ready (ok long) .starts;
       sizes = sizes long;
       room = room long;
       quiet = sym (c .before .before .before .before .before .begins-emit .ensures) ∙ c .before .before .before .before .if3 .left;

@@ -1,12 +1,12 @@
 use mathlib.Core.Path.{sym, _∙_}
 use Rattle.wellformed.specs.Tables.{well-formed}
-use Rattle.calls.proofs.Answers.{table-denied, state-checked}
+use Rattle.ready.proofs.Checking.{table-denied, state-checked}
 use borrow.Author.Needs.{needs}
-use Rattle.calls.proofs.checks.ready.Statement.{statement}
-use Rattle.calls.proofs.checks.ready.Tie as tie
+use Rattle.ready.proofs.ready.Statement.{statement}
+use Rattle.ready.proofs.ready.Tie as tie
 
 returns : tie.Need-returns
-returns c = table-denied _ _ _ (c .before .before .before .check .ensures) _ (c .before .of-table .given .1)
+returns c = table-denied _ _ _ (c .before .before .before .check .ensures) (c .before .of-table .given .1)
 
 sizes-of-requires : tie.Need-sizes-of-requires
 sizes-of-requires c κs =
