@@ -1,13 +1,13 @@
 -- An element of a list and what stands before and behind it.
 use Prim.Native.Nat.{ℕ, zero, suc, _<_}
-use mathlib.Core.List.{List, [], _∷_, _++_, map}
+use mathlib.Core.List.{List, [], _∷_, _++_}
 use mathlib.Core.Logic.{inl, inr}
 use mathlib.Core.Path.{_≡_, refl, sym, ap}
 use native.Mathlib.Nat.{not-suc-le-zero}
 use native.Mathlib.Omega.{arith}
 use lib.ListN.{length}
 use Rattle.lists.specs.Each.{All}
 use Rattle.lists.specs.Members.{Among}
 
 module _ {A : Type 0} where
   abbrev pub Split : List A → A → Type 0
@@ -33,7 +33,3 @@ module _ {A : Type 0} where
   All-among P [] x h m = absurd m
   All-among P (y ∷ xs) x h (inl e) = rw e (h .0)
   All-among P (y ∷ xs) x h (inr m) = All-among P xs x (h .1) m
-
-  pub map-same : {B : Type 0} (f g : A → B) (xs : List A) → All (λ x. f x ≡ g x) xs → map f xs ≡ map g xs
-  map-same f g [] h = refl
-  map-same f g (x ∷ xs) h = λ j. h .0 j ∷ map-same f g xs (h .1) j
