@@ -11,7 +11,7 @@ use semantics::Verdict;
 use state::State;
 
 // A log in order, with a target that is long enough: the words of the state reached, or 16.
-fn finished<'a>(
+fn run_and_store<'a>(
     table: &'a [u32],
     starts: &'a [u32; 65],
     state: &'a [u32],
@@ -61,5 +61,5 @@ pub fn run<'a>(table: &'a [u32], state: &'a [u32], log: &'a [u32], target: &mut 
         return Outcome::Refused(Refusal::TargetTooShort);
     }
     let starts = checked.starts;
-    finished(table, &starts, state, log, target)
+    run_and_store(table, &starts, state, log, target)
 }

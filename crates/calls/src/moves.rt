@@ -13,7 +13,7 @@ use step::form::form_ok;
 use step::make::make;
 
 // A move in order, with a target that is long enough: 7 to 12.
-fn moved<'a>(
+fn make_and_store<'a>(
     table: &'a [u32],
     starts: &'a [u32; 65],
     state: &'a [u32],
@@ -75,5 +75,5 @@ pub fn make_move<'a>(
     if target.len() < State::MAX_WORDS {
         return Outcome::Refused(Refusal::TargetTooShort);
     }
-    moved(table, &starts, state, mv[0], picks, target)
+    make_and_store(table, &starts, state, mv[0], picks, target)
 }

@@ -10,6 +10,7 @@ use lib.Dec.{leb, eqb}
 use lib.ListN.{length, getD, take, drop, length-take}
 use lib.Seq.{getD-take, take-take, take-all, length-take-le}
 use Rattle.lists.specs.Tests.{and-both}
+use Rattle.lists.specs.Choices.{is-false}
 use Rattle.lists.specs.Beginning.{drop-take}
 use Rattle.semantics.specs.Table.{sizesOf, tableSizesOk}
 use Rattle.wellformed.specs.Tables.{table-sized, well-formed}
@@ -24,10 +25,6 @@ use Rattle.semantics.specs.declared.Refusal.the-variants.{TableSizes, StateSize
 use Rattle.semantics.specs.declared.Verdict.{Verdict}
 use Rattle.semantics.specs.declared.Verdict.the-variants.{Allowed, Denied}
 use Rattle.intake.specs.Split.{accepted-input}
-
-fails : (b : Bool) → (b ≡ true → ⊥) → b ≡ false
-fails true h = absurd (h refl)
-fails false h = refl
 
 -- ---- the words of the first bytes
 
@@ -50,13 +47,13 @@ module _ (ws : List ℕ) where
   unfolding tableVerdict
   table-over h =
       let same : getD (tablePart ws) 4 0 ≡ getD ws 4 0 = getD-take (5 + 2 * getD ws 4 0) ws 4 0 (omega arith) in
-      rw (fails (tableSizesOk (tablePart ws)) (λ yes. let z = table-sized (tablePart ws) yes in omega arith))
+      rw (is-false (tableSizesOk (tablePart ws)) (λ yes. let z = table-sized (tablePart ws) yes in omega arith))
 
   state-over : (z : Sizes) → 1024 < getD ws 0 0 → stateOwnVerdict z (statePart ws) ≡ Denied StateSizes
   unfolding stateOwnVerdict
   state-over z h =
       let same : getD (statePart ws) 0 0 ≡ getD ws 0 0 = getD-take (2 + 2 * getD ws 0 0) ws 0 0 (omega arith) in
-      rw (fails (stateSizesOk (statePart ws)) (λ yes. let z = state-sized (statePart ws) yes in omega arith))
+      rw (is-false (stateSizesOk (statePart ws)) (λ yes. let z = state-sized (statePart ws) yes in omega arith))
 
 state-enough : (m : ℕ) (z : Sizes) (ws : List ℕ) → 2050 ≤ m → stateOwnVerdict z (statePart (take m ws)) ≡ stateOwnVerdict z (statePart ws)
 state-enough m z ws h = go (leb (getD ws 0 0) 1024) refl

@@ -11,7 +11,8 @@ use lib.ListN.{length, getD, take, drop, set, length-append, length-drop, List·
 use lib.Seq.{length-take-le, getD-append-add, getD-take, getD-drop}
 use Rattle.lists.specs.Lists.{isIn, distinct, without}
 use Rattle.lists.specs.Tests.{and-both, or-false, or-true}
-use Rattle.lists.specs.Choices.{by-bool, clash, and-intro, or-right}
+use Rattle.lists.specs.Tests.{or-right-true}
+use Rattle.lists.specs.Choices.{by-bool, clash, and-intro}
 use Rattle.lists.specs.Members.{Among}
 use Rattle.lists.specs.Removed.{length-without, without-shorter}
 use Rattle.lists.specs.Rows.{rows, rows-none, length-rows, rows-ext, rows-append, rows-moved}
@@ -49,7 +50,7 @@ next-more {ps} {from} {n} {r} p x =
       low = x .low;
       high = x .high;
       none = λ j k v. or-false _ (ne-eqb j p (λ q. clash (and-intro (le-leb from p (omega arith)) (lt-ltb p r (omega arith))) e)) ∙ x .none j k v;
-      here = λ h. or-right (eqb r p) (isIn r ps) (x .here h);
+      here = λ h. or-right-true (eqb r p) (x .here h);
     }))
 
 -- ---- one list

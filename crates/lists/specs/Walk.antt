@@ -8,9 +8,9 @@ use native.Mathlib.Nat.{le-of-suc-le-suc, not-suc-le-zero, eq-or-lt-of-le}
 use native.Mathlib.Numerals.{add-one}
 use native.Mathlib.Omega.{arith}
 use lib.ListN.{length, getD, take, drop, set, drop-of-length-le}
-use lib.Seq.{drop-cons, take-suc, take-suc-set, take-all}
-use Rattle.lists.specs.Lists.{allBelow, upFrom}
-use Rattle.lists.specs.Tests.{and-false, and-right-false, and-both}
+use lib.Seq.{drop-cons, take-suc, take-suc-set}
+use Rattle.lists.specs.Lists.{allBelow}
+use Rattle.lists.specs.Tests.{and-false, and-right-false}
 
 module _ {A : Type 0} where
   pub drop-step : (xs : List A) (i : ℕ) (d : A) → i < length xs → drop i xs ≡ getD xs i d ∷ drop (i + 1) xs

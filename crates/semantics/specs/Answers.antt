@@ -1,11 +1,11 @@
 -- 01's numbers, and each public call's answer and target contents as a function of the words handed in.
-use Prim.Native.Nat.{ℕ, suc, _+_, _*_}
-use mathlib.Core.Bool.{Bool, true, false, not}
+use Prim.Native.Nat.{ℕ, _+_, _*_}
+use mathlib.Core.Bool.{Bool, not}
 use mathlib.Core.List.{List, [], _∷_, map}
 use lib.Dec.{leb}
 use lib.ListN.{length}
 use Rattle.lists.specs.Lists.{over}
-use Rattle.semantics.specs.Table.{Table, sizesOf, tableSizesOk, tableContentsOk, tableOf}
+use Rattle.semantics.specs.Table.{sizesOf, tableSizesOk, tableContentsOk, tableOf}
 use Rattle.semantics.specs.State.{State, maxEntries, stateSizesOk, entriesOk, stateOf, stateWords}
 use Rattle.semantics.specs.Move.{unless, firstFault, Move, moveOk, moveOf, Stepped, to, refused, stepWords}
 use Rattle.semantics.specs.Log.{moveCount, movesOf, logSizesOk, logWords, Ran, ended, stopped, run}

@@ -1,13 +1,13 @@
 -- 01, "Move": the form of a move, when it is allowed, what it leaves, and the limit on entries.
-use Prim.Native.Nat.{ℕ, zero, suc, _+_}
+use Prim.Native.Nat.{ℕ, suc}
 use mathlib.Core.Bool.{Bool, true, false, _&&_, _||_, not, cond}
 use mathlib.Core.List.{List, [], _∷_, _++_, map}
 use lib.Dec.{leb, ltb, eqb}
 use lib.ListN.{length, getD, take, drop}
-use Rattle.lists.specs.Lists.{all, any, isEmpty, isIn, keep, distinct, least, without}
+use Rattle.lists.specs.Lists.{all, any, isIn, keep, distinct, least, without}
 use Rattle.semantics.specs.Words.{headKind, headNumber}
-use Rattle.semantics.specs.Table.{Table, Rule, ruleAt, hasRole, consumed, productAtoms, begins}
-use Rattle.semantics.specs.State.{Origin, Entry, State, isMessage, isCompensation, isAbortMark, isMemberMark, owned}
+use Rattle.semantics.specs.Table.{Table, Rule, ruleAt, consumed, productAtoms, begins}
+use Rattle.semantics.specs.State.{Origin, Entry, State, isMessage, isCompensation, isAbortMark, owned}
 use Rattle.semantics.specs.declared.Atom.{Atom}
 use Rattle.semantics.specs.declared.AtomValue.{AtomValue}
 use Rattle.semantics.specs.declared.AtomValue.the-variants.{Constant, Received}

@@ -1,8 +1,8 @@
 -- Odd tables, states, moves and logs, each with the number that 01's sentences give it: the definitions are run on them before code is proved.
-use Prim.Native.Nat.{ℕ, _+_}
+use Prim.Native.Nat.{ℕ}
 use mathlib.Core.List.{List, [], _∷_, _++_, map}
 use mathlib.Core.Path.{_≡_, refl}
-use lib.ListN.{length, take, drop, set, replicate}
+use lib.ListN.{length, replicate}
 use Rattle.semantics.specs.Table.{tableSizesOk, numbersOk, atomOk, ruleOk, rulesOk, tableContentsOk, ruleOf, tableOf}
 use Rattle.semantics.specs.State.{stateOf, stateWords, stateSizesOk, entryOk, entriesOk}
 use Rattle.semantics.specs.Move.{moveOk, moveOf, reacted, allowed, applied, step, stepWords}

@@ -1,15 +1,13 @@
 -- 01, the program: how its input falls into table, state and log, and the figures of each line that it prints.
-use Prim.Native.Nat.{ℕ, zero, suc, _+_, _*_, _^_}
-use mathlib.Core.Bool.{Bool}
+use Prim.Native.Nat.{ℕ, suc, _+_, _*_, _^_}
 use mathlib.Core.List.{List, [], _∷_}
 use lib.Dec.{eqb}
-use lib.ListN.{length, getD, take, drop}
+use lib.ListN.{length, take, drop}
 use Rattle.semantics.specs.Table.{Table, sizesOf, tableOf}
 use Rattle.semantics.specs.State.{State, entryCount, nextOf, stateOf}
 use Rattle.semantics.specs.Move.{unless, firstFault, Stepped, to, refused, stepWords}
 use Rattle.semantics.specs.Log.{moveCount, movesOf}
 use Rattle.semantics.specs.Answers.{number, logVerdict, lineCeiling}
-use Rattle.semantics.specs.declared.Refusal.{Refusal}
 use Rattle.semantics.specs.declared.Refusal.the-variants.{LogSizes}
 use Rattle.semantics.specs.declared.Verdict.{Verdict}
 

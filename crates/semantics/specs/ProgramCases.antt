@@ -1,8 +1,8 @@
 -- The program on case (a) and on damaged inputs: 01's seven lines, and the number of each fault.
-use Prim.Native.Nat.{ℕ, suc, _+_, _*_, _/_, _%_}
+use Prim.Native.Nat.{ℕ, _/_, _%_}
 use mathlib.Core.List.{List, [], _∷_, _++_, map}
 use mathlib.Core.Path.{_≡_, refl}
-use lib.ListN.{length, take, drop, set}
+use lib.ListN.{length, take, set}
 use Rattle.semantics.specs.Table.{tableSizesOk, numbersOk, atomOk, ruleOk, rulesOk, tableContentsOk, ruleOf, tableOf}
 use Rattle.semantics.specs.State.{stateOf, stateSizesOk, entryOk, entriesOk}
 use Rattle.semantics.specs.Move.{moveOk, moveOf, reacted, allowed, applied, step, stepWords}
@@ -10,7 +10,7 @@ use Rattle.semantics.specs.Move as Move
 use Rattle.semantics.specs.Log.{logSizesOk}
 use Rattle.semantics.specs.Answers.{number, tableVerdict, stateOwnVerdict, stateVerdict, logVerdict}
 use Rattle.semantics.specs.Cases.{twoLot, start, logA, logOf}
-use Rattle.semantics.specs.Program.{Parts, Line, FirstLine, wordsOf, partsOf, inputVerdict, lines, linesFrom, firstLine}
+use Rattle.semantics.specs.Program.{Line, wordsOf, partsOf, inputVerdict, lines, linesFrom, firstLine}
 use Rattle.semantics.specs.declared.Verdict.{Verdict}
 use Rattle.semantics.specs.declared.Verdict.the-variants.{Allowed, Denied}
 

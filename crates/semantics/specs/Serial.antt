@@ -1,9 +1,9 @@
 -- 01, "Log and serial log": the serial log of a log, on decoded moves.
-use Prim.Native.Nat.{ℕ, suc, _+_}
-use mathlib.Core.Bool.{Bool, true, false, _&&_, _||_, not, cond}
+use Prim.Native.Nat.{ℕ, suc}
+use mathlib.Core.Bool.{Bool, true, false, _&&_, not, cond}
 use mathlib.Core.List.{List, [], _∷_, _++_, map}
-use lib.Dec.{leb, ltb, eqb}
-use lib.ListN.{length, getD}
+use lib.Dec.{leb, eqb}
+use lib.ListN.{length}
 use Rattle.lists.specs.Lists.{all, any, isEmpty, isIn, keep, count, least}
 use Rattle.semantics.specs.Table.{Table, Rule, ruleAt, hasRole, begins, emits}
 use Rattle.semantics.specs.State.{Origin, Entry, State, isMemberMark, owned}

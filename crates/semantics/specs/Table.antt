@@ -1,7 +1,7 @@
 -- 01, "Recipe table": when the words of a table are well formed, and the rules that they hold.
 use Prim.Native.Nat.{ℕ, _+_, _*_}
 use mathlib.Core.Bool.{Bool, true, false, _&&_, _||_, not, cond}
-use mathlib.Core.List.{List, [], _∷_, map}
+use mathlib.Core.List.{List, [], map}
 use lib.Dec.{leb, ltb, eqb}
 use lib.ListN.{length, getD, take, drop}
 use Rattle.lists.specs.Lists.{given, all, any, count, keep, keepBeside, risesFrom, allBelow, upFrom}

@@ -8,7 +8,8 @@ use native.Mathlib.Omega.{arith}
 use lib.Dec.{leb, ltb, eqb}
 use borrow.Author.Tests.{leb-true, le-leb, ltb-true, lt-ltb, eqb-true, eqb-false, eq-eqb}
 use Rattle.lists.specs.Lists.{all, any, distinct}
-use Rattle.lists.specs.Choices.{by-bool, and-intro, and-left, and-right, and-three, and-six, or-cases, or-right, given-holds, given-intro}
+use Rattle.lists.specs.Tests.{or-right-true}
+use Rattle.lists.specs.Choices.{by-bool, and-intro, and-left, and-right, and-three, and-six, or-cases, given-holds, given-intro}
 use Rattle.lists.specs.Members.{Among, all-each, all-intro, any-some, any-intro}
 use Rattle.semantics.specs.Table.{portCount}
 use Rattle.semantics.specs.State.{Entry, State, isMessage, isCompensation, isAbortMark, isMemberMark, owned, globalOk, messageOk, compensationOk}
@@ -119,7 +120,7 @@ module _ (z : Sizes) (s : State) where
       (all-intro (entryOk z (s .next)) (s .entries) (λ e m. entry-tests z (s .next) e (r .each e m)))
       (r .marks))
       (all-intro (ownerOk (s .entries)) (s .entries) (λ e m. by-bool (owned 0 e) (λ o. rw o)
-      (λ o. or-right (owned 0 e) (any (isOwnMark (e .owner)) (s .entries)) (own-test (s .entries) (e .owner) (r .own e m (eqb-false (e .owner) 0 o))))))
+      (λ o. or-right-true (owned 0 e) (own-test (s .entries) (e .owner) (r .own e m (eqb-false (e .owner) 0 o))))))
 
 -- ---- the four sorts of entry
 

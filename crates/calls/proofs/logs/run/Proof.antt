@@ -21,8 +21,8 @@ returns-3 c =
     run-short _ _ _ _ (sym (told .before .before .ready .ensures .verdict) ∙ told .enum-told .given .1) (c .before .before .sizes-ok .ensures)
     (not-false _ (c .before .if1 .left)) (c .if2 .taken)
 
-finished-requires : tie.Need-finished-requires
-finished-requires c κs =
+run-and-store-requires : tie.Need-run-and-store-requires
+run-and-store-requires c κs =
     let sized = c .before .before .before .before in
     let told = sized .before .before in
     let said = told .before .before .ready .ensures in
@@ -37,7 +37,7 @@ returns-4 c =
     let sized = c .before .before .before .before .before .before .before in
     let told = sized .before .before in
     run-done _ _ _ _ (sym (told .before .before .ready .ensures .verdict) ∙ told .enum-told .given .1) (sized .before .sizes-ok .ensures)
-    (not-false _ (sized .if1 .left)) (c .before .before .before .before .before .before .if2 .left) (c .before .before .finished .ensures)
+    (not-false _ (sized .if1 .left)) (c .before .before .before .before .before .before .if2 .left) (c .before .before .run-and-store .ensures)
 
 pub run-spec : {M : Type 1} → statement M
 run-spec =
@@ -50,6 +50,6 @@ run-spec =
     (λ c κs. search needs)
     returns-2
     returns-3
-    finished-requires
+    run-and-store-requires
     (λ c. search needs)
     returns-4)

@@ -39,8 +39,8 @@ returns-4 c =
     (form-read (a .table .now) (a .mv .now) (sized .if1 .left) (formed .before .form-ok .ensures)) (not-false _ (formed .if2 .left))
     (c .if3 .taken)
 
-moved-requires : tie.Need-moved-requires
-moved-requires c κs =
+make-and-store-requires : tie.Need-make-and-store-requires
+make-and-store-requires c κs =
     let roomy = c .before .before .before in
     let told = roomy .before .before .before .before .before .before .before .before .before .before .before in
     let said = told .before .before .ready .ensures in
@@ -55,7 +55,7 @@ returns-5 c =
     let a = told .before .before .before .before .before .before .before .args in
     move-done _ _ _ _ (sym (told .before .before .ready .ensures .verdict) ∙ told .enum-told .given .1)
     (form-read (a .table .now) (a .mv .now) (sized .if1 .left) (formed .before .form-ok .ensures)) (not-false _ (formed .if2 .left))
-    (roomy .if3 .left) (rw (five (a .mv .now) (sized .if1 .left)) at (c .before .before .moved .ensures))
+    (roomy .if3 .left) (rw (five (a .mv .now) (sized .if1 .left)) at (c .before .before .make-and-store .ensures))
 
 pub make-move-spec : {M : Type 1} → statement M
 make-move-spec =
@@ -75,6 +75,6 @@ make-move-spec =
     returns-3
     returns-4
     (λ c. search needs)
-    moved-requires
+    make-and-store-requires
     (λ c. search needs)
     returns-5)

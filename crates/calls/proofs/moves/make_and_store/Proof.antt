@@ -1,10 +1,11 @@
+-- `make_and_store` meets its contract (`Moving`).
 use native.Mathlib.Omega.{arith}
 use Rattle.ready.specs.Ready.{ready-sizes}
 use Rattle.run.specs.Whole.{words-indexed, loaded-workable}
 use Rattle.calls.proofs.Moving.{moved-refused, moved-written}
 use borrow.Author.Needs.{needs}
-use Rattle.calls.proofs.moves.moved.Statement.{statement}
-use Rattle.calls.proofs.moves.moved.Tie as tie
+use Rattle.calls.proofs.moves.make_and_store.Statement.{statement}
+use Rattle.calls.proofs.moves.make_and_store.Tie as tie
 
 load-requires : tie.Need-load-requires
 load-requires c κs =
@@ -14,7 +15,8 @@ load-requires c κs =
 make-requires : tie.Need-make-requires
 make-requires c κs =
     let p = c .before .before .before .before .before .before .before .before .before .before .before .before .before .before .pre in
-    (words-indexed _ _ (p .ready .accepted) (p .ready .starts), loaded-workable _ (ready-sizes (p .ready)) (c .before .before .before .load .ensures), omega arith)
+    let loaded = c .before .before .before .load .ensures in
+    (words-indexed _ _ (p .ready .accepted) (p .ready .starts), loaded-workable _ (ready-sizes (p .ready)) loaded, omega arith)
 
 returns : tie.Need-returns
 returns c =
@@ -31,9 +33,19 @@ store-requires c κs =
 returns-2 : tie.Need-returns-2
 returns-2 c =
     let made = c .before .before .before .before .before .before .before .before in
-    moved-written _ _ _ _ (made .before .before .before .before .load .ensures) (made .make .ensures) (c .before .before .before .before .before .before .enum-told .given .1) (c .before .before .store .ensures _)
+    moved-written _ _ _ _ (made .before .before .before .before .load .ensures) (made .make .ensures)
+    (c .before .before .before .before .before .before .enum-told .given .1) (c .before .before .store .ensures _)
 
-pub moved-spec : {M : Type 1} → statement M
-moved-spec =
+pub make-and-store-spec : {M : Type 1} → statement M
+make-and-store-spec =
     tie.close
-    (tie.spec (λ c κs. search needs) load-requires make-requires (λ c. search needs) returns (λ c. search needs) store-requires (λ c. search needs) returns-2)
+    (tie.spec
+    (λ c κs. search needs)
+    load-requires
+    make-requires
+    (λ c. search needs)
+    returns
+    (λ c. search needs)
+    store-requires
+    (λ c. search needs)
+    returns-2)
