@@ -57,7 +57,7 @@ pub fn run<'a>(table: &'a [u32], state: &'a [u32], log: &'a [u32], target: &mut 
     if !log::sizes_ok(log) {
         return Outcome::Refused(Refusal::LogSizes);
     }
-    if target.len() < 2050 {
+    if target.len() < State::MAX_WORDS {
         return Outcome::Refused(Refusal::TargetTooShort);
     }
     let starts = checked.starts;

@@ -72,7 +72,7 @@ pub fn make_move<'a>(
     if !form_ok(table, &starts, mv[0], picks) {
         return Outcome::Refused(Refusal::MoveForm);
     }
-    if target.len() < 2050 {
+    if target.len() < State::MAX_WORDS {
         return Outcome::Refused(Refusal::TargetTooShort);
     }
     moved(table, &starts, state, mv[0], picks, target)

@@ -6,14 +6,10 @@ use mathlib.Core.List.{List}
 use lib.Dec.{eqb, leb, ltb}
 use lib.ListN.{length}
 use Rattle.lists.specs.Lists.{all, any, distinct}
-use Rattle.semantics.specs.State.{Entry, isMessage, isCompensation, isAbortMark, isMemberMark, isOwnMark, owned, markValues, entryOk, entryCount, stateSizesOk, entriesOk, stateOf}
+use Rattle.semantics.specs.State.{Entry, isMessage, isCompensation, isAbortMark, isMemberMark, isOwnMark, owned, markValues, entryOk, entryCount}
 use Rattle.semantics.specs.Table.{portCount}
 use Rattle.wellformed.specs.States.{StateSized}
-use Rattle.semantics.specs.Move.{unless, both}
-use Rattle.semantics.specs.Answers.{stateOwnVerdict}
 use Rattle.semantics.specs.declared.Sizes.{Sizes}
-use Rattle.semantics.specs.declared.Refusal.the-variants.{StateSizes, StateContents}
-use Rattle.semantics.specs.declared.Verdict.the-variants.{Allowed}
 use Rattle.idset.specs.IdSet.{has}
 
 -- a slice that is a column of a state whose sizes are in order
@@ -64,15 +60,3 @@ pub record OwnMarks (set : List ℕ) (es : List Entry) : Type 0 where
 pub record AllEntered (r : Bool) (z : Sizes) (next : ℕ) (es : List Entry) (own : List ℕ) : Type 0 where
   pub answer : r ≡ (all (entryOk z next) es && distinct (markValues es))
   pub set : r ≡ true → OwnMarks own es
-
--- ---- the verdict
-
--- what the check's answer says of an accepted state
-pub allowed : (z : Sizes) (s : List ℕ) → stateOwnVerdict z s ≡ Allowed → (stateSizesOk s ≡ true) × (entriesOk z (stateOf s) ≡ true)
-unfolding stateOwnVerdict
-allowed z s h = go (stateSizesOk s) (entriesOk z (stateOf s)) h
-  where
-    go : (a b : Bool) → both (unless a StateSizes) (unless b StateContents) ≡ Allowed → (a ≡ true) × (b ≡ true)
-    go true true e = (refl, refl)
-    go true false e = (refl, (cc))
-    go false b e = ((cc), (cc))

@@ -26,7 +26,9 @@ by-owners s os e = ap someOwned (sym e) ∙ any-map (λ e. e .owner) (λ o. not 
 
 pub open-held : (os ws gs : List ℕ) (n next : ℕ) → n ≤ length os → someOwned (take n os) ≡ anyOpen (stateIn (held os ws gs n next))
 unfolding stateIn
-open-held os ws gs n next h = by-owners (stateIn (held os ws gs n next)) (take n os) (map-rows (λ (e : Entry). e .owner) (rowOf os ws gs) 0 n ∙ rows-take 0 os n h)
+open-held os ws gs n next h =
+    by-owners (stateIn (held os ws gs n next)) (take n os)
+    (map-rows (λ (e : Entry). e .owner) (rowOf os ws gs) 0 n ∙ rows-take 0 os n h)
 
 pub open-words : (s : List ℕ) → stateSizesOk s ≡ true → {n : ℕ} → n ≡ entryCount s → someOwned (take n (ownersOf s)) ≡ anyOpen (stateOf s)
 unfolding stateOf

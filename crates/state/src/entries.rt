@@ -27,7 +27,7 @@ pub fn entries_ok(z: Sizes, state: &[u32]) -> bool
     let owners = parts::owners_of(state);
     let items = parts::items_of(state);
     // Owner 0 needs no mark.
-    let mut own = [0u64; 1024];
+    let mut own = [0u64; idset::WORDS];
     idset::insert(&mut own, 0);
     if !enter_all(z, state[1], owners, items, &mut own) {
         return false;
@@ -36,11 +36,17 @@ pub fn entries_ok(z: Sizes, state: &[u32]) -> bool
 }
 
 // One pass that keeps the set of the marks met, and adds the transactions that own their own mark.
-fn enter_all(z: Sizes, next: u32, owners: &[u32], items: &[u32], own: &mut [u64; 1024]) -> bool
+fn enter_all(
+    z: Sizes,
+    next: u32,
+    owners: &[u32],
+    items: &[u32],
+    own: &mut [u64; idset::WORDS],
+) -> bool
     requires { ⌜ (length (now owners) ≡ length (now items)) × OwnMarks (now own) [] ⌝ }
     ensures { λ r. ⌜ AllEntered r z next (entriesOf 0 (now (owners .entry)) (now (items .entry))) (now (own .exit)) ⌝ }
 {
-    let mut met = [0u64; 1024];
+    let mut met = [0u64; idset::WORDS];
     let mut i = 0;
     while i < owners.len() {
         if !enter(z, next, owners[i], items[i], &mut met, own) {
@@ -57,11 +63,12 @@ fn enter(
     next: u32,
     owner: u32,
     item: u32,
-    met: &mut [u64; 1024],
-    own: &mut [u64; 1024],
+    met: &mut [u64; idset::WORDS],
+    own: &mut [u64; idset::WORDS],
 ) -> bool
     requires { ⌜ (length (now met) ≡ 1024) × (length (now own) ≡ 1024) ⌝ }
-    ensures { λ r. ⌜ ((place : ℕ) → Entering r (entryOk z next (entryOf place owner item)) (entryOf place owner item) (now (met .entry)) (now (own .entry)) (now (met .exit)) (now (own .exit))) ⌝ }
+    ensures { λ r. ⌜ ((place : ℕ) → Entering r (entryOk z next (entryOf place owner item)) (entryOf place owner item)
+        (now (met .entry)) (now (own .entry)) (now (met .exit)) (now (own .exit))) ⌝ }
 {
     if message_fits(z, owner, item) {
         return true;
@@ -109,11 +116,12 @@ fn enter_mark(
     next: u32,
     owner: u32,
     item: u32,
-    met: &mut [u64; 1024],
-    own: &mut [u64; 1024],
+    met: &mut [u64; idset::WORDS],
+    own: &mut [u64; idset::WORDS],
 ) -> bool
     requires { ⌜ (itemKind item ≡ 3) × (length (now met) ≡ 1024) × (length (now own) ≡ 1024) ⌝ }
-    ensures { λ r. ⌜ ((place : ℕ) → Entering r (markFits next (entryOf place owner item)) (entryOf place owner item) (now (met .entry)) (now (own .entry)) (now (met .exit)) (now (own .exit))) ⌝ }
+    ensures { λ r. ⌜ ((place : ℕ) → Entering r (markFits next (entryOf place owner item)) (entryOf place owner item)
+        (now (met .entry)) (now (own .entry)) (now (met .exit)) (now (own .exit))) ⌝ }
 {
     if !mark_fits(next, owner, item) {
         return false;
@@ -131,7 +139,7 @@ fn enter_mark(
 }
 
 // An owner is a whole word, and the set holds numbers below 65,536.
-fn owner_in(own: &[u64; 1024], owner: u32) -> bool
+fn owner_in(own: &[u64; idset::WORDS], owner: u32) -> bool
     requires { ⌜ length (now own) ≡ 1024 ⌝ }
     ensures { λ r. ⌜ r ≡ has (now (own .entry)) owner ⌝ }
 {
@@ -142,7 +150,7 @@ fn owner_in(own: &[u64; 1024], owner: u32) -> bool
 }
 
 // The second pass: each owner is in the set.
-fn owners_in(own: &[u64; 1024], owners: &[u32]) -> bool
+fn owners_in(own: &[u64; idset::WORDS], owners: &[u32]) -> bool
     requires { ⌜ length (now own) ≡ 1024 ⌝ }
     ensures { λ r. ⌜ r ≡ all (has (now (own .entry))) (now (owners .entry)) ⌝ }
 {

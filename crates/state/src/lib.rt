@@ -25,9 +25,9 @@ ghost use Rattle.state.specs.Arrays.{Arrays, HoldsIn};
 // The entries in use are the first len of each column. Items are as 01 lays them out; an origin is
 // maker × 1024 + index, and next is 01's next ticket N.
 pub struct State {
-    pub owners: [u32; 1024],
-    pub items: [u32; 1024],
-    pub origins: [u32; 1024],
+    pub owners: [u32; State::MAX_ENTRIES],
+    pub items: [u32; State::MAX_ENTRIES],
+    pub origins: [u32; State::MAX_ENTRIES],
     pub len: usize,
     pub next: u32,
 }
@@ -37,13 +37,16 @@ impl State {
 
     pub const MAX_NEXT: u32 = 65536;
 
+    // n, next, and the owner and the item of each entry.
+    pub const MAX_WORDS: usize = 2050;
+
     pub fn empty() -> State
         ensures { λ r. ⌜ Holds r (record { next = 1; entries = [] }) ⌝ }
     {
         State {
-            owners: [0; 1024],
-            items: [0; 1024],
-            origins: [0; 1024],
+            owners: [0; State::MAX_ENTRIES],
+            items: [0; State::MAX_ENTRIES],
+            origins: [0; State::MAX_ENTRIES],
             len: 0,
             next: 1,
         }
@@ -73,9 +76,9 @@ pub struct Loaded {
 // Each entry's origin is its place: maker 0.
 pub fn load(
     state: &[u32],
-    owners: &mut [u32; 1024],
-    items: &mut [u32; 1024],
-    origins: &mut [u32; 1024],
+    owners: &mut [u32; State::MAX_ENTRIES],
+    items: &mut [u32; State::MAX_ENTRIES],
+    origins: &mut [u32; State::MAX_ENTRIES],
 ) -> Loaded
     requires { ⌜ (stateSizesOk (now state) ≡ true) × Arrays (now owners) (now items) (now origins) ⌝ }
     ensures { λ r. ⌜ HoldsIn (held (now (owners .exit)) (now (items .exit)) (now (origins .exit)) (r .len) (r .next)) (stateOf (now (state .entry))) ⌝ }
@@ -91,7 +94,7 @@ pub fn load(
 }
 
 // Each of the first n is its place.
-fn number_column(n: usize, column: &mut [u32; 1024])
+fn number_column(n: usize, column: &mut [u32; State::MAX_ENTRIES])
     requires { ⌜ (n ≤ 1024) × (length (now column) ≡ 1024) ⌝ }
     ensures { λ _. ⌜ Filled 0 (λ k. k) 1024 n (now (column .exit)) ⌝ }
 {
@@ -104,8 +107,8 @@ fn number_column(n: usize, column: &mut [u32; 1024])
 
 // The words of n entries over the target's beginning; answers how many.
 pub fn store<'a>(
-    owners: &'a [u32; 1024],
-    items: &'a [u32; 1024],
+    owners: &'a [u32; State::MAX_ENTRIES],
+    items: &'a [u32; State::MAX_ENTRIES],
     n: usize,
     next: u32,
     target: &mut [u32],
