@@ -130,7 +130,8 @@ module _ {first : ℕ} {begun : List ℕ} {i : ℕ} {s : State} (h : Tracked fir
           marks = reacted-have same R (suc i) s ps (h .marks) (λ e m k. absurd (clash (mark-product R s (picked s ps) (suc i) shape e m k .0) b));
         })
 
-    ended-tracked : (p : Entry → Bool) (b : ℕ) → Tracked first (ifGrown (s .next) (ended p b s .next) begun (s .next - first) ((i + 1) * 1024)) (i + 1) (ended p b s)
+    ended-tracked : (p : Entry → Bool) (b : ℕ) → Tracked first (ifGrown (s .next) (ended p b s .next) begun (s .next - first) ((i + 1) * 1024)) (i + 1)
+        (ended p b s)
     unfolding ended
     ended-tracked p b =
         rw (eq-eqb (s .next) (s .next) refl)
@@ -154,10 +155,12 @@ module _ {first : ℕ} {begun : List ℕ} {i : ℕ} {s : State} (h : Tracked fir
       let (mark, k, kind, owner, value) = sound .right .own e m n in
       let (low, high, is) = h .marks mark k kind in
       let mine : isMarkOf (e .owner) mark ≡ true = and-intro (eq-eqb (mark .kind) 3 kind) (or-true false (eq-eqb (mark .owner) (e .owner) owner)) in
-      let there : Among (mark .origin) (marksOf (e .owner) (s .entries)) = map-among (λ e. e .origin) (keep (isMarkOf (e .owner)) (s .entries)) mark (keep-among (isMarkOf (e .owner)) (s .entries) mark k mine) in
+      let there : Among (mark .origin) (marksOf (e .owner) (s .entries)) = map-among (λ e. e .origin) (keep (isMarkOf (e .owner)) (s .entries)) mark
+          (keep-among (isMarkOf (e .owner)) (s .entries) mark k mine) in
       let word : markBy begun first (e .owner) ≡ getD begun (mark .value - first) 0 = rw (le-leb first (e .owner) (omega arith), value) in
       let same : sameOrigin (originOf (markBy begun first (e .owner))) (mark .origin) ≡ true =
-      and-intro (eq-eqb _ (mark .origin .maker) (ap (λ (o : Origin). o .maker) (ap originOf word ∙ is))) (eq-eqb _ (mark .origin .index) (ap (λ (o : Origin). o .index) (ap originOf word ∙ is))) in (
+      and-intro (eq-eqb _ (mark .origin .maker) (ap (λ (o : Origin). o .maker) (ap originOf word ∙ is)))
+          (eq-eqb _ (mark .origin .index) (ap (λ (o : Origin). o .index) (ap originOf word ∙ is))) in (
         mark .origin,
         there,
         record {
