@@ -24,7 +24,7 @@ use state::entry_count;
 use state::load;
 use state::owners_of;
 use table::begins_emit;
-use words::copy_words;
+use words::copy::copy_words;
 
 // Whether a transaction is open in a state's words.
 fn open_in(state: &[u32]) -> bool

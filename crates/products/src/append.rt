@@ -13,8 +13,8 @@ ghost use Rattle.products.specs.Narrow.{narrowValue, Narrow, Ready};
 ghost use Rattle.products.specs.Products.{ownerOfRole, nextAfter, valueMade, ItemMade, productsFrom};
 use semantics::Atom;
 use semantics::AtomValue;
-use state::item::item_of;
-use state::item::value_of;
+use words::item::item_of;
+use words::item::value_of;
 use table::decode::Rule;
 
 fn kind_made(role: u16) -> u32

@@ -18,10 +18,10 @@ ghost use Rattle.reaction.specs.Places.{Places, column};
 use crate::picks::all_differ;
 use semantics::Refusal;
 use semantics::Verdict;
-use state::item::MESSAGE;
-use state::item::kind_of;
-use state::item::port_of;
 use table::decode::Rule;
+use words::item::MESSAGE;
+use words::item::kind_of;
+use words::item::port_of;
 
 // Whether a message on this port stands at place p.
 fn message_on(items: &[u32; 1024], n: usize, p: usize, port: u16) -> bool

@@ -29,7 +29,8 @@ use Rattle.wellformed.specs.Preservation.{RuleKnown, rule-known}
 use Rattle.cells.specs.Rules.{Shape, plain, begin, inner}
 use Rattle.cells.specs.Shapes.{table-shaped}
 use Rattle.state.specs.declared.State.{State}
-use Rattle.state.specs.Working.{originOf, rowOf, entryIn, stateIn}
+use Rattle.words.specs.Origin.{originOf}
+use Rattle.state.specs.Working.{rowOf, entryIn, stateIn}
 use Rattle.serial.specs.Marks.{isMarkOf, marksOf, OneOf, anyMadeAt}
 use Rattle.serial.specs.Recordings.{wordsAt, concernedBy, markIn, marksEnded}
 use Rattle.serial.proofs.Tracking.{Tracked, no-mark, own-mark}

@@ -15,7 +15,7 @@ use Rattle.semantics.specs.State.{Origin, Entry, State}
 use Rattle.semantics.specs.Move.{Move, react, commit, abort, picksUsed, moveOf, entryAt}
 use Rattle.semantics.specs.Log.{headOf, fourPicks}
 use Rattle.semantics.specs.Serial.{Act, isEnd, placeOf, again}
-use Rattle.state.specs.Working.{originOf}
+use Rattle.words.specs.Origin.{originOf}
 use Rattle.serial.specs.Acts.{Recorded, ActsAgain, idOf, wordsOfMove}
 use Rattle.serial.specs.Replay.{placeIn, headAgain, Words}
 

@@ -16,7 +16,8 @@ use Rattle.lists.specs.Rows.{rows, rowsFrom, rows-tails, rows-whole, length-row
 use Rattle.semantics.specs.State.{Entry}
 use Rattle.semantics.specs.Move.{nothing, entryAt}
 use Rattle.semantics.specs.Serial.{sameOrigin}
-use Rattle.state.specs.Working.{originOf, rowOf}
+use Rattle.words.specs.Origin.{originOf}
+use Rattle.state.specs.Working.{rowOf}
 use Rattle.serial.specs.Replay.{placeIn}
 
 same-word : {w g : ℕ} → g ≡ w → sameOrigin (originOf w) (originOf g) ≡ true

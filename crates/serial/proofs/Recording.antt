@@ -24,7 +24,8 @@ use Rattle.wellformed.specs.Step.{Accepted, accepted}
 use Rattle.wellformed.specs.Held.{Held, step-holds}
 use Rattle.cells.specs.Shapes.{table-shaped}
 use Rattle.state.specs.declared.State.{State}
-use Rattle.state.specs.Working.{originOf, stateIn}
+use Rattle.words.specs.Origin.{originOf}
+use Rattle.state.specs.Working.{stateIn}
 use Rattle.step.specs.Make.{MadeAs}
 use Rattle.run.specs.Runs.{movesFrom, moves-tails, moves-whole, Reached, reached-start, reached-made, reached-refused, reached-end}
 use Rattle.serial.specs.Acts.{Recorded, endsBegun, endAfter}

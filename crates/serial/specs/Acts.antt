@@ -12,7 +12,7 @@ use Rattle.semantics.specs.Move.{Move, react, commit, abort, allowed, moveOk, m
 use Rattle.semantics.specs.Log.{moveAt, headOf, fourPicks}
 use Rattle.semantics.specs.Serial.{Act, after, isEnd, isInner, sameOrigin, placeOf, again, fits}
 use Rattle.semantics.specs.declared.Verdict.the-variants.{Allowed}
-use Rattle.state.specs.Working.{originOf}
+use Rattle.words.specs.Origin.{originOf}
 
 -- o is the origin of a member concerned
 abbrev pub concerns : Act → Origin → Bool

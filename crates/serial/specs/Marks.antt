@@ -9,7 +9,7 @@ use Rattle.lists.specs.Lists.{any, isEmpty, isIn, keep}
 use Rattle.lists.specs.Rows.{rows}
 use Rattle.semantics.specs.State.{Origin, Entry, isMemberMark}
 use Rattle.semantics.specs.Serial.{originsOf, sameOrigin}
-use Rattle.state.specs.Working.{originOf}
+use Rattle.words.specs.Origin.{originOf}
 use Rattle.state.specs.Arrays.{Arrays}
 
 -- three columns of which the first n places are in use

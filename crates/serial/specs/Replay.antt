@@ -16,7 +16,7 @@ use Rattle.semantics.specs.Move.{picksUsed, entryAt}
 use Rattle.semantics.specs.Log.{moveCount, logWords}
 use Rattle.semantics.specs.Serial.{Act, placeOf, replayed}
 use Rattle.state.specs.declared.State.{State}
-use Rattle.state.specs.Working.{originOf}
+use Rattle.words.specs.Origin.{originOf}
 use Rattle.step.specs.Make.{Indexed, Workable}
 use Rattle.log.specs.Form.{LogSized}
 use Rattle.serial.specs.Acts.{Recorded, Replays, replayFits}

@@ -12,8 +12,8 @@ ghost use Rattle.serial.specs.Marks.{Lent, marksOf, NotedAt, RowsNoted};
 ghost use Rattle.serial.specs.Recordings.{marksEnded};
 use crate::chunk::chunk_end;
 use crate::chunk::chunk_has;
-use state::item::MEMBER_MARK;
-use state::item::kind_of;
+use words::item::MEMBER_MARK;
+use words::item::kind_of;
 
 fn is_mark(owner: u32, item: u32, id: u32) -> bool
     ensures { λ r. ⌜ r ≡ eqb (itemKind item) 3 && eqb owner id ⌝ }

@@ -22,7 +22,7 @@ use Rattle.cells.specs.Marks.{MarkAt}
 use Rattle.serializability.specs.SameKey.{LogRuns, next-good, key-bound}
 use Rattle.cells.specs.Steps.{NoneOpen}
 use Rattle.serializability.specs.FollowMark.{seenAfter, log-rest, place-length, ender-not, follow}
-use Rattle.state.specs.Working.{originOf}
+use Rattle.words.specs.Origin.{originOf}
 use Rattle.serial.specs.Acts.{Recorded, concerns, endAfter, keyBy}
 use Rattle.serial_laws.specs.Splits.{place-split, All-split, map-same}
 use Rattle.serial_laws.specs.EndPlace.{BeginsFirst}

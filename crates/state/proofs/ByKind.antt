@@ -1,26 +1,16 @@
 -- An entry by itself: what is asked of it, by its kind.
-use Prim.Native.Nat.{ℕ, zero, suc, _<_}
+use Prim.Native.Nat.{ℕ, zero, suc}
 use mathlib.Core.Path.{_≡_, refl, sym, ap, _∙_}
 use mathlib.Core.Bool.{Bool, true, false, cond, not, _&&_, _||_, or-false}
 use native.Mathlib.Omega.{arith}
 use lib.Dec.{eqb, leb, ltb}
-use borrow.Author.Tests.{eqb-true, leb-true, ltb-true, lt-ltb, eq-eqb, ne-eqb, lt-leb}
+use borrow.Author.Tests.{leb-true, ltb-true, lt-ltb, ne-eqb, lt-leb}
 use Rattle.lists.specs.Lists.{given}
-use Rattle.lists.specs.Tests.{and-both, same-test}
-use Rattle.lists.specs.Choices.{and-three, and-left, and-intro}
-use Rattle.semantics.specs.Words.{itemKind, portOf}
+use Rattle.lists.specs.Choices.{and-three, and-left}
 use Rattle.semantics.specs.Table.{portCount}
 use Rattle.semantics.specs.State.{Entry, isMemberMark, entryOk}
 use Rattle.semantics.specs.declared.Sizes.{Sizes}
 use Rattle.state.specs.Check.{messageFits, otherFits, markFits}
-
--- e is the first item beyond the messages on k ports
-pub messages-end : (w k e : ℕ) → (w < e → (itemKind w ≡ 0) × (portOf w < k)) → (itemKind w ≡ 0 → portOf w < k → w < e)
-    → ltb w e ≡ (eqb (itemKind w) 0 && ltb (portOf w) k)
-messages-end w k e f g =
-    same-test (ltb w e) (eqb (itemKind w) 0 && ltb (portOf w) k)
-    (λ h. let (a, b) = f (ltb-true w e h) in and-intro (eq-eqb (itemKind w) 0 a) (lt-ltb (portOf w) k b))
-    (λ h. let (a, b) = and-both (eqb (itemKind w) 0) (ltb (portOf w) k) h in lt-ltb w e (g (eqb-true (itemKind w) 0 a) (ltb-true (portOf w) k b)))
 
 -- ---- the parts of `entryOk`, by kind
 

@@ -1,5 +1,5 @@
 -- The abstract value of a working state, and what it is to hold one.
-use Prim.Native.Nat.{ℕ, _/_, _%_, _≤_}
+use Prim.Native.Nat.{ℕ, _≤_}
 use mathlib.Core.Path.{_≡_}
 use mathlib.Core.List.{List}
 use lib.ListN.{length, getD}
@@ -7,12 +7,9 @@ use Rattle.lists.specs.Lists.{over}
 use Rattle.lists.specs.Rows.{rows}
 use Rattle.semantics.specs.Words.{itemKind, portOf, valueOf}
 use Rattle.semantics.specs.State as semantics
-use Rattle.semantics.specs.State.{Origin, Entry}
+use Rattle.semantics.specs.State.{Entry}
+use Rattle.words.specs.Origin.{originOf}
 use Rattle.state.specs.declared.State.{State}
-
--- an origin as one word: maker × 1024 + index
-abbrev pub originOf : ℕ → Origin
-originOf o = record { maker = o / 1024; index = o % 1024 }
 
 -- the entry of an owner, an item and an origin
 abbrev pub entryFrom : ℕ → ℕ → ℕ → Entry

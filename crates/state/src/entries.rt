@@ -1,13 +1,13 @@
 // The faults that a state's entries can have (4): each entry by itself, its member marks, its owners.
-use super::item::ABORT_MARK;
-use super::item::COMPENSATION;
-use super::item::MEMBER_MARK;
-use super::item::kind_of;
-use super::item::messages_end;
-use super::item::port_of;
-use super::item::value_of;
-use super::words;
+use super::parts;
 use semantics::Sizes;
+use words::item::ABORT_MARK;
+use words::item::COMPENSATION;
+use words::item::MEMBER_MARK;
+use words::item::kind_of;
+use words::item::messages_end;
+use words::item::port_of;
+use words::item::value_of;
 ghost use Prim.Native.Nat.{ℕ};
 ghost use mathlib.Core.Path.{_≡_};
 ghost use mathlib.Core.Bool.{true};
@@ -24,8 +24,8 @@ pub fn entries_ok(z: Sizes, state: &[u32]) -> bool
     requires { ⌜ stateSizesOk (now state) ≡ true ⌝ }
     ensures { λ r. ⌜ r ≡ entriesOk z (stateOf (now (state .entry))) ⌝ }
 {
-    let owners = words::owners_of(state);
-    let items = words::items_of(state);
+    let owners = parts::owners_of(state);
+    let items = parts::items_of(state);
     // Owner 0 needs no mark.
     let mut own = [0u64; 1024];
     idset::insert(&mut own, 0);

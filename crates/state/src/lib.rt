@@ -1,13 +1,12 @@
 // The state: its check on words, and the working state that a step changes.
 mod entries;
-pub mod item;
-mod words;
+mod parts;
 
+pub use parts::entry_count;
+pub use parts::owners_of;
 use semantics::Refusal;
 use semantics::Sizes;
 use semantics::Verdict;
-pub use words::entry_count;
-pub use words::owners_of;
 ghost use Prim.Native.Nat.{ℕ, _+_, _*_, _≤_};
 ghost use mathlib.Core.Path.{_≡_};
 ghost use mathlib.Core.Bool.{true};
@@ -52,7 +51,7 @@ impl State {
 pub fn check(z: Sizes, state: &[u32]) -> Verdict
     ensures { λ r. ⌜ r ≡ stateOwnVerdict z (now (state .entry)) ⌝ }
 {
-    if !words::sizes_ok(state) {
+    if !parts::sizes_ok(state) {
         return Verdict::Denied(Refusal::StateSizes);
     }
     if !entries::entries_ok(z, state) {
@@ -78,9 +77,9 @@ pub fn load(
     requires { ⌜ (stateSizesOk (now state) ≡ true) × Arrays (now owners) (now items) (now origins) ⌝ }
     ensures { λ r. ⌜ HoldsIn (held (now (owners .exit)) (now (items .exit)) (now (origins .exit)) (r .len) (r .next)) (stateOf (now (state .entry))) ⌝ }
 {
-    let len = words::entry_count(state);
-    fill_column(words::owners_of(state), owners);
-    fill_column(words::items_of(state), items);
+    let len = parts::entry_count(state);
+    fill_column(parts::owners_of(state), owners);
+    fill_column(parts::items_of(state), items);
     number_column(len, origins);
     Loaded {
         len,

@@ -2,8 +2,8 @@
 use mathlib.Core.Path.{refl}
 use native.Mathlib.Omega.{arith}
 use Rattle.wellformed.specs.States.{state-sized}
-use Rattle.state.proofs.words.entry_count.Statement.{statement}
-use Rattle.state.proofs.words.entry_count.Tie as tie
+use Rattle.state.proofs.parts.entry_count.Statement.{statement}
+use Rattle.state.proofs.parts.entry_count.Tie as tie
 
 pub entry-count-spec : {M : Type 1} → statement M
 entry-count-spec =

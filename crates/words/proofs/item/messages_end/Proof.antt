@@ -1,9 +1,9 @@
 -- `messages_end` meets its contract: items of kind 0 stand by their ports.
 use native.Mathlib.Omega.{arith}
 use borrow.Author.Needs.{needs}
-use Rattle.state.proofs.ByKind.{messages-end}
-use Rattle.state.proofs.item.messages_end.Statement.{statement}
-use Rattle.state.proofs.item.messages_end.Tie as tie
+use Rattle.words.proofs.Messages.{messages-end}
+use Rattle.words.proofs.item.messages_end.Statement.{statement}
+use Rattle.words.proofs.item.messages_end.Tie as tie
 
 returns : tie.Need-returns
 returns c = λ w. messages-end w _ _ (λ h. (omega arith, omega arith)) (λ k p. omega arith)

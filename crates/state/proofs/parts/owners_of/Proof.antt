@@ -3,8 +3,8 @@ use mathlib.Core.Path.{ap, _∙_}
 use lib.ListN.{length}
 use borrow.Author.Needs.{needs}
 use Rattle.wellformed.specs.States.{owners-part}
-use Rattle.state.proofs.words.owners_of.Statement.{statement}
-use Rattle.state.proofs.words.owners_of.Tie as tie
+use Rattle.state.proofs.parts.owners_of.Statement.{statement}
+use Rattle.state.proofs.parts.owners_of.Tie as tie
 
 returns : tie.Need-returns
 returns c =

@@ -3,8 +3,8 @@ use mathlib.Core.Path.{ap, _∙_}
 use lib.ListN.{length}
 use borrow.Author.Needs.{needs}
 use Rattle.wellformed.specs.States.{items-part}
-use Rattle.state.proofs.words.items_of.Statement.{statement}
-use Rattle.state.proofs.words.items_of.Tie as tie
+use Rattle.state.proofs.parts.items_of.Statement.{statement}
+use Rattle.state.proofs.parts.items_of.Tie as tie
 
 returns : tie.Need-returns
 returns c =

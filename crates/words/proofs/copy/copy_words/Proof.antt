@@ -7,8 +7,8 @@ use native.Mathlib.Omega.{arith}
 use borrow.Author.Needs.{needs}
 use lib.ListN.{length}
 use Rattle.lists.specs.Over.{Pasting, pasting-start, pasting-next, pasting-done, over-column}
-use Rattle.words.proofs.copy_words.Statement.{statement}
-use Rattle.words.proofs.copy_words.Tie as tie
+use Rattle.words.proofs.copy.copy_words.Statement.{statement}
+use Rattle.words.proofs.copy.copy_words.Tie as tie
 
 abbrev Inv : tie.InvT-loop
 Inv from n target₀ i₀ target i = Pasting target₀ 0 from n i target

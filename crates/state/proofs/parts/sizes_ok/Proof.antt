@@ -5,8 +5,8 @@ use borrow.Author.Tests.{lt-leb, le-leb}
 use Rattle.lists.specs.Tests.{and-false, and-true}
 use mathlib.Core.Path.{sym}
 use Rattle.semantics.specs.State.{stateSizesOk}
-use Rattle.state.proofs.words.sizes_ok.Statement.{statement}
-use Rattle.state.proofs.words.sizes_ok.Tie as tie
+use Rattle.state.proofs.parts.sizes_ok.Statement.{statement}
+use Rattle.state.proofs.parts.sizes_ok.Tie as tie
 
 returns : tie.Need-returns
 unfolding stateSizesOk

@@ -1,6 +1,5 @@
-// The fields of an item, kind × 2^24 + port × 2^16 + value: the only code that knows how it holds
-// them; and its kinds.
-ghost use Prim.Native.Nat.{ℕ, _<_};
+// An item, kind × 2^24 + port × 2^16 + value; and its kinds.
+ghost use Prim.Native.Nat.{ℕ, _%_, _^_, _<_};
 ghost use mathlib.Core.Path.{_≡_};
 ghost use mathlib.Core.Bool.{_&&_};
 ghost use lib.Dec.{eqb, ltb};
@@ -51,4 +50,11 @@ pub fn item_of(kind: u32, port: u32, value: u32) -> u32
     ensures { λ r. ⌜ r ≡ itemWord kind port value ⌝ }
 {
     kind * 16777216 + port * 65536 + value
+}
+
+// The same port and value as a message.
+pub fn as_message(item: u32) -> u32
+    ensures { λ r. ⌜ r ≡ item % 2 ^ 24 ⌝ }
+{
+    item % 16777216
 }
