@@ -11,13 +11,13 @@ slice-write-target-2 : tie.Need-slice-write-target-2
 slice-write-target-2 c = simp length-set (omega arith)
 
 put-column-requires : tie.Need-put-column-requires
-put-column-requires c κs = let start = c .before .before .pre in (start .0, start .1, simp length-set (omega arith))
+put-column-requires c κs = let start = c .before .before .pre in (start .0 .fits, start .0 .owners, simp length-set (omega arith))
 
 put-column-requires-2 : tie.Need-put-column-requires-2
 put-column-requires-2 c κs =
     let first = c .before .before .before in
     let start = first .before .before .before .pre in
-    (start .0, start .2, omega (arith, simp length-set at (first .put-column .ensures .size)))
+    (start .0 .fits, start .0 .items, omega (arith, simp length-set at (first .put-column .ensures .size)))
 
 same-length : tie.Need-same-length
 same-length c = simp length-set at (c .before .before .put-column2 .ensures .size ∙ c .before .before .before .before .before .before .put-column .ensures .size)
@@ -26,7 +26,7 @@ returns : tie.Need-returns
 returns c =
     let first = c .before .before .before .before .before .before in
     let start = first .before .before .before .pre in
-    λ gs. stored-words _ _ _ _ (start .1) (start .2) (start .0) (start .3) (first .put-column .ensures) (c .before .before .put-column2 .ensures)
+    λ gs. stored-words _ _ _ _ (start .0 .owners) (start .0 .items) (start .0 .fits) (start .1) (first .put-column .ensures) (c .before .before .put-column2 .ensures)
 
 pub store-spec : {M : Type 1} → statement M
 store-spec =
