@@ -140,7 +140,7 @@ pub struct Rule {
     pub find: fn(&Tree) -> Vec<Finding>,
 }
 
-pub const RULES: [Rule; 14] = [
+pub const RULES: [Rule; 17] = [
     Rule { name: "cited", says: "something cites every definition and law", find: cites::uncited },
     Rule {
         name: "theorems",
@@ -148,12 +148,21 @@ pub const RULES: [Rule; 14] = [
         find: cites::listed,
     },
     Rule { name: "names", says: "a public name stands at the top of one file", find: names::declared_twice },
+    Rule {
+        name: "module names",
+        says: "a public law, inside modules too, has a name that no other file's has",
+        find: names::laws_named_twice,
+    },
     Rule { name: "statements", says: "a statement is proved in one file", find: names::stated_twice },
     Rule { name: "functions", says: "a function has at most 40 lines", find: code::long_functions },
     Rule { name: "columns", says: "a line of src/ and specs/ has at most 160 columns", find: code::wide_code },
-    Rule { name: "proof columns", says: "and so has a line of proofs/", find: code::wide_proofs },
+    Rule { name: "proof columns", says: "a line of proofs/ has at most 160 columns", find: code::wide_proofs },
     Rule { name: "fields", says: "code takes words apart in the modules of their fields", find: code::fields_in_code },
-    Rule { name: "spec fields", says: "so do definitions and laws", find: code::fields_in_specs },
+    Rule {
+        name: "spec fields",
+        says: "definitions and laws take words apart where their fields are defined",
+        find: code::fields_in_specs,
+    },
     Rule {
         name: "heads",
         says: "a file of specs/ or proofs/ begins by saying what it holds",
@@ -166,6 +175,8 @@ pub const RULES: [Rule; 14] = [
         find: pages::stale_edits,
     },
     Rule { name: "crates", says: "docs/ARCHITECTURE.md has the crates of crates.txt", find: pages::crates_named },
+    Rule { name: "layers", says: "crates.txt goes from low to high and has only what is needed", find: pages::layers },
+    Rule { name: "pages", says: "the files and names that a page shows are there", find: pages::stale_names },
     Rule { name: "outside", says: "no text points outside the repository", find: pages::outside },
 ];
 

@@ -32,6 +32,12 @@ fn a_name_is_declared_once() {
 
 #[test]
 #[ignore = "the tree has findings"]
+fn a_law_has_its_own_name() {
+    holds("module names");
+}
+
+#[test]
+#[ignore = "the tree has findings"]
 fn a_statement_is_proved_once() {
     holds("statements");
 }
@@ -87,6 +93,18 @@ fn edits_change_one_place() {
 #[ignore = "the tree has findings"]
 fn the_architecture_has_the_crates() {
     holds("crates");
+}
+
+#[test]
+#[ignore = "the tree has findings"]
+fn crates_stand_in_layers() {
+    holds("layers");
+}
+
+#[test]
+#[ignore = "the tree has findings"]
+fn pages_name_what_is_there() {
+    holds("pages");
 }
 
 #[test]

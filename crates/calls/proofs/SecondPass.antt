@@ -19,7 +19,7 @@ use Rattle.semantics.specs.declared.Outcome.the-variants.{Written, Refused}
 use Rattle.serializability.specs.Demand3.{demand3}
 use Rattle.log.specs.Form.{LogSized, log-sized}
 use Rattle.semantics.specs.Move.{Move}
-use Rattle.wellformed.specs.Verdicts.{state-given}
+use Rattle.wellformed.specs.States.{state-given}
 use Rattle.state.specs.declared.State.{State}
 use Rattle.state.specs.Working.{stateIn}
 use Rattle.state.specs.Arrays.{HoldsIn}

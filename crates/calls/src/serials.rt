@@ -11,7 +11,7 @@ ghost use Rattle.state.specs.Arrays.{Arrays};
 ghost use Rattle.calls.specs.Serials.{Serializable, Roomy, SerializedAs, Reorderable, ReorderedAs};
 use crate::checks::ready;
 use log::count_of;
-use opened::any_open;
+use rules::emits::begins_emit;
 use semantics::Outcome;
 use semantics::Refusal;
 use semantics::Verdict;
@@ -20,10 +20,10 @@ use serial::order::order_of;
 use serial::record::record;
 use serial::replay::replay;
 use state::State;
+use state::any_open;
 use state::entry_count;
 use state::load;
 use state::owners_of;
-use table::begins_emit;
 use words::copy::copy_words;
 
 // Whether a transaction is open in a state's words.

@@ -8,9 +8,9 @@ use lib.Dec.{eqb, ltb}
 use borrow.Author.Tests.{eqb-true, eq-eqb, ne-eqb}
 use Rattle.lists.specs.Lists.{all, isEmpty, isIn, least}
 use Rattle.lists.specs.Tests.{or-right-true}
-use Rattle.lists.specs.Choices.{clash, and-left, and-right, and-intro}
+use Rattle.lists.specs.Choices.{by-bool, clash, and-left, and-right, and-intro}
 use Rattle.lists.specs.Numbers.{isIn-head, isIn-one, least-in}
-use Rattle.semantics.specs.Table.{Table, Rule, ruleAt, consumed, productAtoms}
+use Rattle.semantics.specs.Table.{Table, Rule, ruleAt, consumed, productAtoms, begins}
 use Rattle.semantics.specs.State.{Origin, Entry, isMessage, isAbortMark, isMemberMark, owned}
 use Rattle.semantics.specs.Move.{Move, react, commit, abort, onPorts, ownersFit, merged, toGlobal}
 use Rattle.semantics.specs.Serial.{isEnd, isBegin}
@@ -95,6 +95,28 @@ Whole t f b os (react r ps) = Unit
 Whole t f b os (commit c) = ((o : Origin) (e : Entry) → f o ≡ some e → e .owner ≡ b → mayLeave t e ≡ true) × AllMarks f b os
 Whole t f b os (abort c) = ((o : Origin) × (e : Entry) × (f o ≡ some e) × (e .owner ≡ b) × (isAbortMark e ≡ true)) × AllMarks f b os
 
+-- whether a cell holds a member mark of one of the transactions bs
+abbrev pub markIn : List ℕ → Option Entry → Bool
+markIn bs none = false
+markIn bs (some e) = isIn (e .owner) bs && isMemberMark e
+
+-- the members ms of a reaction that begins nothing are those of the transactions bs that it touches
+abbrev pub Inside : Table → Cells → List ℕ → List Origin → Move → Type 0
+Inside t f bs ms (react r ps) = begins (ruleAt t r) ≡ false → (o : Origin) → markIn bs (f o) ≡ isInO o ms
+Inside t f bs ms (commit b) = Unit
+Inside t f bs ms (abort b) = Unit
+
+-- it goes by the entries of these transactions alone
+pub mark-same : (bs : List ℕ) (x y : Option Entry) → ((e : Entry) → x ≡ some e → isIn (e .owner) bs ≡ true → y ≡ some e)
+    → ((e : Entry) → y ≡ some e → isIn (e .owner) bs ≡ true → x ≡ some e) → markIn bs x ≡ markIn bs y
+mark-same bs none none forth back = refl
+mark-same bs none (some e) forth back = by-bool (isIn (e .owner) bs) (λ k. absurd (none-some (back e refl k))) (λ k. rw k)
+mark-same bs (some e) none forth back = by-bool (isIn (e .owner) bs) (λ k. absurd (none-some (forth e refl k))) (λ k. rw k)
+mark-same bs (some e) (some d) forth back =
+    by-bool (isIn (e .owner) bs) (λ k. ap (λ (z : Entry). isIn (z .owner) bs && isMemberMark z) (sym (some-inj (forth e refl k))))
+    (λ k. by-bool (isIn (d .owner) bs)
+    (λ l. absurd (clash l (subst (λ (z : Entry). isIn (z .owner) bs ≡ false) (some-inj (back d refl l)) k))) (λ l. rw (k, l)))
+
 pub record Ok (t : Table) (F : Seen) (a : Deed) : Type 0 where
   pub es : List Entry
   pub found : map (F .cell) (a .picks) ≡ map some es
@@ -105,6 +127,7 @@ pub record Ok (t : Table) (F : Seen) (a : Deed) : Type 0 where
   pub fresh : (o : Origin) → o .maker ≡ suc (a .place) → F .cell o ≡ none
   pub unused : isBegin t (a .move) ≡ true → (o : Origin) (e : Entry) → F .cell o ≡ some e → isIn (e .owner) (a .touched) ≡ false
   pub whole : Whole t (F .cell) (least (a .touched)) (a .picks) (a .move)
+  pub inside : Inside t (F .cell) (a .touched) (a .members) (a .move)
 
 -- the moves are all allowed, one after another from F, and lead to G
 abbrev pub Runs : Table → Seen → List Deed → Seen → Type 0

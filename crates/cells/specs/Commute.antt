@@ -18,7 +18,7 @@ use Rattle.cells.specs.Origins.{orElse, bindO, isInO, look, some-inj, is
 use Rattle.cells.specs.Rules.{values}
 use Rattle.cells.specs.Deeds.{Deed}
 use Rattle.cells.specs.Cells.{Cells, Action, apply, mine, Local, frame-keep, frame-from, not-in, swap-cells}
-use Rattle.cells.specs.Actions.{Seen, cellValue, received, actionBy, actionOf, astep, later, room, Tests, AllMarks, Whole, Ok, mine-in, one-in, act-local}
+use Rattle.cells.specs.Actions.{Seen, cellValue, received, actionBy, actionOf, astep, later, room, Tests, AllMarks, Whole, Inside, mark-same, Ok, mine-in, one-in, act-local}
 
 -- they touch no transaction in common, and neither takes what the other takes
 pub record Apart (m x : Deed) : Type 0 where
@@ -123,6 +123,14 @@ module _ (t : Table) (F : Seen) (m x : Deed) (P : Apart m x) (km : Ok t F m) (kx
             (w .1),
       )
 
+  inside-after : Inside t f2 (m .touched) (m .members) (m .move)
+  inside-after = go (m .move) (km .inside)
+    where
+      go : (mv : Move) → Inside t (F .cell) (m .touched) (m .members) mv → Inside t f2 (m .touched) (m .members) mv
+      go (react r ps) w = λ b o. mark-same (m .touched) (f2 o) (F .cell o) (λ e h k. theirs-before o e h k) (λ e h k. theirs-after o e h k) ∙ w b o
+      go (commit b) w = tt
+      go (abort b) w = tt
+
   pub ok-after : room (isBegin t (m .move)) (astep t F x .next) ≡ true → Ok t (astep t F x) m
   unfolding astep f2 B
   ok-after rm = record {
@@ -135,6 +143,7 @@ module _ (t : Table) (F : Seen) (m x : Deed) (P : Apart m x) (km : Ok t F m) (kx
     fresh = fresh-after;
     unused = unused-after;
     whole = whole-after;
+    inside = inside-after;
   }
 
   -- what m does after x is what it does before

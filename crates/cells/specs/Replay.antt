@@ -1,5 +1,6 @@
 -- The serial log: moves that are allowed on the cells one after another are accepted, each again on the entries of the same origins.
-use mathlib.Core.Path.{_≡_, refl, sym, subst}
+use mathlib.Core.Path.{_≡_, refl, sym, ap, subst, _∙_}
+use mathlib.Core.Bool.{false}
 use mathlib.Core.List.{List, [], _∷_, map}
 use Prim.Native.Nat.{ℕ, suc}
 use native.Mathlib.Omega.{arith}
@@ -8,7 +9,7 @@ use Rattle.lists.specs.Each.{All}
 use Rattle.semantics.specs.Table.{Table}
 use Rattle.semantics.specs.State.{Origin, State, markValues}
 use Rattle.semantics.specs.Move.{Move, react, commit, abort, picked, entriesIn, allowed, applied}
-use Rattle.semantics.specs.Serial.{Act, originsOf, marksIn, after, again}
+use Rattle.semantics.specs.Serial.{Act, originsOf, marksIn, membersOf, after, isBegin, again}
 use Rattle.semantics.specs.declared.Verdict.the-variants.{Allowed}
 use Rattle.wellformed.specs.Rules.{TableRight}
 use Rattle.wellformed.specs.Entries.{Sound}
@@ -34,6 +35,7 @@ pub data Again (c : State) (os : List Origin) : Move → Move → Type 0 where
 
 pub record Next (t : Table) (c : State) (F : Seen) (a : Deed) (m : Move) : Type 0 where
   pub again : Again c (a .picks) (a .move) m
+  pub members : isBegin t (a .move) ≡ false → (o : Origin) → isInO o (membersOf t (a .place) c m) ≡ isInO o (a .members)
   pub allows : allowed t c m ≡ Allowed
   pub names : ℕ → ℕ
   pub rel : Rel (applied t (suc (a .place)) c m) (astep t F a) names
@@ -46,6 +48,7 @@ module _ (t : Table) (sd : Shaped t) (c : State) (F : Seen) (ρ : ℕ → ℕ) (
   unfolding again astep actionBy applied
   react-next r ps k = record {
     again = reacts r ps (React.qs t sd c F ρ rel a r ps k) (React.seen-again t sd c F ρ rel a r ps k .1);
+    members = React.members-again t sd c F ρ rel a r ps k;
     allows = react-allowed t c r (React.qs t sd c F ρ rel a r ps k) (React.passes t sd c F ρ rel a r ps k);
     names = React.ρ′ t sd c F ρ rel a r ps k;
     rel = React.rel-react t sd c F ρ rel a r ps k;
@@ -59,6 +62,7 @@ module _ (t : Table) (sd : Shaped t) (c : State) (F : Seen) (ρ : ℕ → ℕ) (
       let b = ρ (least (a .touched)) in
       let moved : Next t c F d (commit b) = record {
         again = commits x b (End.members-same c F ρ rel N d E) (smallest c (rel .uniq) N b (End.own-there c F ρ rel N d E));
+        members = λ _ o. End.members-same c F ρ rel N d E o ∙ ap (isInO o) (sym (E .members));
         allows = rw (End.open-there c F ρ rel N d E, End.may-commit c F ρ rel N d E t (k .whole .0));
         names = ρ;
         rel = End.rel-end c F ρ rel N d E 0 (omega arith);
@@ -73,6 +77,7 @@ module _ (t : Table) (sd : Shaped t) (c : State) (F : Seen) (ρ : ℕ → ℕ) (
       let b = ρ (least (a .touched)) in
       let moved : Next t c F d (abort b) = record {
         again = aborts x b (End.members-same c F ρ rel N d E) (smallest c (rel .uniq) N b (End.own-there c F ρ rel N d E));
+        members = λ _ o. End.members-same c F ρ rel N d E o ∙ ap (isInO o) (sym (E .members));
         allows = rw (End.open-there c F ρ rel N d E, End.may-abort c F ρ rel N d E (k .whole .0));
         names = ρ;
         rel = End.rel-end c F ρ rel N d E 1 (omega arith);
@@ -94,10 +99,14 @@ abbrev pub Goes : Table → State → List Act → State → Type 0
 Goes t c [] e = c ≡ e
 Goes t c (a ∷ xs) e = (allowed t c (again c a (a .move)) ≡ Allowed) × Goes t (after t (suc (a .place)) c (again c a (a .move))) xs e
 
+-- m is a again in c: on the same picks and with the same members
+pub record AgainAs (t : Table) (c : State) (a : Deed) (m : Move) : Type 0 where
+  pub same : Again c (a .picks) (a .move) m
+  pub members : isBegin t (a .move) ≡ false → (o : Origin) → isInO o (membersOf t (a .place) c m) ≡ isInO o (a .members)
+
 abbrev pub Agains : Table → State → List Deed → Type 0
 Agains t c [] = Unit
-Agains t c (a ∷ xs) = Uniq (c .entries) × Again c (a .picks) (a .move) (again c (actOf a) (a .move)) × Agains t
-    (after t (suc (a .place)) c (again c (actOf a) (a .move))) xs
+Agains t c (a ∷ xs) = Uniq (c .entries) × AgainAs t c a (again c (actOf a) (a .move)) × Agains t (after t (suc (a .place)) c (again c (actOf a) (a .move))) xs
 
 pub record Ends (t : Table) (c : State) (xs : List Deed) (G : Seen) : Type 0 where
   pub state : State
@@ -131,4 +140,4 @@ replay-runs t right sd (a ∷ xs) c F G ρ rel sound known h =
     let still = applied-keeps right sound (suc (a .place)) m (again-known t c (actOf a) (a .move) (known .0)) (n .allows) in
     let e = replay-runs t right sd xs (after t (suc (a .place)) c m) (astep t F a) G (n .names) (subst (λ (x : State). Rel x (astep t F a) (n .names)) q (n .rel))
     (subst (Sound (t .sizes)) q still) (known .1) (h .1) in
-    record { state = e .state; names = e .names; goes = (n .allows, e .goes); agains = (rel .uniq, n .again, e .agains); rel = e .rel; sound = e .sound }
+    record { state = e .state; names = e .names; goes = (n .allows, e .goes); agains = (rel .uniq, record { same = n .again; members = n .members }, e .agains); rel = e .rel; sound = e .sound }

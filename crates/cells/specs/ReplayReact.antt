@@ -17,17 +17,17 @@ use Rattle.lists.specs.Each.{All}
 use Rattle.semantics.specs.Table.{Table, Rule, ruleAt, consumed, productAtoms, begins}
 use Rattle.semantics.specs.State.{Origin, Entry, State}
 use Rattle.semantics.specs.Move.{react, picked, onPorts, ownersAt, ownersFit, merged, reacted}
-use Rattle.semantics.specs.Serial.{originsOf}
+use Rattle.semantics.specs.Serial.{originsOf, membersOf}
 use Rattle.wellformed.specs.Picks.{ReactGiven}
 use Rattle.cells.specs.Origins.{orElse, omap, bindO, isInO, distinctO, look, none-some, is-none}
 use Rattle.cells.specs.ByOrigin.{look-map, ports-messages, picks-distinct}
 use Rattle.cells.specs.Rules.{Shape, plain, begin, inner, Shaped, owners, values, touchedBy, touched-plain, touched-begin, touched-inner, touched-merge, make}
 use Rattle.cells.specs.Deeds.{Deed, withMove}
 use Rattle.cells.specs.Cells.{apply, apply-inv}
-use Rattle.cells.specs.Actions.{Seen, strip, received, reactAction, actionBy, later, Tests, Ok}
+use Rattle.cells.specs.Actions.{Seen, strip, received, reactAction, actionBy, later, Tests, markIn, Ok}
 use Rattle.cells.specs.Commute.{values-found}
 use Rattle.cells.specs.Moves.{productsOf, look-reacted, uniq-reacted}
-use Rattle.cells.specs.Simulation.{view, view-cell, cell-eq}
+use Rattle.cells.specs.Simulation.{view, view-cell, cell-eq, mark-nowhere, marks-listed}
 use Rattle.cells.specs.Marks.{From, came, owner-live}
 use Rattle.cells.specs.Steps.{later-le}
 use Rattle.cells.specs.Rename.{rename, Live, Rel, ports-rename, owners-rename, values-rename, fit-rename, make-rename, cell-rename, back-again, nowAt, picked-again, live-zero}
@@ -146,6 +146,27 @@ module _ (t : Table) (sd : Shaped t) (c : State) (F : Seen) (ρ : ℕ → ℕ) (
       go (inner z b n k) = ap (isIn (ρ v)) (bs′-inner z b) ∙ by-bool (isIn v bs)
           (λ x. isIn-map ρ v bs x ∙ sym x)
           (λ x. is-false (isIn (ρ v) (map ρ bs)) (λ y. other x (isIn-unmap ρ (ρ v) bs y) (bs-inner z b)) ∙ sym x)
+
+  -- ---- the members
+
+  mark-named : (o : Origin) → markIn bs′ (omap (rename ρ) (F .cell o)) ≡ markIn bs (F .cell o)
+  mark-named o = go (F .cell o) refl
+    where
+      go : (x : Option Entry) → F .cell o ≡ x → markIn bs′ (omap (rename ρ) x) ≡ markIn bs x
+      go none h = refl
+      go (some e) h = rw (touched-same o e h)
+
+  -- made in the same members
+  pub members-again : begins R ≡ false → (o : Origin) → isInO o (membersOf t (a .place) c (react r qs)) ≡ isInO o (a .members)
+  members-again bare o = members ∙ ap (markIn bs′) (rel .cells o) ∙ mark-named o ∙ K .inside bare o
+    where
+      members : isInO o (membersOf t (a .place) c (react r qs)) ≡ markIn bs′ (view c .cell o)
+      members = go (sd r)
+        where
+          go : Shape R → isInO o (membersOf t (a .place) c (react r qs)) ≡ markIn bs′ (view c .cell o)
+          go (plain z b h) = rw (z, b) (sym (mark-nowhere (view c .cell o)))
+          go (begin z b h m rest x w k) = absurd (clash b bare)
+          go (inner z b h k) = rw (z, b) (sym (marks-listed os′ c (rel .uniq) o))
 
   -- ---- the cells afterwards
 

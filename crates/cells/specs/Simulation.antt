@@ -9,21 +9,22 @@ use lib.Dec.{eqb, ltb}
 use borrow.Author.Tests.{eqb-true, eq-eqb, ne-eqb, ltb-true}
 use lib.ListN.{length}
 use Rattle.lists.specs.Lists.{all, any, isEmpty, isIn, keep, least}
-use Rattle.lists.specs.Choices.{and-left, and-right, and-intro}
+use Rattle.lists.specs.Tests.{same-test}
+use Rattle.lists.specs.Choices.{clash, and-left, and-right, and-intro}
 use Rattle.lists.specs.Numbers.{isIn-head, isIn-cons, isIn-one}
 use Rattle.lists.specs.Each.{All, All-map, All-keep, all-kept}
 use Rattle.semantics.specs.Table.{Table, Rule, ruleAt, consumed, productAtoms, begins}
 use Rattle.semantics.specs.State.{Origin, Entry, State, isMessage, isAbortMark, isMemberMark, owned}
 use Rattle.semantics.specs.Move.{Move, react, commit, abort, isZero, entryAt, picked, onPorts, ownersFit, merged, reacted, toGlobal, isOpen, entriesIn, mayCommit, mayAbort, ended, allowed, applied}
-use Rattle.semantics.specs.Serial.{originsOf}
+use Rattle.semantics.specs.Serial.{originsOf, marksIn, membersOf}
 use Rattle.semantics.specs.declared.Verdict.the-variants.{Allowed}
 use Rattle.wellformed.specs.Picks.{ReactGiven}
 use Rattle.cells.specs.Origins.{orElse, orElse-none, omap, bindO, isInO, look, none-some, look-all, is-none, omap-some}
-use Rattle.cells.specs.ByOrigin.{look-map, Uniq, look-head, look-deeper, look-at, uniq-keep, ports-head, ports-tail, ports-messages, ports-range, picks-distinct, any-look, look-kept, kept-look, look-isIn}
+use Rattle.cells.specs.ByOrigin.{look-map, Uniq, look-head, look-deeper, look-at, uniq-keep, ports-head, ports-tail, ports-messages, ports-range, picks-distinct, any-look, look-kept, kept-look, origin-look, look-isIn}
 use Rattle.cells.specs.Rules.{Shape, plain, begin, inner, Shaped, owners, values, touchedBy, global-fit, touched-begin, touched-inner, touched-least, touched-positive, touched-merge, make}
 use Rattle.cells.specs.Deeds.{touched, handled, deedAt}
 use Rattle.cells.specs.Cells.{Cells, apply, mine}
-use Rattle.cells.specs.Actions.{StepOk, Seen, strip, cellValue, left, endAction, actionBy, astep, markOf, AllMarks, mayLeave, Ok, mine-in, mine-zero, later}
+use Rattle.cells.specs.Actions.{StepOk, Seen, strip, cellValue, left, endAction, actionBy, astep, markOf, AllMarks, mayLeave, markIn, Ok, mine-in, mine-zero, later}
 use Rattle.cells.specs.Commute.{values-found}
 use Rattle.cells.specs.Moves.{productsOf, look-reacted, uniq-reacted, ofKind, look-ended, uniq-ended, react-passes, commit-passes, abort-passes}
 
@@ -64,6 +65,37 @@ pub record Sim (t : Table) (i k : ℕ) (s : State) (m : Move) : Type 0 where
   pub uniq : Uniq (applied t (suc i) s m .entries)
 
 -- ---- reactions
+
+mark-strip : (bs : List ℕ) (x : Option Entry) → markIn bs (omap strip x) ≡ markIn bs x
+mark-strip bs none = refl
+mark-strip bs (some e) = refl
+
+pub mark-nowhere : (x : Option Entry) → markIn [] x ≡ false
+mark-nowhere none = refl
+mark-nowhere (some e) = refl
+
+-- the marks of some transactions, listed
+pub marks-listed : (bs : List ℕ) (s : State) → Uniq (s .entries) → (o : Origin) → markIn bs (view s .cell o) ≡ isInO o (marksIn bs s)
+marks-listed bs s u o =
+    ap (markIn bs) (view-cell s o) ∙ mark-strip bs (look o (s .entries)) ∙ same-test (markIn bs (look o (s .entries))) (isInO o (marksIn bs s)) forth back
+  where
+    p : Entry → Bool
+    p e = isMemberMark e && isIn (e .owner) bs
+
+    there : (x : Option Entry) → look o (s .entries) ≡ x → markIn bs x ≡ true → isInO o (marksIn bs s) ≡ true
+    there none w h = absurd (false≢true h)
+    there (some e) w h =
+        look-isIn o (keep p (s .entries)) e (look-kept p o (s .entries) e u w
+        (and-intro (and-right (isIn (e .owner) bs) (isMemberMark e) h) (and-left (isIn (e .owner) bs) (isMemberMark e) h)))
+
+    forth : markIn bs (look o (s .entries)) ≡ true → isInO o (marksIn bs s) ≡ true
+    forth h = there (look o (s .entries)) refl h
+
+    back : isInO o (marksIn bs s) ≡ true → markIn bs (look o (s .entries)) ≡ true
+    back h =
+        let q = origin-look o (keep p (s .entries)) h in
+        let k = kept-look p o (s .entries) (q .0) u (q .1) in
+        rw (k .0) (and-intro (and-right (isMemberMark (q .0)) (isIn (q .0 .owner) bs) (k .1)) (and-left (isMemberMark (q .0)) (isIn (q .0 .owner) bs) (k .1)))
 
 pub view-found : (ts : List ℕ) (l : List Entry) (ps : List ℕ) → Uniq l → onPorts ts (map (entryAt l) ps) ≡ true
     → map (λ o. look o (map strip l)) (originsOf (map (entryAt l) ps)) ≡ map some (map (entryAt l) ps)
@@ -123,6 +155,14 @@ module _ (t : Table) (sd : Shaped t) (i k : ℕ) (s : State) (r : ℕ) (ps : Lis
   pub fresh-list : (o : Origin) → o .maker ≡ suc i → look o (s .entries) ≡ none
   fresh-list o h = is-none (look o (s .entries)) (λ e q. none-some (sym (fresh-view o h) ∙ view-look s o e q))
 
+  inside-react : begins R ≡ false → (o : Origin) → markIn bs (view s .cell o) ≡ isInO o (membersOf t i s (react r ps))
+  inside-react bare o = go (sd r)
+    where
+      go : Shape R → markIn bs (view s .cell o) ≡ isInO o (membersOf t i s (react r ps))
+      go (plain c b h) = rw (c, b) (mark-nowhere (view s .cell o))
+      go (begin c b h m rest q w x) = absurd (clash b bare)
+      go (inner c b h x) = rw (c, b) (marks-listed (owners es) s u o)
+
   pub ok-react : Ok t (view s) (deedAt t i k s (react r ps))
   unfolding view handled touched
   ok-react = record {
@@ -135,6 +175,7 @@ module _ (t : Table) (sd : Shaped t) (i k : ℕ) (s : State) (r : ℕ) (ps : Lis
     fresh = fresh-view;
     unused = λ op o e h. unused-react R (s .next) (e .owner) (owners es) op (g .below o e h);
     whole = tt;
+    inside = inside-react;
   }
 
   pub values-eq : values es ≡ map (λ o. cellValue (view s .cell o)) (originsOf es)
@@ -262,6 +303,7 @@ module _ (t : Table) (i k : ℕ) (s : State) (b : ℕ) (u : Uniq (s .entries)) (
               (eq-eqb (v .0 .owner) b (ap (λ (x : Entry). x .owner) (v .2) ∙ q))))),
           all-marks,
         );
+        inside = tt;
       };
       place = refl;
       tick = λ h. absurd (false≢true h);
@@ -289,6 +331,7 @@ module _ (t : Table) (i k : ℕ) (s : State) (b : ℕ) (u : Uniq (s .entries)) (
               (q .0, strip (q .1), view-look s (q .0) (q .1) (k .0), eqb-true (q .1 .owner) b (k .1), q .3)),
           all-marks,
         );
+        inside = tt;
       };
       place = refl;
       tick = λ h. absurd (false≢true h);

@@ -49,7 +49,7 @@ named-of z s u right = record {
   own = λ o d h n. here (d .owner) (right .own d (look-among o (s .entries) d h) n);
 }
   where
-    here : (v : ℕ) → Entries.OwnMark (s .entries) v → OwnMark (s .entries) v
+    here : (v : ℕ) → Entries.HasOwnMark (s .entries) v → OwnMark (s .entries) v
     here v (m, a, k, w, x) = (m .origin, m, among-look (s .entries) u m a, k, w, x)
 
 -- ---- the smallest id

@@ -15,7 +15,7 @@ use Rattle.cells.specs.Origins.{isInO, look, some-inj, found-at, map-fra
 use Rattle.cells.specs.Deeds.{Deed}
 use Rattle.cells.specs.Cells.{Cells, Action, apply, mine, Local, Inner, frame-keep, frame-back, frame-lives, not-in}
 use Rattle.cells.specs.Commute.{Apart, room-down, room-up, gone-picked, ok-after, same-either}
-use Rattle.cells.specs.Actions.{Seen, received, actionBy, actionOf, astep, Tests, AllMarks, Whole, Ok, one-in, act-local, act-inner}
+use Rattle.cells.specs.Actions.{Seen, received, actionBy, actionOf, astep, Tests, AllMarks, Whole, Inside, mark-same, Ok, one-in, act-local, act-inner}
 
 -- two moves of the log, the first of which may be made after the second
 pub record Swap (t : Table) (m x : Deed) : Type 0 where
@@ -100,6 +100,18 @@ module _ (t : Table) (F : Seen) (m x : Deed) (S : Swap t m x) (km : Ok t F m) (k
         marks (T .2) (w .1),
       )
 
+  inside-x : Inside t (F .cell) (x .touched) (x .members) (x .move)
+  unfolding astep f1 A
+  inside-x = go (x .move) (kx .inside)
+    where
+      back : (o : Origin) (e : Entry) → f1 o ≡ some e → isIn (e .owner) (x .touched) ≡ true → F .cell o ≡ some e
+      back o e h l = frame-back (F .cell) A (m .touched) (m .place) LA IA o e h (is-false (isIn (e .owner) (m .touched)) (λ k. S .apart (e .owner) k l))
+
+      go : (mv : Move) → Inside t f1 (x .touched) (x .members) mv → Inside t (F .cell) (x .touched) (x .members) mv
+      go (react r ps) w = λ b o. mark-same (x .touched) (F .cell o) (f1 o) (λ e h l. keep-x o e h l) (λ e h l. back o e h l) ∙ w b o
+      go (commit b) w = tt
+      go (abort b) w = tt
+
   -- the second move is allowed first
   pub ok-x : Ok t F x
   unfolding astep f1 A
@@ -113,6 +125,7 @@ module _ (t : Table) (F : Seen) (m x : Deed) (S : Swap t m x) (km : Ok t F m) (k
     fresh = fresh-x;
     unused = λ p o e h. is-false (isIn (e .owner) (x .touched)) (λ l. clash l (kx .unused p o e (keep-x o e h l)));
     whole = whole-x;
+    inside = inside-x;
   }
 
   both-apart : Apart m x

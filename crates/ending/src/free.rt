@@ -10,6 +10,7 @@ ghost use Rattle.state.specs.Working.{held, stateIn};
 ghost use Rattle.state.specs.Arrays.{Arrays, HoldsIn};
 ghost use Rattle.ending.specs.End.{NoneBefore};
 use state::Extent;
+use words::item;
 
 // The owner of an entry that stays.
 fn owner_after(owner: u32, id: u32) -> u32
@@ -22,7 +23,11 @@ fn owner_after(owner: u32, id: u32) -> u32
 fn item_after(owner: u32, item: u32, id: u32) -> u32
     ensures { λ r. ⌜ r ≡ cond (eqb owner id) (item % 2 ^ 24) item ⌝ }
 {
-    if owner == id { item % 16777216 } else { item }
+    if owner == id {
+        item::as_message(item)
+    } else {
+        item
+    }
 }
 
 // 1 where an entry stays, else 0.
@@ -30,7 +35,7 @@ fn stays(owner: u32, item: u32, id: u32, kind: u32) -> usize
     ensures { λ r. ⌜ (r ≡ oneIf (not (eqb owner id) || eqb (itemKind item) kind)) × (r ≤ 1) ⌝ }
 {
     if owner == id {
-        if item / 16777216 == kind { 1 } else { 0 }
+        if item::kind_of(item) == kind { 1 } else { 0 }
     } else {
         1
     }

@@ -6,6 +6,7 @@ ghost use lib.ListN.{length};
 ghost use Rattle.state.specs.Lent.{stateFrom, Columns};
 ghost use Rattle.ending.specs.End.{NoneBefore, Surveyed};
 use state::Extent;
+use words::item;
 
 // What a transaction owns: anything, an abort mark (stop mark), a message that is on no global port.
 pub struct Survey {
@@ -48,11 +49,11 @@ pub fn surveyed<'a>(
     while i < n {
         let owned = owners[i] == id;
         let item = items[i];
-        let kind = item / 16777216;
-        let port = item / 65536 % 256;
+        let kind = item::kind_of(item);
+        let port = item::port_of(item);
         open = open | owned;
-        aborting = aborting | (owned & (kind == 2));
-        inside = inside | (owned & ((kind == 0) & (globals <= port)));
+        aborting = aborting | (owned & (kind == item::ABORT_MARK));
+        inside = inside | (owned & ((kind == item::MESSAGE) & (globals <= port)));
         i += 1;
     }
     Survey {

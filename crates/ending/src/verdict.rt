@@ -10,12 +10,13 @@ use crate::survey::surveyed;
 use semantics::Refusal;
 use semantics::Verdict;
 use state::Extent;
+use words::head;
 
 // An abort mark, or a message inside, stops a commit (kind 1); an abort needs an abort mark.
 fn may_end(kind: u32, aborting: bool, inside: bool) -> bool
     ensures { λ r. ⌜ r ≡ cond (eqb kind 1) (not (aborting || inside)) aborting ⌝ }
 {
-    if kind == 1 {
+    if kind == head::COMMIT {
         !(aborting | inside)
     } else {
         aborting

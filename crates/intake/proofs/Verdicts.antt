@@ -16,7 +16,7 @@ use Rattle.semantics.specs.declared.Verdict.{Verdict}
 use Rattle.semantics.specs.declared.Verdict.the-variants.{Allowed, Denied}
 use Rattle.table.specs.Check.{CheckedAs}
 use Rattle.table.specs.declared.verdict.Checked.{Checked}
-use Rattle.intake.specs.Split.{CutAt, SplitAs, cut-words, accepted}
+use Rattle.intake.specs.Split.{CutAt, SplitAs, cut-words, accepted-input}
 use Rattle.intake.specs.declared.parts.Parts.{Parts}
 
 one-test : (a b : Bool) (r : Refusal) → unless (a && b) r ≡ both (unless a r) (unless b r)
@@ -54,4 +54,4 @@ unfolding inputVerdict
 split-as ws bytes p cut e c k s =
     let v : p .verdict ≡ inputVerdict ws bytes = rw (cut-words cut) (rw (cut .table, cut .state, cut .log) at e) in
     let k : CheckedAs (partsOf ws .table) c = rw (cut .table) at k in
-    record { verdict = v; cut = cut; starts = λ h. rw s (k .starts (accepted (sym v ∙ h) .table)) }
+    record { verdict = v; cut = cut; starts = λ h. rw s (k .starts (accepted-input (sym v ∙ h) .table)) }

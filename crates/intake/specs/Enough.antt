@@ -23,7 +23,8 @@ use Rattle.semantics.specs.declared.Sizes.{Sizes}
 use Rattle.semantics.specs.declared.Refusal.the-variants.{TableSizes, StateSizes, LogSizes}
 use Rattle.semantics.specs.declared.Verdict.{Verdict}
 use Rattle.semantics.specs.declared.Verdict.the-variants.{Allowed, Denied}
-use Rattle.intake.specs.Split.{both-allowed, unless-allowed, accepted}
+use Rattle.wellformed.specs.Verdicts.{both-allowed, unless-allowed}
+use Rattle.intake.specs.Split.{accepted-input}
 
 fails : (b : Bool) → (b ≡ true → ⊥) → b ≡ false
 fails true h = absurd (h refl)
@@ -159,7 +160,7 @@ enough bytes = read-enough bytes 8200 (omega arith)
 pub allowed-short : (ws : List ℕ) (bytes : ℕ) → inputVerdict ws bytes ≡ Allowed → bytes ≤ 32800
 unfolding stateVerdict
 allowed-short ws bytes h =
-    let a = accepted h in
+    let a = accepted-input h in
     let few = parts-few (partsOf ws) (rw (a .table, a .state)) (a .log) in
     omega arith
 

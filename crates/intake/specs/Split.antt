@@ -17,6 +17,7 @@ use Rattle.semantics.specs.declared.Refusal.{Refusal}
 use Rattle.semantics.specs.declared.Refusal.the-variants.{LogSizes}
 use Rattle.semantics.specs.declared.Verdict.{Verdict}
 use Rattle.semantics.specs.declared.Verdict.the-variants.{Allowed, Denied}
+use Rattle.wellformed.specs.Verdicts.{both-allowed, unless-allowed}
 use Rattle.table.specs.Index.{Starts}
 use Rattle.intake.specs.declared.parts.Parts.{Parts}
 
@@ -44,23 +45,15 @@ cut-words {ws} {a} {b} {e} c =
     rw (← c .table, ← c .state, ← c .log, n, m, k) (omega arith)
 
 -- what an accepted input is known to have
-pub record Accepted (ws : List ℕ) (bytes : ℕ) : Type 0 where
+pub record AcceptedInput (ws : List ℕ) (bytes : ℕ) : Type 0 where
   pub table : tableVerdict (partsOf ws .table) ≡ Allowed
   pub state : stateOwnVerdict (sizesOf (partsOf ws .table)) (partsOf ws .state) ≡ Allowed
   pub log : logSizesOk (partsOf ws .log) ≡ true
   pub whole : bytes ≡ 4 * partWords (partsOf ws)
 
-pub both-allowed : (v w : Verdict) → both v w ≡ Allowed → (v ≡ Allowed) × (w ≡ Allowed)
-both-allowed Allowed w h = (refl, h)
-both-allowed (Denied r) w h = let e : _≡_ {A = ℕ} 0 1 = cc in absurd (omega arith)
-
-pub unless-allowed : (b : Bool) (r : Refusal) → unless b r ≡ Allowed → b ≡ true
-unless-allowed true r h = refl
-unless-allowed false r h = let e : _≡_ {A = ℕ} 0 1 = cc in absurd (omega arith)
-
-pub accepted : {ws : List ℕ} {bytes : ℕ} → inputVerdict ws bytes ≡ Allowed → Accepted ws bytes
+pub accepted-input : {ws : List ℕ} {bytes : ℕ} → inputVerdict ws bytes ≡ Allowed → AcceptedInput ws bytes
 unfolding inputVerdict logVerdict stateVerdict
-accepted {ws} {bytes} h =
+accepted-input {ws} {bytes} h =
     let p = partsOf ws in
     let (h, whole) = both-allowed _ _ h in
     let (h, log) = both-allowed _ _ h in

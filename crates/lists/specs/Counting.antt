@@ -24,21 +24,11 @@ module _ {A : Type 0} (p : A → Bool) where
   count-append [] ys = omega arith
   count-append (x ∷ xs) ys = omega (arith, count-append xs ys)
 
-  pub all-each : ((x : A) → p x ≡ true) → (xs : List A) → all p xs ≡ true
-  all-each f [] = refl
-  all-each f (x ∷ xs) = rw (f x, all-each f xs)
-
   pub all-append : (xs ys : List A) → all p xs ≡ true → all p ys ≡ true → all p (xs ++ ys) ≡ true
   all-append [] ys h k = k
   all-append (x ∷ xs) ys h k =
       let (a, b) = and-both (p x) (all p xs) h in
       rw (a, all-append xs ys b k)
-
-  -- of the element at a place
-  pub all-at : (xs : List A) (i : ℕ) (d : A) → all p xs ≡ true → i < length xs → p (getD xs i d) ≡ true
-  all-at [] i d h l = absurd (not-suc-le-zero l)
-  all-at (x ∷ xs) zero d h l = and-both (p x) (all p xs) h .0
-  all-at (x ∷ xs) (suc i) d h l = all-at xs i d (and-both (p x) (all p xs) h .1) (le-of-suc-le-suc l)
 
   pub count-all : (xs : List A) → all p xs ≡ true → count p xs ≡ length xs
   count-all [] h = refl
@@ -46,8 +36,7 @@ module _ {A : Type 0} (p : A → Bool) where
       let (a, b) = and-both (p x) (all p xs) h in
       rw (a, count-all xs b) (omega arith)
 
-  -- what is kept of one element more
-  pub length-keepIf : (b : Bool) (x : A) (xs : List A) → length (keepIf b x xs) ≡ oneIf b + length xs
+  length-keepIf : (b : Bool) (x : A) (xs : List A) → length (keepIf b x xs) ≡ oneIf b + length xs
   length-keepIf true x xs = omega arith
   length-keepIf false x xs = omega arith
 
@@ -67,21 +56,9 @@ module _ {A : Type 0} (p : A → Bool) where
 
 -- ---- of images
 module _ {A B : Type 0} (f : A → B) (p : B → Bool) where
-  pub keep-map : (xs : List A) → keep p (map f xs) ≡ map f (keep (λ x. p (f x)) xs)
-  keep-map [] = refl
-  keep-map (x ∷ xs) = more (p (f x)) (keep-map xs)
-    where
-      more : (b : Bool) → keep p (map f xs) ≡ map f (keep (λ x. p (f x)) xs) → keepIf b (f x) (keep p (map f xs)) ≡ map f (keepIf b x (keep (λ x. p (f x)) xs))
-      more true h = ap (λ (l : List B). f x ∷ l) h
-      more false h = h
-
   pub count-map : (xs : List A) → count p (map f xs) ≡ count (λ x. p (f x)) xs
   count-map [] = refl
   count-map (x ∷ xs) = ap (λ (n : ℕ). oneIf (p (f x)) + n) (count-map xs)
-
-  pub all-map : (xs : List A) → all p (map f xs) ≡ all (λ x. p (f x)) xs
-  all-map [] = refl
-  all-map (x ∷ xs) = ap (λ (b : Bool). p (f x) && b) (all-map xs)
 
 -- ---- of two tests, of which the first holds only where the second does
 module _ {A : Type 0} (p q : A → Bool) (f : (x : A) → p x ≡ true → q x ≡ true) where

@@ -17,7 +17,6 @@ pub mod Rising
 pub mod Keys
 pub mod Ahead
 pub mod Seen
-pub mod Least
 pub mod Rows
 pub mod Filled
 pub mod Over

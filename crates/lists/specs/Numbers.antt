@@ -53,12 +53,12 @@ pub least-pos : (ns : List ℕ) → (least ns ≡ 0 → ⊥) → isIn (least ns)
 least-pos [] h = absurd (h refl)
 least-pos (n ∷ ns) h = least-in n ns
 
-pub least-le : (v : ℕ) (ns : List ℕ) → isIn v ns ≡ true → least ns ≤ v
-least-le v ns h = Smallest.least-le ns v (isIn-among v ns h)
+pub least-le-in : (v : ℕ) (ns : List ℕ) → isIn v ns ≡ true → least ns ≤ v
+least-le-in v ns h = Smallest.least-le ns v (isIn-among v ns h)
 
 -- a number in the list that no other is below
 pub least-is : (b : ℕ) (ns : List ℕ) → isIn b ns ≡ true → ((v : ℕ) → isIn v ns ≡ true → b ≤ v) → least ns ≡ b
-least-is b ns h k = let x = least-le b ns h in let y = k (least ns) (least-some b ns h) in omega arith
+least-is b ns h k = let x = least-le-in b ns h in let y = k (least ns) (least-some b ns h) in omega arith
 
 -- ---- a test on each number
 

@@ -10,7 +10,8 @@ use borrow.Author.Tests.{eqb-true, eqb-false, leb-true, leb-false, le-leb, lt-le
 use lib.ListN.{length, getD}
 use Rattle.lists.specs.Lists.{keepIf, keep, oneIf, count, isIn, distinct, without}
 use Rattle.lists.specs.Choices.{by-bool, and-intro}
-use Rattle.lists.specs.Totals.{count-all, count-none, count-sum, count-distinct}
+use Rattle.lists.specs.Counting.{count-all}
+use Rattle.lists.specs.Totals.{count-never, count-sum, count-distinct}
 use Rattle.lists.specs.Members.{Among, all-intro}
 
 module _ {A : Type 0} where
@@ -52,7 +53,7 @@ inside-suc i n p =
 
 module _ {A : Type 0} where
   count-without : (ps : List ℕ) → distinct ps ≡ true → (i : ℕ) (xs : List A) → length (without ps i xs) + count (inside i (length xs)) ps ≡ length xs
-  count-without ps h i [] = rw (count-none (inside i 0) (inside-none i) ps)
+  count-without ps h i [] = rw (count-never (inside i 0) (inside-none i) ps)
   count-without ps h i (x ∷ xs) = go (count-without ps h (suc i) xs) (isIn i ps) (count-distinct i ps h)
     where
       go : length (without ps (suc i) xs) + count (inside (suc i) (length xs)) ps ≡ length xs → (b : Bool) → count (eqb i) ps ≡ oneIf b

@@ -10,7 +10,7 @@ use lib.Dec.{leb, eqb}
 use lib.ListN.{length, getD, drop, length-drop, drop-of-length-le}
 use Rattle.lists.specs.Lists.{all, count, risesFrom}
 use Rattle.lists.specs.Tests.{and-both, and-right-false}
-use Rattle.lists.specs.Counting.{all-each}
+use Rattle.lists.specs.Members.{all-intro}
 use Rattle.lists.specs.Walk.{drop-step}
 use Rattle.lists.specs.Rising.{Order, before, equal, after, order, keyed, none-keyed}
 
@@ -139,7 +139,7 @@ keys-count {A} key m {xs} {from} r up =
     (λ x. true)
     m
     (run-same (keyed key m) (λ x. keyed key m x && true) (λ x. alone (keyed key m x)) r)
-    (rw (up, all-each (λ (x : A). true) (λ x. refl) (drop from xs)))
+    (rw (up, all-intro (λ (x : A). true) (drop from xs) (λ x m. refl)))
   where
     alone : (b : Bool) → b ≡ b && true
     alone true = refl

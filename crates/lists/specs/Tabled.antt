@@ -8,9 +8,9 @@ use lib.ListN.{length, getD}
 use Rattle.lists.specs.Lists.{upFrom}
 
 module _ {A : Type 0} (f : ℕ → A) where
-  pub length-upFrom : (i n : ℕ) → length (map f (upFrom i n)) ≡ n
-  length-upFrom i zero = refl
-  length-upFrom i (suc n) = ap suc (length-upFrom (suc i) n)
+  pub length-tabled : (i n : ℕ) → length (map f (upFrom i n)) ≡ n
+  length-tabled i zero = refl
+  length-tabled i (suc n) = ap suc (length-tabled (suc i) n)
 
   pub getD-upFrom : (d : A) (i n r : ℕ) → r < n → getD (map f (upFrom i n)) r d ≡ f (i + r)
   getD-upFrom d i zero r h = absurd (not-suc-le-zero h)

@@ -1,4 +1,4 @@
--- Counts and lengths: of `keep`, `map`, `++`; and how often a number occurs in a list without repetitions.
+-- Counts: of what is kept, of a sum of tests; and how often a number occurs in a list without repetitions.
 use Prim.Native.Nat.{ℕ, suc, _+_, _≤_}
 use mathlib.Core.Bool.{Bool, true, false, _||_, not, true≢false}
 use mathlib.Core.List.{List, [], _∷_, map}
@@ -12,22 +12,6 @@ use borrow.Author.Tests.{eqb-true, not-true}
 
 module _ {A : Type 0} where
   module _ (p : A → Bool) where
-    pub length-keep : (xs : List A) → length (keep p xs) ≡ count p xs
-    length-keep [] = refl
-    length-keep (x ∷ xs) = go (p x) (length-keep xs)
-      where
-        go : (b : Bool) → length (keep p xs) ≡ count p xs → length (keepIf b x (keep p xs)) ≡ oneIf b + count p xs
-        go true e = omega arith
-        go false e = omega arith
-
-    pub count-le : (xs : List A) → count p xs ≤ length xs
-    count-le [] = omega arith
-    count-le (x ∷ xs) = go (p x) (count-le xs)
-      where
-        go : (b : Bool) → count p xs ≤ length xs → oneIf b + count p xs ≤ suc (length xs)
-        go true e = omega arith
-        go false e = omega arith
-
     pub count-keep-le : (q : A → Bool) (xs : List A) → count p (keep q xs) ≤ count p xs
     count-keep-le q [] = omega arith
     count-keep-le q (x ∷ xs) = go (q x) (count-keep-le q xs)
@@ -36,19 +20,10 @@ module _ {A : Type 0} where
         go true e = omega arith
         go false e = omega arith
 
-module _ {A B : Type 0} (p : B → Bool) (f : A → B) where
-  pub count-map : (xs : List A) → count p (map f xs) ≡ count (λ x. p (f x)) xs
-  count-map [] = refl
-  count-map (x ∷ xs) = rw (count-map xs)
-
 module _ {A : Type 0} where
-  pub count-all : (p : A → Bool) (xs : List A) → all p xs ≡ true → count p xs ≡ length xs
-  count-all p [] h = refl
-  count-all p (x ∷ xs) h = rw (and-left (p x) (all p xs) h, count-all p xs (and-right (p x) (all p xs) h)) (omega arith)
-
-  pub count-none : (p : A → Bool) → ((x : A) → p x ≡ false) → (xs : List A) → count p xs ≡ 0
-  count-none p f [] = refl
-  count-none p f (x ∷ xs) = rw (f x, count-none p f xs)
+  pub count-never : (p : A → Bool) → ((x : A) → p x ≡ false) → (xs : List A) → count p xs ≡ 0
+  count-never p f [] = refl
+  count-never p f (x ∷ xs) = rw (f x, count-never p f xs)
 
   pub count-sum : (p q r : A → Bool) → ((x : A) → oneIf (p x) ≡ oneIf (q x) + oneIf (r x)) → (xs : List A) → count p xs ≡ count q xs + count r xs
   count-sum p q r f [] = refl

@@ -62,30 +62,7 @@ pub below-same : (p q : ℕ → Bool) (n : ℕ) → ((r : ℕ) → r < n → p r
 below-same p q zero f = refl
 below-same p q (suc n) f = rw (below-same p q n (λ r l. f r (omega arith)), f n (omega arith))
 
-pub below-all : (p q : ℕ → Bool) → ((r : ℕ) → p r ≡ true → q r ≡ true) → (n : ℕ) → allBelow n p ≡ true → allBelow n q ≡ true
-below-all p q f zero h = refl
-below-all p q f (suc n) h =
-    let (a, b) = and-both (allBelow n p) (p n) h in
-    rw (below-all p q f n a, f n b)
-
 -- ---- a loop that fills a list with f of another's elements, from the front
 module _ {A B : Type 0} (f : A → B) (xs : List A) (ys : List B) (i : ℕ) where
   pub fill-more : (d : A) → i < length xs → i < length ys → take i ys ≡ map f (take i xs) → take (i + 1) (set ys i (f (getD xs i d))) ≡ map f (take (i + 1) xs)
   fill-more d hx hy e = rw (add-one i, take-suc-set ys i (f (getD xs i d)) hy, take-suc xs i d hx, map-append, e)
-
-  pub fill-all : length xs ≤ i → length ys ≤ i → take i ys ≡ map f (take i xs) → ys ≡ map f xs
-  fill-all hx hy e = rw (take-all i xs hx, take-all i ys hy) at e
-
--- ---- a list of f of each number from i on
-pub length-upFrom : (i n : ℕ) → length (upFrom i n) ≡ n
-length-upFrom i zero = refl
-length-upFrom i (suc n) = ap suc (length-upFrom (suc i) n)
-
-pub getD-upFrom : {A : Type 0} (f : ℕ → A) (d : A) (i n r : ℕ) → r < n → getD (map f (upFrom i n)) r d ≡ f (i + r)
-getD-upFrom f d i zero r l = absurd (not-suc-le-zero l)
-getD-upFrom f d i (suc n) zero l =
-    let e : i ≡ i + 0 = omega arith in
-    ap f e
-getD-upFrom f d i (suc n) (suc r) l =
-    let e : suc i + r ≡ i + suc r = omega arith in
-    getD-upFrom f d (suc i) n r (le-of-suc-le-suc l) ∙ ap f e

@@ -11,7 +11,7 @@ use Rattle.lists.specs.Prefix.{part-tails}
 use Rattle.lists.specs.Rows.{rows}
 use Rattle.semantics.specs.State.{Entry}
 use Rattle.semantics.specs.declared.Atom.{Atom}
-use Rattle.table.specs.declared.decode.Rule.{Rule}
+use Rattle.rules.specs.declared.decode.Rule.{Rule}
 use Rattle.state.specs.Working.{entryFrom, rowOf, held}
 use Rattle.state.specs.Arrays.{Arrays, HoldsIn, stored-sized, stored-before, holds-of}
 use Rattle.products.specs.Narrow.{Ready}

@@ -16,8 +16,8 @@ use Rattle.semantics.specs.State.{Entry, State}
 use Rattle.semantics.specs.Move.{picked, ownersAt, merged, products, reacted}
 use Rattle.semantics.specs.declared.Verdict.the-variants.{Allowed}
 use Rattle.wellformed.specs.Picks.{ReactGiven}
-use Rattle.table.specs.declared.decode.Rule.{Rule}
-use Rattle.table.specs.Decode.{Decodes}
+use Rattle.rules.specs.declared.decode.Rule.{Rule}
+use Rattle.rules.specs.Decode.{Decodes}
 use Rattle.state.specs.declared.Extent.{Extent}
 use Rattle.state.specs.Working.{rowOf, held, stateIn}
 use Rattle.state.specs.Arrays.{HoldsIn}

@@ -10,10 +10,10 @@ use Rattle.semantics.specs.declared.Atom.{Atom}
 use Rattle.semantics.specs.declared.AtomValue.{AtomValue}
 use Rattle.semantics.specs.declared.AtomValue.the-variants.{Constant, Received}
 use Rattle.semantics.specs.declared.Verdict.the-variants.{Allowed}
-use Rattle.wellformed.specs.Verdicts.{table-given, sizes-given}
+use Rattle.wellformed.specs.Tables.{well-formed}
 use Rattle.wellformed.specs.Rules.{ValueRight, rules-right}
-use Rattle.table.specs.declared.decode.Rule.{Rule}
-use Rattle.table.specs.Decode.{Decodes}
+use Rattle.rules.specs.declared.decode.Rule.{Rule}
+use Rattle.rules.specs.Decode.{Decodes}
 use Rattle.reaction.specs.Decoded.{ruleIn, decodes-itself}
 
 abbrev pub narrowValue : AtomValue → Type 0
@@ -40,7 +40,7 @@ pub rule-ready : (t : List ℕ) → tableVerdict t ≡ Allowed → (r : ℕ) →
     → (next maker : ℕ) → next ≤ 65536 → maker ≤ 1024 → Ready x next maker
 rule-ready t h r l x d next maker n m =
     let right = rules-right t h r l in
-    let ports = sizes-given t (table-given t h .0) .ports in
+    let ports = well-formed t h .sizes .ports in
     record {
       rule = decodes-itself x (ruleAt (tableOf t) r) d;
       narrow = λ a k.

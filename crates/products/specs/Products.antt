@@ -14,7 +14,7 @@ use Rattle.semantics.specs.declared.Atom.{Atom}
 use Rattle.semantics.specs.declared.AtomValue.{AtomValue}
 use Rattle.semantics.specs.declared.AtomValue.the-variants.{Constant, Received}
 use Rattle.semantics.specs.Table as semantics
-use Rattle.table.specs.declared.decode.Rule.{Rule}
+use Rattle.rules.specs.declared.decode.Rule.{Rule}
 use Rattle.state.specs.declared.State as columns
 use Rattle.state.specs.Working.{entryIn}
 use Rattle.reaction.specs.Decoded.{makingAtoms}

@@ -4,7 +4,7 @@ use mathlib.Core.Path.{_≡_}
 use mathlib.Core.List.{List}
 use lib.ListN.{take}
 use Rattle.semantics.specs.declared.Verdict.the-variants.{Allowed}
-use Rattle.table.specs.declared.decode.Rule.{Rule}
+use Rattle.rules.specs.declared.decode.Rule.{Rule}
 use Rattle.state.specs.declared.State.{State}
 use Rattle.state.specs.Working.{stateIn}
 use Rattle.state.specs.Arrays.{Arrays}

@@ -10,12 +10,13 @@ ghost use Rattle.state.specs.Arrays.{Arrays, HoldsIn};
 ghost use Rattle.reaction.specs.Decoded.{makingCount};
 ghost use Rattle.products.specs.Narrow.{narrowValue, Narrow, Ready};
 ghost use Rattle.products.specs.Products.{ownerOfRole, nextAfter, valueMade, ItemMade, appended};
+use rules::decode::Rule;
 use semantics::Atom;
 use semantics::AtomValue;
 use state::Extent;
-use table::decode::Rule;
 use words::item::item_of;
 use words::item::value_of;
+use words::origin::origin_of;
 
 fn kind_made(role: u16) -> u32
     ensures { λ r. ⌜ (r ≡ kindMade role) × (r < 4) ⌝ }
@@ -110,7 +111,7 @@ pub fn append_products(
         let w = n + q;
         owners[w] = owner_made(class, atom.role, home, next);
         items[w] = item_made(atom, received, next);
-        origins[w] = maker * 1024 + (q as u32);
+        origins[w] = origin_of(maker, q as u32);
         q += 1;
     }
     Extent {

@@ -10,8 +10,8 @@ use crate::merge::merge;
 use reaction::picks::at_picks;
 use reaction::picks::smallest;
 use removal::remove::remove;
+use rules::decode::Rule;
 use state::Extent;
-use table::decode::Rule;
 
 // The whole reaction, in place. Answers the new extent.
 pub fn react(

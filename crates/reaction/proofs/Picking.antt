@@ -17,8 +17,8 @@ use Rattle.lists.specs.Rows.{rows, rowsFrom, rows-take, rows-whole, map-rows}
 use Rattle.semantics.specs.Table.{consumed}
 use Rattle.semantics.specs.State.{Entry, isMessage}
 use Rattle.semantics.specs.Move.{entryAt, onPorts, ownersFit}
-use Rattle.table.specs.declared.decode.Rule.{Rule}
-use Rattle.table.specs.Decode.{Decodes}
+use Rattle.rules.specs.declared.decode.Rule.{Rule}
+use Rattle.rules.specs.Decode.{Decodes}
 use Rattle.reaction.specs.Decoded.{ruleIn, blank, consumes-within}
 use Rattle.reaction.specs.Verdict.{ownerFits}
 use Rattle.reaction.specs.Places.{column, fourAt, entries}

@@ -14,8 +14,8 @@ use Rattle.semantics.specs.Move.{picked, onPorts, picksOk, ownersAt, ownersFit,
 use Rattle.semantics.specs.declared.Refusal.the-variants.{WrongPick, WrongOwner, NoMoreIds, TooManyEntries}
 use Rattle.semantics.specs.declared.Verdict.the-variants.{Allowed, Denied}
 use Rattle.wellformed.specs.Picks.{ReactGiven}
-use Rattle.table.specs.declared.decode.Rule.{Rule}
-use Rattle.table.specs.Decode.{Decodes}
+use Rattle.rules.specs.declared.decode.Rule.{Rule}
+use Rattle.rules.specs.Decode.{Decodes}
 use Rattle.state.specs.declared.State.{State}
 use Rattle.reaction.specs.Decoded.{ruleIn}
 use Rattle.reaction.specs.Verdict.{reactVerdict}

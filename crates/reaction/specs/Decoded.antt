@@ -10,8 +10,8 @@ use Rattle.lists.specs.Members.{Among, getD-among, any-intro}
 use Rattle.semantics.specs.Table.{hasRole, productAtoms}
 use Rattle.semantics.specs.declared.Atom.{Atom}
 use Rattle.semantics.specs.declared.AtomValue.the-variants.{Constant}
-use Rattle.table.specs.declared.decode.Rule.{Rule}
-use Rattle.table.specs.Decode.{Decodes}
+use Rattle.rules.specs.declared.decode.Rule.{Rule}
+use Rattle.rules.specs.Decode.{Decodes}
 use mathlib.Core.List.{List}
 use Rattle.semantics.specs.Table as rules
 

@@ -15,8 +15,8 @@ use Rattle.semantics.specs.Words.{valueOf}
 use Rattle.semantics.specs.Table.{consumed}
 use Rattle.semantics.specs.State.{Entry}
 use Rattle.semantics.specs.Move.{nothing, entryAt, onPorts, picked, ownersAt}
-use Rattle.table.specs.declared.decode.Rule.{Rule}
-use Rattle.table.specs.Decode.{Decodes}
+use Rattle.rules.specs.declared.decode.Rule.{Rule}
+use Rattle.rules.specs.Decode.{Decodes}
 use Rattle.state.specs.Working.{rowOf}
 use Rattle.reaction.specs.Decoded.{ruleIn}
 use Rattle.wellformed.specs.Picks.{picks-within}

@@ -9,8 +9,8 @@ use Rattle.semantics.specs.State.{State}
 use Rattle.semantics.specs.Move.{unless, both, react, reactAllowed, reacted, allowed, applied, moveVerdict}
 use Rattle.semantics.specs.declared.Verdict.{Verdict}
 use Rattle.semantics.specs.declared.Refusal.the-variants.{TooManyEntries}
-use Rattle.table.specs.declared.decode.Rule.{Rule}
-use Rattle.table.specs.Decode.{Decodes}
+use Rattle.rules.specs.declared.decode.Rule.{Rule}
+use Rattle.rules.specs.Decode.{Decodes}
 use Rattle.state.specs.Working.{rowOf}
 use native.Mathlib.Omega.{arith}
 use borrow.Author.Tests.{leb-true}

@@ -15,7 +15,8 @@ use Rattle.semantics.specs.declared.Refusal.{Refusal}
 use Rattle.semantics.specs.declared.Refusal.the-variants.{StateSizes}
 use Rattle.semantics.specs.declared.Verdict.the-variants.{Allowed, Denied}
 use Rattle.intake.specs.Gather.{Gathered, gathered-all}
-use Rattle.intake.specs.Split.{SplitAs, accepted, both-allowed, unless-allowed}
+use Rattle.wellformed.specs.Verdicts.{both-allowed, unless-allowed}
+use Rattle.intake.specs.Split.{SplitAs, accepted-input}
 use Rattle.intake.specs.declared.parts.Parts as intake
 use Rattle.log.specs.Form.{log-sized}
 use Rattle.state.specs.declared.State.{State}
@@ -68,7 +69,7 @@ module _ {ws : List ℕ} {bytes : ℕ} {p : intake.Parts} (h : SplitAs ws bytes 
         × (stateSizesOk (take (p .«log_at» - p .«state_at») (drop (p .«state_at») ws)) ≡ true)
     unfolding stateOwnVerdict
     prepared =
-        let a = accepted (sym (h .verdict) ∙ allowed) in
+        let a = accepted-input (sym (h .verdict) ∙ allowed) in
         rw (h .cut .table, h .cut .state, h .cut .log) (
           record { indexed = record { table = a .table; starts = h .starts allowed }; log = log-sized _ (a .log) },
           unless-allowed (stateSizesOk (partsOf ws .state)) StateSizes (both-allowed _ _ (a .state) .0),

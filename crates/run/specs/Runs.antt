@@ -7,7 +7,7 @@ use native.Mathlib.Numerals.{add-one}
 use native.Mathlib.Omega.{arith}
 use lib.ListN.{length}
 use Rattle.lists.specs.Lists.{upFrom}
-use Rattle.lists.specs.Tabled.{length-upFrom, upFrom-append}
+use Rattle.lists.specs.Tabled.{length-tabled, upFrom-append}
 use Rattle.lists.specs.Ahead.{Tails}
 use Rattle.semantics.specs.Table.{Table}
 use Rattle.semantics.specs.State as semantics
@@ -111,7 +111,7 @@ reached-start t l w = record { within = omega arith; so-far = refl; workable = w
 module _ {ceiling : ℕ} {t : Table} {l : List ℕ} {start : State} {i : ℕ} {s : State} (r : Reached ceiling t l start i s) where
   onward-from : (ms : List (List ℕ)) → run ceiling t 0 (stateIn start) (movesBefore l i ++ ms) ≡ run ceiling t i (stateIn s) ms
   onward-from ms =
-      let e : 0 + length (movesBefore l i) ≡ i = omega (arith, length-upFrom (moveAt l) 0 i) in
+      let e : 0 + length (movesBefore l i) ≡ i = omega (arith, length-tabled (moveAt l) 0 i) in
       run-append ceiling t 0 (stateIn start) (movesBefore l i) ms (stateIn s) (r .so-far) ∙ ap (λ (n : ℕ). run ceiling t n (stateIn s) ms) e
 
   module _ (more : i < moveCount l) {v : Verdict} {s′ : State} (made : MadeAs v ceiling t (i + 1) (moveAt l i) s s′) where

@@ -12,7 +12,7 @@ use Rattle.semantics.specs.Log.{moveCount, logSizesOk}
 use Rattle.semantics.specs.Answers.{stateVerdict, lineCeiling, runOf}
 use Rattle.semantics.specs.declared.Verdict.{Verdict}
 use Rattle.semantics.specs.declared.Verdict.the-variants.{Allowed}
-use Rattle.wellformed.specs.Verdicts.{state-given}
+use Rattle.wellformed.specs.States.{state-given}
 use Rattle.table.specs.Index.{Starts}
 use Rattle.state.specs.declared.State.{State}
 use Rattle.state.specs.Working.{stateIn}

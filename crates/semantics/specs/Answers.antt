@@ -6,8 +6,8 @@ use lib.Dec.{leb}
 use lib.ListN.{length}
 use Rattle.lists.specs.Lists.{over}
 use Rattle.semantics.specs.Table.{Table, sizesOf, tableSizesOk, tableContentsOk, tableOf}
-use Rattle.semantics.specs.State.{State, stateSizesOk, entriesOk, stateOf, stateWords}
-use Rattle.semantics.specs.Move.{unless, both, Move, moveOk, moveOf, Stepped, to, refused, stepWords}
+use Rattle.semantics.specs.State.{State, maxEntries, stateSizesOk, entriesOk, stateOf, stateWords}
+use Rattle.semantics.specs.Move.{unless, firstFault, Move, moveOk, moveOf, Stepped, to, refused, stepWords}
 use Rattle.semantics.specs.Log.{moveCount, movesOf, logSizesOk, logWords, Ran, ended, stopped, run}
 use Rattle.semantics.specs.Serial.{beginsEmit, anyOpen, serial, serialFits}
 use Rattle.semantics.specs.declared.Refusal.{Refusal}
@@ -78,16 +78,22 @@ outcomeOfCheck (Denied r) = Refused r
 -- ---- the two checks
 
 -- Table check: 1, 2.
+abbrev pub tableFaults : List ℕ → List Verdict
+tableFaults t = unless (tableSizesOk t) TableSizes ∷ unless (tableContentsOk t) TableContents ∷ []
+
 unfoldable pub tableVerdict : List ℕ → Verdict
-tableVerdict t = both (unless (tableSizesOk t) TableSizes) (unless (tableContentsOk t) TableContents)
+tableVerdict t = firstFault (tableFaults t)
 
 -- a state by itself, under a well-formed table of these sizes: 3, 4
+abbrev pub stateOwnFaults : Sizes → List ℕ → List Verdict
+stateOwnFaults z s = unless (stateSizesOk s) StateSizes ∷ unless (entriesOk z (stateOf s)) StateContents ∷ []
+
 unfoldable pub stateOwnVerdict : Sizes → List ℕ → Verdict
-stateOwnVerdict z s = both (unless (stateSizesOk s) StateSizes) (unless (entriesOk z (stateOf s)) StateContents)
+stateOwnVerdict z s = firstFault (stateOwnFaults z s)
 
 -- State check, under its table: 1, 2, 3, 4.
 unfoldable pub stateVerdict : List ℕ → List ℕ → Verdict
-stateVerdict t s = both (tableVerdict t) (stateOwnVerdict (sizesOf t) s)
+stateVerdict t s = firstFault (tableVerdict t ∷ stateOwnVerdict (sizesOf t) s ∷ [])
 
 unfoldable pub checkTable : List ℕ → Answer
 checkTable t = answerOf (outcomeOfCheck (tableVerdict t))
@@ -99,9 +105,16 @@ checkState t s = answerOf (outcomeOfCheck (stateVerdict t s))
 
 -- 1,024 entries for the line; M-140 gives others
 abbrev pub lineCeiling : ℕ
-lineCeiling = 1024
+lineCeiling = maxEntries
 
--- 6 target too short: 2,050 words for a state, 1+5k for a serial log
+-- 6 target too short: 2,050 words for a state, ..
+abbrev pub stateRoom : ℕ
+stateRoom = 2050
+
+-- .. 1+5k for a serial log
+abbrev pub serialRoom : List ℕ → ℕ
+serialRoom l = 1 + 5 * moveCount l
+
 abbrev pub hasWords : ℕ → List ℕ → Verdict
 hasWords n target = unless (leb n (length target)) TargetTooShort
 
@@ -109,11 +122,14 @@ abbrev pub steppedResult : Stepped → Result
 steppedResult (to s) = write (stateWords s)
 steppedResult (refused r) = refuse r
 
--- Move: 1, 2, 3, 4, 5, 6, 7, 8, 9, 10, 11, 12.
+-- Move: 1, 2, 3, 4, 5, 6, ..
+abbrev pub moveFaults : List ℕ → List ℕ → List ℕ → List ℕ → List Verdict
+moveFaults t s m target = stateVerdict t s ∷ unless (moveOk (tableOf t) m) MoveForm ∷ hasWords stateRoom target ∷ []
+
+-- .. 7, 8, 9, 10, 11, 12.
 unfoldable pub moveResult : ℕ → List ℕ → List ℕ → List ℕ → List ℕ → Result
 moveResult ceiling t s m target =
-    unlessDenied (both (stateVerdict t s) (both (unless (moveOk (tableOf t) m) MoveForm) (hasWords 2050 target)))
-    (steppedResult (stepWords ceiling (tableOf t) 1 (stateOf s) m))
+    unlessDenied (firstFault (moveFaults t s m target)) (steppedResult (stepWords ceiling (tableOf t) 1 (stateOf s) m))
 
 unfoldable pub makeMove : List ℕ → List ℕ → List ℕ → List ℕ → Answer
 makeMove t s m target = answerOf (outcomeOf (moveResult lineCeiling t s m target))
@@ -129,14 +145,18 @@ ranResult (stopped i r) = refuseMove i r
 
 -- what the run and the serial log ask of table, state and log: 1, 2, 3, 4, 13
 unfoldable pub logVerdict : List ℕ → List ℕ → List ℕ → Verdict
-logVerdict t s l = both (stateVerdict t s) (unless (logSizesOk l) LogSizes)
+logVerdict t s l = firstFault (stateVerdict t s ∷ unless (logSizesOk l) LogSizes ∷ [])
 
 abbrev pub runOf : ℕ → List ℕ → List ℕ → List ℕ → Ran
 runOf ceiling t s l = run ceiling (tableOf t) 0 (stateOf s) (movesOf l)
 
--- Run: 1, 2, 3, 4, 13, 6, 16.
+-- Run: 1, 2, 3, 4, 13, 6, ..
+abbrev pub runFaults : List ℕ → List ℕ → List ℕ → List ℕ → List Verdict
+runFaults t s l target = logVerdict t s l ∷ hasWords stateRoom target ∷ []
+
+-- .. 16.
 unfoldable pub runResult : ℕ → List ℕ → List ℕ → List ℕ → List ℕ → Result
-runResult ceiling t s l target = unlessDenied (both (logVerdict t s l) (hasWords 2050 target)) (ranResult (runOf ceiling t s l))
+runResult ceiling t s l target = unlessDenied (firstFault (runFaults t s l target)) (ranResult (runOf ceiling t s l))
 
 unfoldable pub runLog : List ℕ → List ℕ → List ℕ → List ℕ → Answer
 runLog t s l target = answerOf (outcomeOf (runResult lineCeiling t s l target))
@@ -153,21 +173,26 @@ serialOf t s l = serial (tableOf t) (stateOf s) (map (moveOf (tableOf t)) (moves
 unfoldable pub serialFitsOf : ℕ → List ℕ → List ℕ → List ℕ → Bool
 serialFitsOf ceiling t s l = serialFits ceiling (tableOf t) (stateOf s) (map (moveOf (tableOf t)) (movesOf l))
 
--- 16, 15 (end), 17
+-- Serial: 1, 2, 3, 4, 13, 6, 14, 15 (start), ..
+abbrev pub serialFaults : List ℕ → List ℕ → List ℕ → List ℕ → List Verdict
+serialFaults t s l target =
+    logVerdict t s l
+    ∷ hasWords (serialRoom l) target
+    ∷ unless (not (beginsEmit (tableOf t))) BeginEmits
+    ∷ unless (not (anyOpen (stateOf s))) TransactionOpen
+    ∷ []
+
+-- .. 16, 15 (end), 17.
+abbrev pub serialEndFaults : ℕ → List ℕ → List ℕ → List ℕ → State → List Verdict
+serialEndFaults ceiling t s l end = unless (not (anyOpen end)) TransactionOpen ∷ unless (serialFitsOf ceiling t s l) SerialTooManyEntries ∷ []
+
 abbrev pub serialAfter : ℕ → List ℕ → List ℕ → List ℕ → Ran → Result
 serialAfter ceiling t s l (stopped i r) = refuseMove i r
-serialAfter ceiling t s l (ended e) =
-    unlessDenied (both (unless (not (anyOpen e)) TransactionOpen) (unless (serialFitsOf ceiling t s l) SerialTooManyEntries))
-    (write (logWords (serialOf t s l)))
+serialAfter ceiling t s l (ended end) = unlessDenied (firstFault (serialEndFaults ceiling t s l end)) (write (logWords (serialOf t s l)))
 
--- Serial: 1, 2, 3, 4, 13, 6, 14, 15 (start), 16, 15 (end), 17.
 unfoldable pub serialResult : ℕ → List ℕ → List ℕ → List ℕ → List ℕ → Result
 serialResult ceiling t s l target =
-    unlessDenied
-    (both (logVerdict t s l)
-    (both (hasWords (1 + 5 * moveCount l) target)
-    (both (unless (not (beginsEmit (tableOf t))) BeginEmits) (unless (not (anyOpen (stateOf s))) TransactionOpen))))
-    (serialAfter ceiling t s l (runOf ceiling t s l))
+    unlessDenied (firstFault (serialFaults t s l target)) (serialAfter ceiling t s l (runOf ceiling t s l))
 
 unfoldable pub serialize : List ℕ → List ℕ → List ℕ → List ℕ → Answer
 serialize t s l target = answerOf (outcomeOf (serialResult lineCeiling t s l target))

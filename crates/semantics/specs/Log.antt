@@ -13,12 +13,16 @@ use Rattle.semantics.specs.declared.Refusal.{Refusal}
 
 -- ---- form (13)
 
--- A log is k (at most 1,024), k heads, then 4k picks, 1+5k words.
+-- A log is k (at most 1,024), ..
+abbrev pub maxMoves : ℕ
+maxMoves = 1024
+
+-- .. k heads, then 4k picks, 1+5k words.
 abbrev pub moveCount : List ℕ → ℕ
 moveCount l = getD l 0 0
 
 unfoldable pub logSizesOk : List ℕ → Bool
-logSizesOk l = leb 1 (length l) && (leb (moveCount l) 1024 && eqb (length l) (1 + 5 * moveCount l))
+logSizesOk l = leb 1 (length l) && (leb (moveCount l) maxMoves && eqb (length l) (1 + 5 * moveCount l))
 
 -- the five words of the move at place i
 abbrev pub moveAt : List ℕ → ℕ → List ℕ

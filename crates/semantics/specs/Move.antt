@@ -22,10 +22,15 @@ abbrev pub unless : Bool → Refusal → Verdict
 unless true r = Allowed
 unless false r = Denied r
 
--- First fault counts.
 abbrev pub both : Verdict → Verdict → Verdict
 both Allowed v = v
 both (Denied r) v = Denied r
+
+-- First fault counts: the verdict of tests in the order in which they are made.
+abbrev pub firstFault : List Verdict → Verdict
+firstFault [] = Allowed
+firstFault (v ∷ []) = v
+firstFault (v ∷ w ∷ vs) = both v (firstFault (w ∷ vs))
 
 -- ---- form (5)
 
@@ -97,10 +102,16 @@ ownersFit class os =
 abbrev pub hasId : Rule → State → Bool
 hasId r s = not (begins r) || ltb (s .next) 65536
 
+-- 7, 8, 11
+abbrev pub reactFaults : Rule → State → List ℕ → List Verdict
+reactFaults r s ps =
+    unless (picksOk r s ps) WrongPick
+    ∷ unless (ownersFit (r .class) (ownersAt s ps)) WrongOwner
+    ∷ unless (hasId r s) NoMoreIds
+    ∷ []
+
 abbrev pub reactAllowed : Rule → State → List ℕ → Verdict
-reactAllowed r s ps =
-    both (unless (picksOk r s ps) WrongPick)
-    (both (unless (ownersFit (r .class) (ownersAt s ps)) WrongOwner) (unless (hasId r s) NoMoreIds))
+reactAllowed r s ps = firstFault (reactFaults r s ps)
 
 -- all of which become one under their smallest ticket
 abbrev pub merged : List ℕ → Entry → Entry
@@ -157,6 +168,10 @@ mayCommit t b s = all (λ e. not (isAbortMark e) && (not (isMessage e) || ltb (e
 abbrev pub mayAbort : ℕ → State → Bool
 mayAbort b s = any isAbortMark (entriesIn b s)
 
+-- 9, 10: the end of batch b, of which `may` says whether it is allowed where b is open
+abbrev pub endFaults : Bool → ℕ → State → List Verdict
+endFaults may b s = unless (isOpen b s) NoTransaction ∷ unless may EndNotAllowed ∷ []
+
 abbrev pub toGlobal : Entry → Entry
 toGlobal e = record { origin = e .origin; owner = 0; kind = 0; port = e .port; value = e .value }
 
@@ -173,8 +188,8 @@ ended p b s = record { next = s .next; entries = map (freed p b) (keep (λ e. no
 -- why a move is refused, before anything is changed (7 to 11)
 unfoldable pub allowed : Table → State → Move → Verdict
 allowed t s (react r ps) = reactAllowed (ruleAt t r) s ps
-allowed t s (commit b) = both (unless (isOpen b s) NoTransaction) (unless (mayCommit t b s) EndNotAllowed)
-allowed t s (abort b) = both (unless (isOpen b s) NoTransaction) (unless (mayAbort b s) EndNotAllowed)
+allowed t s (commit b) = firstFault (endFaults (mayCommit t b s) b s)
+allowed t s (abort b) = firstFault (endFaults (mayAbort b s) b s)
 
 -- what a move that is allowed leaves; i is the maker of its products
 unfoldable pub applied : Table → ℕ → State → Move → State
@@ -204,4 +219,4 @@ stepWords ceiling t i s m = cond (moveOk t m) (within ceiling (step t i s (moveO
 
 -- the same as a verdict, for a reader who tests before anything is changed
 unfoldable pub moveVerdict : ℕ → Table → State → Move → Verdict
-moveVerdict ceiling t s m = both (allowed t s m) (unless (leb (length (applied t 0 s m .entries)) ceiling) TooManyEntries)
+moveVerdict ceiling t s m = firstFault (allowed t s m ∷ unless (leb (length (applied t 0 s m .entries)) ceiling) TooManyEntries ∷ [])

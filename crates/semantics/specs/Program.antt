@@ -6,7 +6,7 @@ use lib.Dec.{eqb}
 use lib.ListN.{length, getD, take, drop}
 use Rattle.semantics.specs.Table.{Table, sizesOf, tableOf}
 use Rattle.semantics.specs.State.{State, entryCount, nextOf, stateOf}
-use Rattle.semantics.specs.Move.{unless, both, Stepped, to, refused, stepWords}
+use Rattle.semantics.specs.Move.{unless, firstFault, Stepped, to, refused, stepWords}
 use Rattle.semantics.specs.Log.{moveCount, movesOf}
 use Rattle.semantics.specs.Answers.{number, logVerdict, lineCeiling}
 use Rattle.semantics.specs.declared.Refusal.{Refusal}
@@ -57,7 +57,11 @@ partWords p = length (p .table) + length (p .state) + length (p .log)
 -- Faults of the parts are tested in the order 1, 2, 3, 4, 13, bytes left over (13) last.
 unfoldable pub inputVerdict : List ℕ → ℕ → Verdict
 inputVerdict ws bytes =
-    both (logVerdict (partsOf ws .table) (partsOf ws .state) (partsOf ws .log)) (unless (eqb bytes (4 * partWords (partsOf ws))) LogSizes)
+    firstFault (
+    logVerdict (partsOf ws .table) (partsOf ws .state) (partsOf ws .log)
+    ∷ unless (eqb bytes (4 * partWords (partsOf ws))) LogSizes
+    ∷ []
+    )
 
 -- ---- output
 

@@ -82,11 +82,15 @@ stateWords s =
 
 -- ---- n, N and length (3)
 
--- A state holds at most 1,024 entries; N is 1 to 65,536; exactly 2+2n words.
+-- A state holds at most 1,024 entries; ..
+abbrev pub maxEntries : ℕ
+maxEntries = 1024
+
+-- .. N is 1 to 65,536; exactly 2+2n words.
 unfoldable pub stateSizesOk : List ℕ → Bool
 stateSizesOk s =
     leb 2 (length s)
-    && (leb (entryCount s) 1024 && (leb 1 (nextOf s) && leb (nextOf s) 65536) && eqb (length s) (2 + 2 * entryCount s))
+    && (leb (entryCount s) maxEntries && (leb 1 (nextOf s) && leb (nextOf s) 65536) && eqb (length s) (2 + 2 * entryCount s))
 
 -- ---- entries (4)
 

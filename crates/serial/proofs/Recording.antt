@@ -18,9 +18,10 @@ use Rattle.semantics.specs.Serial.{Act, picksOf, membersOf, after, acts}
 use Rattle.semantics.specs.declared.Refusal.{Refusal}
 use Rattle.semantics.specs.declared.Verdict.{Verdict}
 use Rattle.semantics.specs.declared.Verdict.the-variants.{Allowed, Denied}
-use Rattle.wellformed.specs.Verdicts.{sizes-tableOf, denied≢allowed}
+use Rattle.wellformed.specs.Verdicts.{denied≢allowed}
+use Rattle.wellformed.specs.Tables.{sizes-tableOf}
 use Rattle.wellformed.specs.Rules.{table-right}
-use Rattle.wellformed.specs.Step.{Accepted, accepted}
+use Rattle.wellformed.specs.Step.{AcceptedMove, accepted-move}
 use Rattle.wellformed.specs.Held.{Held, step-holds}
 use Rattle.cells.specs.Shapes.{table-shaped}
 use Rattle.state.specs.declared.State.{State}
@@ -63,7 +64,7 @@ endAfter-more p e (x ∷ xs) a = endAfter-more p (cond (endsBegun p x) (x .place
 
 after-accepted : (ceiling : ℕ) (t : Table) (i : ℕ) (s : semantics.State) (w : List ℕ) (s′ : semantics.State) → stepWords ceiling t i s w ≡ to s′ → after t i s (moveOf t w) ≡ s′
 unfolding after step
-after-accepted ceiling t i s w s′ e = let a = accepted ceiling t i s w s′ e in rw (a .allows, a .result)
+after-accepted ceiling t i s w s′ e = let a = accepted-move ceiling t i s w s′ e in rw (a .allows, a .result)
 
 -- as the code reads them
 pub words-read : (l : List ℕ) (i : ℕ) {head : ℕ} {picks : List ℕ} → head ≡ getD l (1 + i) 0 → picks ≡ take 4 (drop (1 + moveCount l + 4 * i) l) → head ∷ picks ≡ moveAt l i
@@ -176,8 +177,8 @@ module _ {T index l : List ℕ} {s₀ : State} {ceiling : ℕ} {before : List �
           stepped : stepWords ceiling (tableOf T) (i + 1) (stateIn s) (head ∷ picks) ≡ to (stateIn s′)
           stepped = rw ok at (step .step)
 
-          passed : Accepted ceiling (tableOf T) (suc i) (stateIn s) (head ∷ picks) (stateIn s′)
-          passed = accepted ceiling (tableOf T) (suc i) (stateIn s) (head ∷ picks) (stateIn s′) (rw (add-one i) at stepped)
+          passed : AcceptedMove ceiling (tableOf T) (suc i) (stateIn s) (head ∷ picks) (stateIn s′)
+          passed = accepted-move ceiling (tableOf T) (suc i) (stateIn s) (head ∷ picks) (stateIn s′) (rw (add-one i) at stepped)
 
           legal : Legal (tableOf T) (stateIn s) head picks
           legal = record {

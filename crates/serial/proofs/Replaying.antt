@@ -21,7 +21,7 @@ use Rattle.semantics.specs.Log.{moveCount, headOf, fourPicks, allPicks, logWord
 use Rattle.semantics.specs.Serial.{Act, after, again, replayed, fits}
 use Rattle.semantics.specs.declared.Refusal.{Refusal}
 use Rattle.semantics.specs.declared.Verdict.the-variants.{Allowed}
-use Rattle.wellformed.specs.Step.{stepWords-verdict, refused≢to, accepted}
+use Rattle.wellformed.specs.Step.{stepWords-verdict, refused≢to, accepted-move}
 use Rattle.wellformed.specs.Length.{length-maker}
 use Rattle.serial.specs.Acts.{Recorded, wordsOfMove, ActsAgain, Replays, replayFits}
 use Rattle.serial.specs.Replay.{Words, Arranged}
@@ -94,7 +94,7 @@ module _ (ceiling : ℕ) (t : Table) (start : State) (l order origins members : 
           let words = words-same (r .recorded .0) g (sym place) w in
           let maker : getD order j 0 + 1 ≡ suc (a .place) = omega arith in
           let next : s ≡ after t (suc (a .place)) c m =
-          sym (accepted ceiling t (getD order j 0 + 1) c (head ∷ picks) s e .result) ∙ rw (maker, words, g .words) (sym (after-allowed t (suc (a .place)) c m (g .allows))) in (
+          sym (accepted-move ceiling t (getD order j 0 + 1) c (head ∷ picks) s e .result) ∙ rw (maker, words, g .words) (sym (after-allowed t (suc (a .place)) c m (g .allows))) in (
             rest,
             record {
               places = tail-eq (r .places ∙ ahead);

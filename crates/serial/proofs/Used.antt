@@ -8,7 +8,7 @@ use borrow.Author.Tests.{eq-eqb, ne-eqb}
 use Rattle.semantics.specs.Words.{headKind, headNumber}
 use Rattle.semantics.specs.Table.{Table, Rule, sizesOf, tableOf, noRule, ruleAt, consumed}
 use Rattle.semantics.specs.Move.{picksUsed}
-use Rattle.wellformed.specs.Verdicts.{length-rules}
+use Rattle.wellformed.specs.Tables.{length-rules}
 
 module _ (t : Table) (head : ℕ) where
   pub used-end : (headKind head ≡ 0 → ⊥) → 0 ≡ picksUsed t head

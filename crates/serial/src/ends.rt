@@ -12,8 +12,10 @@ ghost use Rattle.serial.specs.Marks.{Lent, marksOf, NotedAt, RowsNoted};
 ghost use Rattle.serial.specs.Recordings.{marksEnded};
 use crate::chunk::chunk_end;
 use crate::chunk::chunk_has;
+use words::head;
 use words::item::MEMBER_MARK;
 use words::item::kind_of;
+use words::origin;
 
 fn is_mark(owner: u32, item: u32, id: u32) -> bool
     ensures { λ r. ⌜ r ≡ eqb (itemKind item) 3 && eqb owner id ⌝ }
@@ -26,7 +28,7 @@ fn begun_by(owner: u32, item: u32, origin: u32, id: u32) -> u32
     ensures { λ r. ⌜ r ≡ cond (eqb (itemKind item) 3 && eqb owner id) (origin / 1024) 0 ⌝ }
 {
     if is_mark(owner, item, id) {
-        origin / 1024
+        origin::maker_of(origin)
     } else {
         0
     }
@@ -121,7 +123,7 @@ pub fn note_if_end<'a>(
     requires { ⌜ Lent (now owners) (now items) (now origins) n × (place < 1024) × (length (now ended) ≡ 1024) ⌝ }
     ensures { λ _. ⌜ NotedAt place (marksEnded head (rows (rowOf (now (owners .entry)) (now (items .entry)) (now (origins .entry))) 0 n)) (now (ended .entry)) (now (ended .exit)) ⌝ }
 {
-    if head / 16777216 == 0 {
+    if head::kind_of(head) == head::REACT {
         return;
     }
     note_ends(
@@ -129,7 +131,7 @@ pub fn note_if_end<'a>(
         items,
         origins,
         n,
-        head % 16777216,
+        head::number_of(head),
         place as u32,
         ended,
     );

@@ -18,6 +18,8 @@ use log::picks_at;
 use run::Ran;
 use semantics::Verdict;
 use step::make::make;
+use words::head;
+use words::origin;
 
 fn word_at(column: &[u32; 1024], place: u32) -> u32
     requires { ⌜ length (now column) ≡ 1024 ⌝ }
@@ -49,10 +51,10 @@ fn concerned(owners: &[u32; 1024], head: u32, picks: [u32; 4]) -> u32
     requires { ⌜ length (now owners) ≡ 1024 ⌝ }
     ensures { λ r. ⌜ r ≡ concernedBy (now (owners .entry)) head picks ⌝ }
 {
-    if head / 16777216 == 0 {
+    if head::kind_of(head) == head::REACT {
         word_at(owners, picks[0])
     } else {
-        head % 16777216
+        head::number_of(head)
     }
 }
 
@@ -107,7 +109,7 @@ fn note_begin(
     if next == after {
         return;
     }
-    let mark = (i as u32 + 1) * 1024;
+    let mark = origin::origin_of(i as u32 + 1, 0);
     begun[(next - first) as usize] = mark;
     members[i] = mark;
 }

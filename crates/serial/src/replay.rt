@@ -16,10 +16,11 @@ ghost use Rattle.step.specs.Make.{Indexed};
 ghost use Rattle.serial.specs.Replay.{placeIn, headAgain, Words, Readable, Replayable, ReplayedAs};
 use crate::chunk::chunk_of;
 use log::head_at;
+use rules::decode::consumes_at;
 use semantics::Verdict;
 use step::make::make;
-use table::decode::consumes_at;
 use table::parts::sizes_of;
+use words::head;
 
 // The words of a move.
 struct Again {
@@ -76,10 +77,10 @@ fn picks_used<'a>(table: &'a [u32], starts: &'a [u32; 65], head: u32) -> usize
     requires { ⌜ Indexed (now table) (now starts) ⌝ }
     ensures { λ r. ⌜ (r ≡ picksUsed (tableOf (now (table .entry))) head) × (r ≤ 4) ⌝ }
 {
-    if head / 16777216 != 0 {
+    if head::kind_of(head) != head::REACT {
         return 0;
     }
-    let number = head % 16777216;
+    let number = head::number_of(head);
     let sizes = sizes_of(table);
     if sizes.rules <= number {
         return 0;
@@ -106,15 +107,15 @@ fn head_again<'a>(
     requires { ⌜ Columns (now owners) (now origins) n ⌝ }
     ensures { λ r. ⌜ ((ws : List ℕ) → r ≡ headAgain (rows (rowOf (now (owners .entry)) ws (now (origins .entry))) 0 n) head member) ⌝ }
 {
-    let kind = head / 16777216;
-    if kind == 0 {
+    let kind = head::kind_of(head);
+    if kind == head::REACT {
         return head;
     }
-    let id = owner_at(owners, n, place_of(origins, n, member)) % 16777216;
-    if kind == 1 {
-        16777216 + id
+    let id = head::number_of(owner_at(owners, n, place_of(origins, n, member)));
+    if kind == head::COMMIT {
+        head::head_of(head::COMMIT, id)
     } else {
-        33554432 + id
+        head::head_of(head::ABORT, id)
     }
 }
 

@@ -77,7 +77,7 @@ module _ (t : Table) (right : TableRight t) (few : length (t .rules) ≤ 64) whe
           form = words-ok t m held;
           words = words-back t m held;
           allows = g .0;
-          owner = λ en o h. again-owner c (A .0) (a .picks) (A .1) en o (subst (λ (l : List Origin). isInO o l ≡ true) (sm .0 en .0) h);
+          owner = λ en o h. again-owner c (A .0) (a .picks) (A .1 .same) en o (subst (λ (l : List Origin). isInO o l ≡ true) (sm .0 en .0) h);
           present = λ en. sm .0 en .1;
         },
         replays ds (after t (suc (a .place)) c m) e (g .1) (A .2) still (known .1) (sm .1),

@@ -18,7 +18,8 @@ use Rattle.semantics.specs.Serial.{Act, beginsEmit, anyOpen, acts, ordered, rep
 use Rattle.semantics.specs.Answers.{stateVerdict, runOf, serialOf, serialFitsOf, serialResult, write, refuse}
 use Rattle.semantics.specs.declared.Refusal.the-variants.{SerialTooManyEntries}
 use Rattle.semantics.specs.declared.Verdict.the-variants.{Allowed}
-use Rattle.wellformed.specs.Verdicts.{table-given, sizes-given, length-rules, state-given}
+use Rattle.wellformed.specs.Tables.{well-formed, length-rules}
+use Rattle.wellformed.specs.States.{state-given}
 use Rattle.wellformed.specs.Rules.{TableRight}
 use Rattle.wellformed.specs.Preservation.{RuleKnown}
 use Rattle.serializability.specs.Statement.{Accepted, movesIn, Serializable}
@@ -75,7 +76,7 @@ module _ (ceiling : ℕ) (T S L : List ℕ) (e : State) (ok : stateVerdict T S �
   serializable = demand3 ceiling T S L e ok ne op lo ran cl
 
   few : length (tableOf T .rules) ≤ 64
-  few = let k = length-rules T in let l = sizes-given T (table-given T (state-given S T ok .0) .0) .rules in omega arith
+  few = let k = length-rules T in let l = well-formed T (state-given S T ok .0) .sizes .rules in omega arith
 
   moves-length : length (movesIn T L) ≡ moveCount L
   moves-length = length-map (movesOf L) (moveOf (tableOf T)) ∙ moves-count L

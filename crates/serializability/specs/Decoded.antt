@@ -1,6 +1,6 @@
 -- Demand 3 on decoded moves: of every log accepted from a state without open transactions, and ending in one.
 use mathlib.Core.Path.{_≡_, refl, sym, ap, subst, _∙_}
-use mathlib.Core.Bool.{Bool, true, false, not, _&&_}
+use mathlib.Core.Bool.{Bool, true, false, not, _&&_, _||_}
 use mathlib.Core.List.{List, [], _∷_, _++_, map}
 use Prim.Native.Nat.{ℕ, suc, _+_, _≤_, _<_}
 use native.Mathlib.Omega.{arith}
@@ -12,8 +12,8 @@ use Rattle.lists.specs.Each.{All, All-unmap, map-split}
 use Rattle.semantics.specs.Table.{Table}
 use Rattle.semantics.specs.State.{Origin, Entry, State, owned, stateWords}
 use Rattle.semantics.specs.Move.{Move, applied}
-use Rattle.semantics.specs.Serial.{Act, beginsEmit, anyOpen, sameOrigin, after, acts, isEnd, isInner, belongsTo, ordered, again, replayed, serial, along, isBegin}
-use Rattle.serializability.specs.Statement.{Accepted, orderOf, placesOf, stateBefore, SameMove, hasOrigin, noMove, endsMemberOf, isGlobal, Serial}
+use Rattle.semantics.specs.Serial.{Act, beginsEmit, anyOpen, sameOrigin, membersOf, after, acts, isEnd, isInner, belongsTo, ordered, again, replayed, serial, along, isBegin}
+use Rattle.serializability.specs.Statement.{Accepted, orderOf, placesOf, stateBefore, SameMove, hasOrigin, noMove, moveIn, placeAt, logState, serialState, isMadeInside, endsMemberOf, isGlobal, Serial}
 use Rattle.cells.specs.ByOrigin.{Uniq}
 use Rattle.cells.specs.Rules.{Shaped}
 use Rattle.cells.specs.Shapes.{table-shaped}
@@ -30,7 +30,9 @@ use Rattle.serializability.specs.Blocks.{order-sorted}
 use Rattle.serializability.specs.OneBlock.{one-block-of}
 use Rattle.serializability.specs.BegunBefore.{begunIn, begun-before-of}
 use Rattle.cells.specs.Replay.{again-known, Goes, Ends, replay-runs}
-use Rattle.serializability.specs.SameMoves.{Placed, all-placed, same-moves, serial-uniq}
+use Rattle.serializability.specs.SameMoves.{Placed, all-placed, same-moves, same-members, serial-uniq}
+use Rattle.serializability.specs.InnerMoves.{inner-is}
+use Rattle.cells.specs.Origins.{isInO}
 use Rattle.serializability.specs.States.{origin-once, log-uniq, along-same}
 use Rattle.wellformed.specs.Rules.{TableRight}
 use Rattle.wellformed.specs.Entries.{Sound}
@@ -194,6 +196,28 @@ module _ (t : Table) (right : TableRight t) (ne : beginsEmit t ≡ false) (s : S
       placed : All (Placed t s ms) (isort ds)
       placed = All-isort (Placed t s ms) ds placed-log
 
+  members-at : (j : ℕ) → j < length ms → (o : Origin)
+      → any (sameOrigin o) (membersOf t (placeAt t s ms j) (serialState t s ms j) (moveIn (serial t s ms) j))
+      ≡ any (sameOrigin o) (membersOf t (placeAt t s ms j) (logState t s ms (placeAt t s ms j)) (moveIn ms (placeAt t s ms j)))
+  members-at j h o =
+      subst (λ (ps : List ℕ). isInO o (membersOf t (getD ps j 0) (stateBefore t ps s (serial t s ms) j) (moveIn (serial t s ms) j))
+      ≡ isInO o (membersOf t (getD ps j 0) (logState t s ms (getD ps j 0)) (moveIn ms (getD ps j 0)))) (sym places-are)
+      (subst (λ (l : List Move). isInO o (membersOf t (getD sorted j 0) (stateBefore t sorted s l j) (moveIn l j))
+      ≡ isInO o (membersOf t (getD sorted j 0) (logState t s ms (getD sorted j 0)) (moveIn ms (getD sorted j 0)))) (sym serial-is)
+      (same-members t s ms (isort ds) s (again-runs .agains) (All-isort (Placed t s ms) ds placed-log) j (let w = sorted-length in omega arith) o))
+    where
+      sorted : List ℕ
+      sorted = map (λ a. a .place) (isort ds)
+
+  inner-at : (xs ys : List Act) (x : Act) → acts t 0 s ms ≡ xs ++ x ∷ ys → isInner x ≡ isBegin t (x .move) || isMadeInside t (x .move)
+  inner-at xs ys x q = go (map-split actOf ds xs ys x (sym acts-are ∙ q))
+    where
+      go : (us : List Deed) × (u : Deed) × (vs : List Deed) × (ds ≡ us ++ u ∷ vs) × (map actOf us ≡ xs) × (actOf u ≡ x) × (map actOf vs ≡ ys)
+          → isInner x ≡ isBegin t (x .move) || isMadeInside t (x .move)
+      go (us, u, vs, p, a, b, c) =
+          subst (λ (y : Act). isInner y ≡ isBegin t (y .move) || isMadeInside t (y .move)) b
+          (inner-is t sd (view s) (view e) us u vs g (subst (λ (l : List Deed). LogRuns t 0 (view s) l (view e)) p (ran .0)))
+
   origins-at : (j : ℕ) → j < length ms → (o : Origin)
       → (count (hasOrigin o) (stateBefore t (upFrom 0 (length ms)) s ms j .entries) ≤ 1) ×
       (count (hasOrigin o) (stateBefore t (placesOf t s ms) s (serial t s ms) j .entries) ≤ 1)
@@ -236,10 +260,12 @@ module _ (t : Table) (right : TableRight t) (ne : beginsEmit t ≡ false) (s : S
     once = once;
     size = serial-size;
     same = same-at;
+    members = members-at;
     origins = origins-at;
     states = states-at;
     blocks = λ xs ys a q h. subst (λ (l : List Act). (before : List Act) × (behind : List Act) × (ordered [] l ≡ before ++ (keep (belongsTo a) xs ++ a ∷ behind))) (sym q)
         (block-there xs ys a h);
+    inner = inner-at;
     one-block = one-block;
     begun-before = begun-before;
     others = outer-order [] (acts t 0 s ms);

@@ -16,7 +16,8 @@ use Rattle.semantics.specs.Serial.{beginsEmit, anyOpen, serial, along, fits, se
 use Rattle.semantics.specs.Answers.{tableVerdict, stateVerdict, unlessDenied, logVerdict, runOf, ranResult, runResult, serialOf, serialFitsOf, serialResult, write, refuse}
 use Rattle.semantics.specs.declared.Refusal.the-variants.{SerialTooManyEntries}
 use Rattle.semantics.specs.declared.Verdict.the-variants.{Allowed}
-use Rattle.wellformed.specs.Verdicts.{table-given, sizes-given, sizes-tableOf, length-rules, state-given}
+use Rattle.wellformed.specs.Tables.{well-formed, sizes-tableOf, length-rules}
+use Rattle.wellformed.specs.States.{state-given}
 use Rattle.wellformed.specs.Rules.{TableRight, table-right}
 use Rattle.wellformed.specs.Preservation.{RuleKnown, rule-known}
 use Rattle.wellformed.specs.Held.{stateOf-held}
@@ -69,7 +70,7 @@ module _ (ceiling : ℕ) (T S L : List ℕ) (e : State) (ok : stateVerdict T S �
   count-is = length-map (movesOf L) (moveOf t) ∙ moves-count L
 
   pub held : All (Holdable t) (serial t s ms)
-  held = all-holdable t right (let k = length-rules T in let l = sizes-given T (table-given T table-ok .0) .rules in omega arith)
+  held = all-holdable t right (let k = length-rules T in let l = well-formed T table-ok .sizes .rules in omega arith)
       0 s (serial t s ms) (serial-log .end) (serial-log .accepted) (start .sound) (serial-known t right ne s start ms known e (taken .0) cl)
 
   log-allowed : logVerdict T S L ≡ Allowed

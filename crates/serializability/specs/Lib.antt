@@ -10,6 +10,7 @@ pub mod OneBlock
 pub mod BegunBefore
 pub mod SameMoves
 pub mod States
+pub mod InnerMoves
 pub mod Decoded
 pub mod LogWords
 pub mod RunWords

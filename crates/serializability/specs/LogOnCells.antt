@@ -29,7 +29,7 @@ use Rattle.cells.specs.Marks.{MarkAt, mark-stay, firstOf, mark-made, touched-li
 use Rattle.serializability.specs.SameKey.{Marked, LogRuns}
 use Rattle.cells.specs.Steps.{good-next}
 
-ports-some : (ts : List ℕ) (es : List Entry) → isEmpty ts ≡ false → onPorts ts es ≡ true → isEmpty (owners es) ≡ false
+pub ports-some : (ts : List ℕ) (es : List Entry) → isEmpty ts ≡ false → onPorts ts es ≡ true → isEmpty (owners es) ≡ false
 ports-some [] es n h = absurd (true≢false n)
 ports-some (t ∷ ts) [] n h = absurd (false≢true h)
 ports-some (t ∷ ts) (e ∷ es) n h = refl

@@ -11,7 +11,7 @@ use lib.ListN.{length, getD, take, drop, replicate, length-map, length-append, l
 use lib.Seq.{drop-append-add, take-at, take-take}
 use Rattle.lists.specs.Lists.{all, upFrom}
 use Rattle.lists.specs.Choices.{and-left, and-right, and-intro}
-use Rattle.lists.specs.Walk.{length-upFrom}
+use Rattle.lists.specs.Tabled.{length-tabled}
 use Rattle.lists.specs.UpFrom.{map-up, map-shift}
 use Rattle.semantics.specs.Words.{headKind, headNumber, headWord}
 use Rattle.semantics.specs.Table.{Table, ruleAt, consumed}
@@ -99,13 +99,13 @@ columns (m ∷ ms) = λ j. (headOf m ∷ take-at (fourPicks m) (allPicks ms) 4 (
     rest : map (fromColumns ms) (upFrom 0 (length ms)) ≡ map moveWords ms → map (fromColumns (m ∷ ms)) (upFrom 1 (length ms)) ≡ map moveWords ms
     rest ih = map-shift (fromColumns (m ∷ ms)) (length ms) 0 ∙ map-up (λ x. fromColumns (m ∷ ms) (suc x)) (fromColumns ms) (length ms) 0 (λ x l. shifted x) ∙ ih
 
-pub picks-length : (ms : List Move) → length (allPicks ms) ≡ 4 * length ms
-picks-length [] = refl
-picks-length (m ∷ ms) = let a = length-append (fourPicks m) (allPicks ms) in let b = fourPicks-length m in let c = picks-length ms in omega arith
+pub allPicks-length : (ms : List Move) → length (allPicks ms) ≡ 4 * length ms
+allPicks-length [] = refl
+allPicks-length (m ∷ ms) = let a = length-append (fourPicks m) (allPicks ms) in let b = fourPicks-length m in let c = allPicks-length ms in omega arith
 
 pub log-length : (ms : List Move) → length (logWords ms) ≡ 1 + 5 * length ms
 unfolding logWords
-log-length ms = let a = length-append (map headOf ms) (allPicks ms) in let b = length-map ms headOf in let c = picks-length ms in omega arith
+log-length ms = let a = length-append (map headOf ms) (allPicks ms) in let b = length-map ms headOf in let c = allPicks-length ms in omega arith
 
 log-count : (ms : List Move) → moveCount (logWords ms) ≡ length ms
 unfolding logWords
@@ -136,7 +136,7 @@ moves-back ms = map-up (moveAt (logWords ms)) (fromColumns ms) (length ms) 0 (λ
 
 -- as many moves as the log's first word says
 pub moves-count : (L : List ℕ) → length (movesOf L) ≡ moveCount L
-moves-count L = length-map (upFrom 0 (moveCount L)) (moveAt L) ∙ length-upFrom 0 (moveCount L)
+moves-count L = length-tabled (moveAt L) 0 (moveCount L)
 
 pub count-1024 : (L : List ℕ) → logSizesOk L ≡ true → moveCount L ≤ 1024
 unfolding logSizesOk

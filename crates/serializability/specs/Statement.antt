@@ -1,17 +1,17 @@
 -- Demand 3: what is promised of every accepted log and its serial log. To believe it, only this file and the definitions of the crate `semantics`
 -- must be believed; all else in this crate is its proof (Demand3.antt has the theorem, Instances.antt applies it to 01's cases).
 use Prim.Native.Nat.{ℕ, zero, suc, _+_, _*_, _≤_, _<_}
-use mathlib.Core.Bool.{Bool, true, false, _&&_, not, cond}
+use mathlib.Core.Bool.{Bool, true, false, _&&_, _||_, not, cond}
 use mathlib.Core.List.{List, [], _∷_, _++_, map}
 use mathlib.Core.Path.{_≡_}
 use lib.Dec.{eqb}
 use lib.ListN.{length, getD, take, drop}
 use Rattle.lists.specs.Lists.{all, any, keep, count, least, upFrom}
-use Rattle.semantics.specs.Table.{Table, tableOf}
+use Rattle.semantics.specs.Table.{Table, ruleAt, tableOf}
 use Rattle.semantics.specs.State.{Origin, Entry, State, owned, markValues, stateOf, stateWords}
 use Rattle.semantics.specs.Move.{Move, react, commit, abort, picked, entriesIn, allowed, applied, moveOf}
 use Rattle.semantics.specs.Log.{moveCount, movesOf, logSizesOk, logWords, ended}
-use Rattle.semantics.specs.Serial.{beginsEmit, anyOpen, Act, originsOf, marksIn, after, acts, isEnd, isBegin, isInner, sameOrigin, belongsTo, ordered, serial, along, fits}
+use Rattle.semantics.specs.Serial.{beginsEmit, anyOpen, Act, originsOf, marksIn, membersOf, after, acts, isEnd, isBegin, isInner, sameOrigin, belongsTo, ordered, serial, along, fits}
 use Rattle.semantics.specs.Answers.{stateVerdict, lineCeiling, runOf, serialOf, write, refuse, runResult, runLog, runLogTarget, serialResult, serialize, serializeTarget}
 use Rattle.semantics.specs.declared.Refusal.the-variants.{SerialTooManyEntries}
 use Rattle.semantics.specs.declared.Verdict.the-variants.{Allowed}
@@ -53,9 +53,28 @@ pub data SameMove (s s′ : State) : Move → Move → Type 0 where
 abbrev pub hasOrigin : Origin → Entry → Bool
 hasOrigin o e = sameOrigin o (e .origin)
 
--- stands past the last move
+-- the move at a place; something where there is none
 abbrev pub noMove : Move
 noMove = react 0 []
+
+abbrev pub moveIn : List Move → ℕ → Move
+moveIn ms i = getD ms i noMove
+
+-- the place in the log of the j-th move of the serial log, and the states before the log's move at place i and before the serial log's j-th move
+abbrev pub placeAt : Table → State → List Move → ℕ → ℕ
+placeAt t s ms j = getD (placesOf t s ms) j 0
+
+abbrev pub logState : Table → State → List Move → ℕ → State
+logState t s ms i = stateBefore t (upFrom 0 (length ms)) s ms i
+
+abbrev pub serialState : Table → State → List Move → ℕ → State
+serialState t s ms j = stateBefore t (placesOf t s ms) s (serial t s ms) j
+
+-- a reaction by a local or a merge rule is made in the transactions of its picks
+abbrev pub isMadeInside : Table → Move → Bool
+isMadeInside t (react r ps) = not (eqb (ruleAt t r .class) 0)
+isMadeInside t (commit b) = false
+isMadeInside t (abort b) = false
 
 -- a ends a member that x begins, or in whose transaction x is made
 abbrev pub endsMemberOf : Act → Act → Bool
@@ -73,18 +92,22 @@ pub record Serial (t : Table) (s : State) (ms : List Move) (e : State) : Type 0 
   pub size : length (serial t s ms) ≡ length ms
   -- .. and the j-th move of the serial log is the log's move of the j-th of these places.
   pub same : (j : ℕ) → j < length ms
-      → SameMove (stateBefore t (upFrom 0 (length ms)) s ms (getD (placesOf t s ms) j 0)) (stateBefore t (placesOf t s ms) s (serial t s ms) j)
-      (getD ms (getD (placesOf t s ms) j 0) noMove) (getD (serial t s ms) j noMove)
+      → SameMove (logState t s ms (placeAt t s ms j)) (serialState t s ms j) (moveIn ms (placeAt t s ms j)) (moveIn (serial t s ms) j)
+  -- It concerns the same members: the one that it begins, those of the transactions that it is made in, or those that it ends.
+  pub members : (j : ℕ) → j < length ms → (o : Origin)
+      → any (sameOrigin o) (membersOf t (placeAt t s ms j) (serialState t s ms j) (moveIn (serial t s ms) j))
+      ≡ any (sameOrigin o) (membersOf t (placeAt t s ms j) (logState t s ms (placeAt t s ms j)) (moveIn ms (placeAt t s ms j)))
   -- (Origins tell entries apart: in none of these states have two entries the same one. And they change nothing: the second states are those along the
   -- serial log.)
   pub origins : (j : ℕ) → j < length ms → (o : Origin)
-      → (count (hasOrigin o) (stateBefore t (upFrom 0 (length ms)) s ms j .entries) ≤ 1) ×
-      (count (hasOrigin o) (stateBefore t (placesOf t s ms) s (serial t s ms) j .entries) ≤ 1)
-  pub states : (j : ℕ) → j ≤ length ms → stateWords (stateBefore t (placesOf t s ms) s (serial t s ms) j) ≡ stateWords (getD (along t 0 s (serial t s ms)) j s)
+      → (count (hasOrigin o) (logState t s ms j .entries) ≤ 1) × (count (hasOrigin o) (serialState t s ms j .entries) ≤ 1)
+  pub states : (j : ℕ) → j ≤ length ms → stateWords (serialState t s ms j) ≡ stateWords (getD (along t 0 s (serial t s ms)) j s)
   -- 2. Blocks: directly before a commit or abort a stand the begins of the members that it ends and the reactions made in their transactions, in
   -- log order, with no other move between;
   pub blocks : (xs ys : List Act) (a : Act) → acts t 0 s ms ≡ xs ++ a ∷ ys → isEnd (a .move) ≡ true
       → (before : List Act) × (behind : List Act) × (orderOf t s ms ≡ before ++ (keep (belongsTo a) xs ++ a ∷ behind))
+  -- the inner moves are the begins and the reactions by local and merge rules;
+  pub inner : (xs ys : List Act) (x : Act) → acts t 0 s ms ≡ xs ++ x ∷ ys → isInner x ≡ isBegin t (x .move) || isMadeInside t (x .move)
   -- each begin and each reaction made in transactions belongs to one commit or abort of the log, which stands after it;
   pub one-block : (xs ys : List Act) (x : Act) → acts t 0 s ms ≡ xs ++ x ∷ ys → isInner x ≡ true
       → (count (endsMemberOf x) (acts t 0 s ms) ≡ 1) × (count (endsMemberOf x) ys ≡ 1)

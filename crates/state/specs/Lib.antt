@@ -3,3 +3,4 @@ pub mod Working
 pub mod Arrays
 pub mod Compact
 pub mod Lent
+pub mod Owners

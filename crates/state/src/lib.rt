@@ -1,7 +1,9 @@
 // The state: its check on words, and the working state that a step changes.
 mod entries;
+mod owners;
 mod parts;
 
+pub use owners::any_open;
 pub use parts::entry_count;
 pub use parts::owners_of;
 use semantics::Refusal;

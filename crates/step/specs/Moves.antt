@@ -17,10 +17,10 @@ use Rattle.semantics.specs.declared.Refusal.the-variants.{NoTransaction, EndNot
 use Rattle.semantics.specs.declared.Sizes.{Sizes}
 use Rattle.semantics.specs.declared.Verdict.{Verdict}
 use Rattle.semantics.specs.declared.Verdict.the-variants.{Allowed, Denied}
-use Rattle.wellformed.specs.Verdicts.{length-rules}
+use Rattle.wellformed.specs.Tables.{length-rules}
 use Rattle.wellformed.specs.Length.{length-commit, length-abort}
-use Rattle.table.specs.declared.decode.Rule.{Rule}
-use Rattle.table.specs.Decode.{Decodes}
+use Rattle.rules.specs.declared.decode.Rule.{Rule}
+use Rattle.rules.specs.Decode.{Decodes}
 use Rattle.reaction.specs.Decoded.{ruleIn, rule-in}
 use Rattle.reaction.specs.Verdict.{reactVerdict, react-verdict-is}
 use Rattle.ending.specs.End.{endVerdict}

@@ -12,8 +12,9 @@ ghost use Rattle.semantics.specs.Move.{isZero, moveOk};
 ghost use Rattle.semantics.specs.Answers.{tableVerdict};
 ghost use Rattle.semantics.specs.declared.Verdict.the-variants.{Allowed};
 ghost use Rattle.table.specs.Index.{Starts};
-use table::decode::consumes_at;
+use rules::decode::consumes_at;
 use table::parts::sizes_of;
+use words::head;
 
 // Whether the picks from k on are 0.
 pub fn unused_zero(picks: [u32; 4], k: usize) -> bool
@@ -29,8 +30,8 @@ pub fn unused_zero(picks: [u32; 4], k: usize) -> bool
 pub fn end_form(head: u32, picks: [u32; 4]) -> bool
     ensures { λ r. ⌜ r ≡ (leb (headKind head) 2 && leb 1 (headNumber head) && leb (headNumber head) 65535 && all isZero (drop 0 picks)) ⌝ }
 {
-    let id = head % 16777216;
-    (head / 16777216 <= 2) & (1 <= id) & (id <= 65535) & unused_zero(picks, 0)
+    let id = head::number_of(head);
+    (head::kind_of(head) <= head::ABORT) & (1 <= id) & (id <= 65535) & unused_zero(picks, 0)
 }
 
 // 5: kind, rule or id out of range, unused pick not 0.
@@ -38,10 +39,10 @@ pub fn form_ok<'a>(table: &'a [u32], starts: &'a [u32; 65], head: u32, picks: [u
     requires { ⌜ (tableVerdict (now table) ≡ Allowed) × Starts (numbersOf (now table)) (sizesOf (now table) .rules) (now starts) ⌝ }
     ensures { λ r. ⌜ r ≡ moveOk (tableOf (now (table .entry))) (head ∷ picks) ⌝ }
 {
-    if head / 16777216 != 0 {
+    if head::kind_of(head) != head::REACT {
         return end_form(head, picks);
     }
-    let number = head % 16777216;
+    let number = head::number_of(head);
     let sizes = sizes_of(table);
     if sizes.rules <= number {
         return false;

@@ -16,10 +16,11 @@ use ending::verdict::end_verdict;
 use products::append::next_after;
 use products::react::react;
 use reaction::verdict::react_verdict;
+use rules::decode::rule_at;
 use semantics::Refusal;
 use semantics::Verdict;
-use table::decode::rule_at;
 use table::parts::sizes_of;
+use words::head;
 
 // Why a move is refused, and the figures of the state that it leaves.
 pub struct Made {
@@ -56,7 +57,7 @@ fn make_reaction<'a>(
     requires { ⌜ Indexed (now table) (now starts) × Workable (held (now owners) (now items) (now origins) n next) ceiling × (maker ≤ 1024) × (headKind head ≡ 0) ⌝ }
     ensures { λ r. ⌜ MadeAs (r .verdict) ceiling (tableOf (now (table .entry))) maker (head ∷ picks) (held (now (owners .entry)) (now (items .entry)) (now (origins .entry)) n next) (held (now (owners .exit)) (now (items .exit)) (now (origins .exit)) (r .len) (r .next)) ⌝ }
 {
-    let number = head % 16777216;
+    let number = head::number_of(head);
     let sizes = sizes_of(table);
     if sizes.rules <= number {
         return refused(Refusal::MoveForm, n, next);
@@ -95,8 +96,8 @@ fn make_end(
     if !end_form(head, picks) {
         return refused(Refusal::MoveForm, n, next);
     }
-    let kind = head / 16777216;
-    let id = head % 16777216;
+    let kind = head::kind_of(head);
+    let id = head::number_of(head);
     let sizes = sizes_of(table);
     let from = first_owned(owners, n, id);
     let verdict = end_verdict(owners, items, from, n, kind, id, sizes.globals);
@@ -127,7 +128,7 @@ pub fn make<'a>(
     requires { ⌜ Indexed (now table) (now starts) × Workable (held (now owners) (now items) (now origins) n next) ceiling × (maker ≤ 1024) ⌝ }
     ensures { λ r. ⌜ MadeAs (r .verdict) ceiling (tableOf (now (table .entry))) maker (head ∷ picks) (held (now (owners .entry)) (now (items .entry)) (now (origins .entry)) n next) (held (now (owners .exit)) (now (items .exit)) (now (origins .exit)) (r .len) (r .next)) ⌝ }
 {
-    if head / 16777216 == 0 {
+    if head::kind_of(head) == head::REACT {
         return make_reaction(
             table,
             starts,

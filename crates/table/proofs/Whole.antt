@@ -8,18 +8,18 @@ use Rattle.lists.specs.Lists.{allBelow}
 use Rattle.lists.specs.Tests.{and-false, and-true}
 use Rattle.lists.specs.Walk.{below-same}
 use Rattle.semantics.specs.Table.{sizesOf, numbersOf, atomWordsOf, ruleWords, tableSizesOk, numbersOk, ruleOk, rulesOk, tableContentsOk}
-use Rattle.wellformed.specs.Tables.{TableSized, numbers-length, words-length, numbers-rise, verdict-allowed}
+use Rattle.wellformed.specs.Tables.{TableSized, numbers-length, words-length, numbers-rise, table-given}
 use Rattle.semantics.specs.Move.{unless}
 use Rattle.semantics.specs.Answers.{tableVerdict}
 use Rattle.semantics.specs.declared.Refusal.the-variants.{TableSizes, TableContents}
 use Rattle.semantics.specs.declared.Sizes.{Sizes}
 use Rattle.semantics.specs.declared.Verdict.the-variants.{Denied}
-use Rattle.table.specs.Index.{Starts, Indexed, Cut, cut, starts-within, starts-cut}
+use Rattle.table.specs.Index.{Starts, IndexMade, Cut, cut, starts-within, starts-cut}
 use Rattle.table.specs.Check.{CheckedAs}
 
 -- an answer and an index of a table's rules, right where the test holds
 abbrev pub IndexOf : List ℕ → Bool → Bool → List ℕ → Type 0
-IndexOf t test b starts = Indexed test (numbersOf t) (sizesOf t .rules) b starts
+IndexOf t test b starts = IndexMade test (numbersOf t) (sizesOf t .rules) b starts
 
 -- the code's sizes, numbers and words are the table's; b and the index are what the pass over the numbers answers and leaves
 module _
@@ -31,7 +31,7 @@ module _
     {starts : List ℕ}
     (ez : z ≡ sizesOf t)
     (en : ns ≡ numbersOf t)
-    (h : Indexed (numbersOk (z .rules) ns) ns (z .rules) b starts)
+    (h : IndexMade (numbersOk (z .rules) ns) ns (z .rules) b starts)
   where
     first : IndexOf t (numbersOk (sizesOf t .rules) (numbersOf t)) b starts
     first = rw (en, ez) at h
@@ -75,7 +75,7 @@ module _ (t starts : List ℕ) where
   pub sizes-wrong : tableSizesOk t ≡ false → CheckedAs t (record { verdict = Denied TableSizes; starts = starts })
   unfolding tableVerdict
   sizes-wrong e =
-      record { verdict = rw e; starts = λ yes. absurd (false≢true (sym e ∙ verdict-allowed t yes .0)) }
+      record { verdict = rw e; starts = λ yes. absurd (false≢true (sym e ∙ table-given t yes .0)) }
 
   pub sizes-right :
       (b : Bool) {ok : Bool}
@@ -86,4 +86,4 @@ module _ (t starts : List ℕ) where
   unfolding tableVerdict
   sizes-right b e f g =
       let h : tableContentsOk t ≡ b = sym (f .answer) ∙ g in
-      record { verdict = rw (e, h); starts = λ yes. f .right (verdict-allowed t yes .1) }
+      record { verdict = rw (e, h); starts = λ yes. f .right (table-given t yes .1) }

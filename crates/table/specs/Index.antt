@@ -17,7 +17,7 @@ pub record Starts (numbers : List ℕ) (rules : ℕ) (starts : List ℕ) : Type 
   pub each : (r : ℕ) → r ≤ rules → getD starts r 0 ≡ count (λ n. ltb n r) numbers
 
 -- an answer that says whether the test holds, with an index that is right where it does
-pub record Indexed (test : Bool) (numbers : List ℕ) (rules : ℕ) (ok : Bool) (starts : List ℕ) : Type 0 where
+pub record IndexMade (test : Bool) (numbers : List ℕ) (rules : ℕ) (ok : Bool) (starts : List ℕ) : Type 0 where
   pub answer : ok ≡ test
   pub right : test ≡ true → Starts numbers rules starts
 

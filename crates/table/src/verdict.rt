@@ -5,14 +5,14 @@ ghost use lib.ListN.{length, replicate};
 ghost use Rattle.lists.specs.Lists.{allBelow};
 ghost use Rattle.semantics.specs.Table.{sizesOf, numbersOf, tableSizesOk, tableContentsOk, ruleOk};
 ghost use Rattle.wellformed.specs.Tables.{TableSized};
-ghost use Rattle.table.specs.Index.{Cut, cut, Indexed};
+ghost use Rattle.table.specs.Index.{Cut, cut, IndexMade};
 ghost use Rattle.table.specs.Check.{CheckedAs};
 use crate::index::index_rules;
 use crate::parts::atom_words_of;
 use crate::parts::numbers_of;
 use crate::parts::rule_words;
 use crate::parts::sizes_of;
-use crate::rule::rule_ok;
+use legal::rule::rule_ok;
 use semantics::Refusal;
 use semantics::Sizes;
 use semantics::Verdict;
@@ -54,7 +54,7 @@ fn rules_ok<'a>(words: &'a [u32], starts: &'a [u32; 65], z: Sizes) -> bool
 // The rule numbers, then the rules. Fills the index, which is right where the contents are.
 fn contents_ok(table: &[u32], starts: &mut [u32; 65]) -> bool
     requires { ⌜ TableSized (now table) × (now starts ≡ replicate 65 0) ⌝ }
-    ensures { λ b. ⌜ Indexed (tableContentsOk (now (table .entry))) (numbersOf (now (table .entry))) (sizesOf (now (table .entry)) .rules) b (now (starts .exit)) ⌝ }
+    ensures { λ b. ⌜ IndexMade (tableContentsOk (now (table .entry))) (numbersOf (now (table .entry))) (sizesOf (now (table .entry)) .rules) b (now (starts .exit)) ⌝ }
 {
     let z = sizes_of(table);
     if !index_rules(numbers_of(table), z.rules, starts) {

@@ -29,13 +29,13 @@ pub record EntryRight (z : Sizes) (next : ℕ) (e : Entry) : Type 0 where
   pub member-mark : e .kind ≡ 3 → MemberRight next e
 
 -- an own mark of t
-abbrev pub OwnMark : List Entry → ℕ → Type 0
-OwnMark es t = (m : Entry) × Among m es × (m .kind ≡ 3) × (m .owner ≡ t) × (m .value ≡ t)
+abbrev pub HasOwnMark : List Entry → ℕ → Type 0
+HasOwnMark es t = (m : Entry) × Among m es × (m .kind ≡ 3) × (m .owner ≡ t) × (m .value ≡ t)
 
 pub record StateRight (z : Sizes) (s : State) : Type 0 where
   pub each : (e : Entry) → Among e (s .entries) → EntryRight z (s .next) e
   pub marks : distinct (markValues (s .entries)) ≡ true
-  pub own : (e : Entry) → Among e (s .entries) → (e .owner ≡ 0 → ⊥) → OwnMark (s .entries) (e .owner)
+  pub own : (e : Entry) → Among e (s .entries) → (e .owner ≡ 0 → ⊥) → HasOwnMark (s .entries) (e .owner)
 
 -- ---- from the tests, and back
 
@@ -86,13 +86,13 @@ module _ (z : Sizes) (next : ℕ) (e : Entry) where
       and-intro (and-intro (and-intro (eq-eqb (e .port) 0 (q .port-zero)) (le-leb 1 (e .owner) (q .owner-low))) (le-leb (e .owner) (e .value) (q .owner-le))) (lt-ltb (e .value) next (q .value-lt))))
 
 module _ (es : List Entry) where
-  own-mark : (t : ℕ) → any (isOwnMark t) es ≡ true → OwnMark es t
+  own-mark : (t : ℕ) → any (isOwnMark t) es ≡ true → HasOwnMark es t
   own-mark t h =
       let (m, k, q) = any-some (isOwnMark t) es h in
       let (a, b, c) = and-three (isMemberMark m) (eqb (m .value) t) (owned t m) q in
       (m, k, eqb-true (m .kind) 3 a, eqb-true (m .owner) t c, eqb-true (m .value) t b)
 
-  own-test : (t : ℕ) → OwnMark es t → any (isOwnMark t) es ≡ true
+  own-test : (t : ℕ) → HasOwnMark es t → any (isOwnMark t) es ≡ true
   own-test t (m, k, a, b, c) = any-intro (isOwnMark t) es m k (and-intro (and-intro (eq-eqb (m .kind) 3 a) (eq-eqb (m .value) t c)) (eq-eqb (m .owner) t b))
 
 module _ (z : Sizes) (s : State) where

@@ -16,10 +16,12 @@ use Rattle.semantics.specs.Answers.{tableVerdict, stateOwnVerdict, stateVerdict
 use Rattle.semantics.specs.declared.Sizes.{Sizes}
 use Rattle.semantics.specs.declared.Refusal.the-variants.{StateSizes, StateContents}
 use Rattle.semantics.specs.declared.Verdict.the-variants.{Allowed}
-use Rattle.wellformed.specs.Verdicts.{both-intro, unless-intro, sizes-tableOf, table-given, sizes-given, state-given, state-sizes-given}
+use Rattle.wellformed.specs.Verdicts.{both-intro, unless-intro}
+use Rattle.wellformed.specs.Tables.{well-formed, sizes-tableOf}
+use Rattle.wellformed.specs.States.{state-given, state-sized}
 use Rattle.wellformed.specs.Rules.{table-right}
 use Rattle.wellformed.specs.Entries.{EntryRight, state-right, state-tests, Sound, Small}
-use Rattle.wellformed.specs.Step.{accepted}
+use Rattle.wellformed.specs.Step.{accepted-move}
 use Rattle.wellformed.specs.Preservation.{rule-known, applied-keeps, applied-small}
 use Rattle.wellformed.specs.Bare.{bareState, entriesOk-same}
 use Rattle.wellformed.specs.RoundTrip.{bare-numbered, Fits, stateOf-stateWords, stateWords-stateOf, length-stateWords, entryCount-stateWords, nextOf-stateWords, next-stateOf, stateOf-small}
@@ -35,13 +37,13 @@ pub record Held (z : Sizes) (s : State) : Type 0 where
 pub stateOf-held : (T S : List ℕ) → stateVerdict T S ≡ Allowed → Held (sizesOf T) (stateOf S)
 stateOf-held T S h =
     let (t, k, e) = state-given S T h in
-    let g = state-sizes-given S k in
+    let g = state-sized S k in
     let w = length-stateWords (stateOf S) in
     let l = ap length (stateWords-stateOf S k) in
-    let m = g .words in
-    let n = g .entries in
+    let m = g .size in
+    let n = g .count in
     record {
-      sound = record { right = state-right (sizesOf T) (stateOf S) e; next-low = rw (next-stateOf S) (g .next-low); next-high = rw (next-stateOf S) (g .next-high) };
+      sound = record { right = state-right (sizesOf T) (stateOf S) e; next-low = rw (next-stateOf S) (g .first); next-high = rw (next-stateOf S) (g .last) };
       small = stateOf-small S;
       few = omega arith;
     }
@@ -67,7 +69,7 @@ sizes-pass s h =
 
 module _ (T : List ℕ) (table : tableVerdict T ≡ Allowed) where
   pub held-fits : (s : State) → Held (sizesOf T) s → Fits (s .entries)
-  held-fits s h e m = (port-lt (sizesOf T) (s .next) e (sizes-given T (table-given T table .0) .ports) (h .sound .right .each e m), h .small e m)
+  held-fits s h e m = (port-lt (sizesOf T) (s .next) e (well-formed T table .sizes .ports) (h .sound .right .each e m), h .small e m)
 
   -- words read back differ from the state in origins alone
   pub reread : (s : State) → Held (sizesOf T) s → bareState (stateOf (stateWords s)) ≡ bareState s
@@ -81,7 +83,7 @@ module _ (T : List ℕ) (table : tableVerdict T ≡ Allowed) where
   -- an accepted move leaves such a state
   pub step-holds : (ceiling i : ℕ) (s : State) (m : List ℕ) (s′ : State) → ceiling ≤ 1024 → Held (sizesOf T) s → stepWords ceiling (tableOf T) i s m ≡ to s′ → Held (sizesOf T) s′
   step-holds ceiling i s m s′ c h e =
-      let a = accepted ceiling (tableOf T) i s m s′ e in
+      let a = accepted-move ceiling (tableOf T) i s m s′ e in
       let k = rule-known (tableOf T) m (a .form) in
       let sound : Sound (tableOf T .sizes) s = rw (sizes-tableOf T) (h .sound) in
       record {

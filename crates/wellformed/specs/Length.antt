@@ -6,7 +6,7 @@ use mathlib.Core.Path.{_≡_, refl, sym, ap, _∙_}
 use native.Mathlib.Omega.{arith}
 use lib.ListN.{length, length-append, length-map}
 use Rattle.lists.specs.Lists.{keep, without}
-use Rattle.lists.specs.Totals.{length-keep, count-le}
+use Rattle.lists.specs.Counting.{length-keep, count-le}
 use Rattle.semantics.specs.Table.{Table, Rule, ruleAt, productAtoms}
 use Rattle.semantics.specs.State.{Entry, State, isMessage, isCompensation}
 use Rattle.semantics.specs.Move.{Move, react, commit, abort, picked, ownersAt, merged, products, reacted, freed, ended, allowed, applied}
@@ -40,11 +40,6 @@ length-react t i s r ps h =
     let l = left-length (react-given (ruleAt t r) s ps h) in
     let k = length-reacted (ruleAt t r) i s ps in
     omega arith
-
-pub length-react-minus : (t : Table) (i : ℕ) (s : State) (r : ℕ) (ps : List ℕ) → allowed t s (react r ps) ≡ Allowed
-    → length (applied t i s (react r ps) .entries) ≡ length (s .entries) - length ps + length (productAtoms (ruleAt t r))
-unfolding allowed
-length-react-minus t i s r ps h = let l = left-length (react-given (ruleAt t r) s ps h) in let k = length-react t i s r ps h in omega arith
 
 pub length-ended : (p : Entry → Bool) (b : ℕ) (s : State) → length (ended p b s .entries) ≤ length (s .entries)
 unfolding ended

@@ -1,6 +1,6 @@
+pub mod Verdicts
 pub mod Tables
 pub mod States
-pub mod Verdicts
 pub mod Rules
 pub mod Entries
 pub mod Picks

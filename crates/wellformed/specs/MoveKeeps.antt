@@ -9,8 +9,9 @@ use Rattle.semantics.specs.Move.{unless, both, moveOk, Stepped, to, refused, st
 use Rattle.semantics.specs.Answers.{stateVerdict, answerOf, Result, write, outcomeOf, hasWords, steppedResult, moveResult}
 use Rattle.semantics.specs.declared.Refusal.the-variants.{MoveForm}
 use Rattle.semantics.specs.declared.Verdict.the-variants.{Allowed}
-use Rattle.wellformed.specs.Verdicts.{both-allowed, state-given}
-use Rattle.wellformed.specs.Step.{accepted}
+use Rattle.wellformed.specs.Verdicts.{both-allowed}
+use Rattle.wellformed.specs.States.{state-given}
+use Rattle.wellformed.specs.Step.{accepted-move}
 use Rattle.wellformed.specs.Results.{refuse≢write, write-same, unlessDenied-write}
 use Rattle.wellformed.specs.Held.{stateOf-held, words-pass, step-holds}
 use Rattle.wellformed.specs.RoundTrip.{entryCount-stateWords}
@@ -30,6 +31,6 @@ move-keeps ceiling c T S M target ws h =
     let table = state-given S T state .0 in
     let held = step-holds T table ceiling 1 (stateOf S) M s c (stateOf-held T S state) e in (
       rw w at (words-pass T table s held),
-      rw (← w, entryCount-stateWords s) (accepted ceiling (tableOf T) 1 (stateOf S) M s e .fits),
+      rw (← w, entryCount-stateWords s) (accepted-move ceiling (tableOf T) 1 (stateOf S) M s e .fits),
       ap (λ (r : Result). answerOf (outcomeOf r) .words) h,
     )

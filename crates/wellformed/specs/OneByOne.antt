@@ -14,7 +14,8 @@ use Rattle.semantics.specs.Answers.{tableVerdict, stateVerdict, Result, write, 
 use Rattle.semantics.specs.declared.Refusal.the-variants.{MoveForm, TargetTooShort, LogSizes}
 use Rattle.semantics.specs.declared.Verdict.{Verdict}
 use Rattle.semantics.specs.declared.Verdict.the-variants.{Allowed, Denied}
-use Rattle.wellformed.specs.Verdicts.{both-allowed, unless-allowed, state-given}
+use Rattle.wellformed.specs.Verdicts.{both-allowed, unless-allowed}
+use Rattle.wellformed.specs.States.{state-given}
 use Rattle.wellformed.specs.Step.{stepWords-verdict}
 use Rattle.wellformed.specs.Bare.{bare, bareState, words-same, allowed-same, applied-same}
 use Rattle.wellformed.specs.RoundTrip.{stateWords-stateOf}

@@ -7,9 +7,10 @@ use mathlib.Core.Path.{_≡_, refl, sym, subst, _∙_}
 use native.Mathlib.Omega.{arith}
 use lib.Dec.{leb}
 use lib.ListN.{length}
+use Rattle.lists.specs.Each.{All}
 use Rattle.semantics.specs.Table.{Table, ruleAt}
 use Rattle.semantics.specs.State.{State}
-use Rattle.semantics.specs.Move.{unless, both, Move, react, commit, abort, moveOk, moveOf, picksOk, ownersAt, ownersFit, hasId, isOpen, mayCommit, mayAbort, allowed, applied, Stepped, to, refused, steppedBy, stepWords, moveVerdict}
+use Rattle.semantics.specs.Move.{unless, firstFault, reactFaults, endFaults, Move, react, commit, abort, moveOk, moveOf, picksOk, ownersAt, ownersFit, hasId, isOpen, mayCommit, mayAbort, allowed, applied, Stepped, to, refused, steppedBy, stepWords, moveVerdict}
 use Rattle.semantics.specs.Log.{stopped, onward, run}
 use Rattle.semantics.specs.Answers.{number}
 use Rattle.semantics.specs.declared.Refusal.{Refusal}
@@ -25,38 +26,47 @@ abbrev Owns : Verdict → Type 0
 Owns Allowed = Unit
 Owns (Denied r) = OwnNumber r
 
-owns-both : (a b : Verdict) → Owns a → Owns b → Owns (both a b)
-owns-both Allowed b h k = k
-owns-both (Denied r) b h k = h
+owns-first : (vs : List Verdict) → All Owns vs → Owns (firstFault vs)
+owns-first [] h = tt
+owns-first (v ∷ []) h = h .0
+owns-first (Allowed ∷ w ∷ vs) h = owns-first (w ∷ vs) (h .1)
+owns-first (Denied r ∷ w ∷ vs) h = h .0
 
 owns-unless : (b : Bool) (r : Refusal) → 7 ≤ number r → number r ≤ 12 → Owns (unless b r)
 owns-unless true r h k = tt
 owns-unless false r h k = inr (h, k)
 
+ends-own : (may : Bool) (b : ℕ) (s : State) → Owns (firstFault (endFaults may b s))
+ends-own may b s =
+    owns-first (endFaults may b s)
+    (owns-unless (isOpen b s) NoTransaction (omega arith) (omega arith), (owns-unless may EndNotAllowed (omega arith) (omega arith), tt))
+
 allowed-owns : (t : Table) (s : State) (m : Move) → Owns (allowed t s m)
 unfolding allowed
 allowed-owns t s (react r ps) =
     let R = ruleAt t r in
-    owns-both (unless (picksOk R s ps) WrongPick) (both (unless (ownersFit (R .class) (ownersAt s ps)) WrongOwner) (unless (hasId R s) NoMoreIds))
-    (owns-unless (picksOk R s ps) WrongPick (omega arith) (omega arith))
-    (owns-both (unless (ownersFit (R .class) (ownersAt s ps)) WrongOwner) (unless (hasId R s) NoMoreIds)
-    (owns-unless (ownersFit (R .class) (ownersAt s ps)) WrongOwner (omega arith) (omega arith)) (owns-unless (hasId R s) NoMoreIds (omega arith) (omega arith)))
-allowed-owns t s (commit b) =
-    owns-both (unless (isOpen b s) NoTransaction) (unless (mayCommit t b s) EndNotAllowed)
-    (owns-unless (isOpen b s) NoTransaction (omega arith) (omega arith)) (owns-unless (mayCommit t b s) EndNotAllowed (omega arith) (omega arith))
-allowed-owns t s (abort b) =
-    owns-both (unless (isOpen b s) NoTransaction) (unless (mayAbort b s) EndNotAllowed)
-    (owns-unless (isOpen b s) NoTransaction (omega arith) (omega arith)) (owns-unless (mayAbort b s) EndNotAllowed (omega arith) (omega arith))
+    owns-first (reactFaults R s ps) (
+      owns-unless (picksOk R s ps) WrongPick (omega arith) (omega arith),
+      (
+        owns-unless (ownersFit (R .class) (ownersAt s ps)) WrongOwner (omega arith) (omega arith),
+        (owns-unless (hasId R s) NoMoreIds (omega arith) (omega arith), tt),
+      ),
+    )
+allowed-owns t s (commit b) = ends-own (mayCommit t b s) b s
+allowed-owns t s (abort b) = ends-own (mayAbort b s) b s
 
 -- 5, or 7 to 12
 pub refused-number : (ceiling : ℕ) (t : Table) (i : ℕ) (s : State) (m : List ℕ) (r : Refusal) → stepWords ceiling t i s m ≡ refused r → OwnNumber r
 unfolding moveVerdict
 refused-number ceiling t i s m r h =
     go (moveOk t m) (moveVerdict ceiling t s (moveOf t m))
-    (owns-both (allowed t s (moveOf t m)) (unless (leb (length (applied t 0 s (moveOf t m) .entries)) ceiling) TooManyEntries) (allowed-owns t s (moveOf t m))
-    (owns-unless (leb (length (applied t 0 s (moveOf t m) .entries)) ceiling) TooManyEntries (omega arith) (omega arith)))
+    (owns-first (allowed t s (moveOf t m) ∷ unless fits TooManyEntries ∷ [])
+    (allowed-owns t s (moveOf t m), (owns-unless fits TooManyEntries (omega arith) (omega arith), tt)))
     (sym (stepWords-verdict ceiling t i s m) ∙ h)
   where
+    fits : Bool
+    fits = leb (length (applied t 0 s (moveOf t m) .entries)) ceiling
+
     same : {a b : Refusal} → refused a ≡ refused b → a ≡ b
     same h = cc
 

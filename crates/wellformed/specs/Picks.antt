@@ -15,10 +15,10 @@ use Rattle.lists.specs.Smallest.{least-among}
 use Rattle.lists.specs.Removed.{keep-without, length-without}
 use Rattle.semantics.specs.Table.{Rule, consumed}
 use Rattle.semantics.specs.State.{Entry, State, isMessage, isMemberMark}
-use Rattle.semantics.specs.Move.{unless, both, isZero, nothing, entryAt, picked, onPorts, picksOk, ownersAt, ownersFit, hasId, reactAllowed}
+use Rattle.semantics.specs.Move.{isZero, nothing, entryAt, picked, onPorts, picksOk, ownersAt, ownersFit, hasId, reactFaults, reactAllowed}
 use Rattle.semantics.specs.declared.Refusal.the-variants.{WrongPick, WrongOwner, NoMoreIds}
 use Rattle.semantics.specs.declared.Verdict.the-variants.{Allowed}
-use Rattle.wellformed.specs.Verdicts.{both-allowed, unless-allowed}
+use Rattle.wellformed.specs.Verdicts.{unless-allowed, passed-each}
 
 pub onPorts-messages : (ports : List ℕ) (es : List Entry) → onPorts ports es ≡ true → (e : Entry) → Among e es → e .kind ≡ 0
 onPorts-messages [] [] h e m = absurd m
@@ -54,8 +54,7 @@ module _ (R : Rule) (s : State) (ps : List ℕ) where
 
   pub react-given : reactAllowed R s ps ≡ Allowed → ReactGiven
   react-given h =
-      let (a, l) = both-allowed (unless (picksOk R s ps) WrongPick) (both (unless (ownersFit (R .class) (ownersAt s ps)) WrongOwner) (unless (hasId R s) NoMoreIds)) h in
-      let (b, c) = both-allowed (unless (ownersFit (R .class) (ownersAt s ps)) WrongOwner) (unless (hasId R s) NoMoreIds) l in
+      let (a, (b, (c, _))) = passed-each (reactFaults R s ps) h in
       let k = unless-allowed (picksOk R s ps) WrongPick a in
       record {
         different = and-left (distinct ps) (onPorts (consumed R) (picked s ps)) k;
@@ -99,8 +98,8 @@ module _ {R : Rule} {s : State} {ps : List ℕ} (g : ReactGiven R s ps) where
       go true h = ltb-true 0 o (and-left (ltb 0 o) (eqb o (least (ownersAt s ps))) (all-each (λ o. ltb 0 o && eqb o (least (ownersAt s ps))) (ownersAt s ps) h o m))
       go false h = ltb-true 0 o (all-each (λ o. ltb 0 o) (ownersAt s ps) h o m)
 
-  pub least-zero : R .class ≡ 0 → least (ownersAt s ps) ≡ 0
-  least-zero c = go (ownersAt s ps) (owners-zero c)
+  pub home-zero : R .class ≡ 0 → least (ownersAt s ps) ≡ 0
+  home-zero c = go (ownersAt s ps) (owners-zero c)
     where
       go : (os : List ℕ) → ((o : ℕ) → Among o os → o ≡ 0) → least os ≡ 0
       go [] f = refl

@@ -24,9 +24,9 @@ use Rattle.semantics.specs.declared.Atom.{Atom}
 use Rattle.semantics.specs.declared.AtomValue.{AtomValue}
 use Rattle.semantics.specs.declared.AtomValue.the-variants.{Constant, Received}
 use Rattle.wellformed.specs.Rules.{ValueRight, AtomRight, RuleRight, product-atom, role-begins, begins-global}
-use Rattle.wellformed.specs.Entries.{EntryRight, OwnMark, message-entry, compensation-entry, abort-entry, member-entry, Sound, Small}
+use Rattle.wellformed.specs.Entries.{EntryRight, HasOwnMark, message-entry, compensation-entry, abort-entry, member-entry, Sound, Small}
 use Rattle.wellformed.specs.Products.{among-products, products-among, marks-made, marks-merged}
-use Rattle.wellformed.specs.Picks.{ReactGiven, pick-among, marks-left, owners-zero, owners-positive, least-zero, least-owner, owner-pick}
+use Rattle.wellformed.specs.Picks.{ReactGiven, pick-among, marks-left, owners-zero, owners-positive, home-zero, least-owner, owner-pick}
 
 module _ {z : Sizes} {R : Rule} (right : RuleRight z R) {s : State} (sound : Sound z s) {ps : List ℕ} (g : ReactGiven R s ps) (i : ℕ) where
   abbrev os : List ℕ
@@ -70,7 +70,7 @@ module _ {z : Sizes} {R : Rule} (right : RuleRight z R) {s : State} (sound : Sou
   merged-out e h = rw h
 
   -- the batch of the products of a local or merge rule, and of what is merged, has its mark
-  home-mark : Among (least os) os → (least os ≡ 0 → ⊥) → OwnMark all-entries (least os)
+  home-mark : Among (least os) os → (least os ≡ 0 → ⊥) → HasOwnMark all-entries (least os)
   home-mark k n =
       let (e, m, q) = owner-pick g (least os) k in
       let (d, l, a, b, c) = sound .right .own e m (λ o. n (q ∙ o)) in
@@ -107,7 +107,7 @@ module _ {z : Sizes} {R : Rule} (right : RuleRight z R) {s : State} (sound : Sou
       positive : (n : ℕ) → (n ≡ 0 → ⊥) → 1 ≤ n
       positive n h = omega arith
 
-  kept-own : (e : Entry) → Among e (s .entries) → (merged os e .owner ≡ 0 → ⊥) → OwnMark all-entries (merged os e .owner)
+  kept-own : (e : Entry) → Among e (s .entries) → (merged os e .owner ≡ 0 → ⊥) → HasOwnMark all-entries (merged os e .owner)
   kept-own e m n = by-bool (isIn (e .owner) os)
       (λ q. let k = isIn-among (e .owner) os q in let w = merged-in e k in
       rw w (home-mark (least-of os (e .owner) k) (λ o. n (w ∙ o))))
@@ -131,7 +131,7 @@ module _ {z : Sizes} {R : Rule} (right : RuleRight z R) {s : State} (sound : Sou
     owner-home c = rw (ne-eqb (R .class) 0 c)
 
     owner-emitted : R .class ≡ 0 → a .role ≡ 1 → e .owner ≡ 0
-    owner-emitted c r = let h : e .owner ≡ least os = rw (eq-eqb (R .class) 0 c, eq-eqb (a .role) 1 r) in h ∙ least-zero g c
+    owner-emitted c r = let h : e .owner ≡ least os = rw (eq-eqb (R .class) 0 c, eq-eqb (a .role) 1 r) in h ∙ home-zero g c
 
     value-other : (a .role ≡ 2 → ⊥) → e .value ≡ valueIn (map (λ e. e .value) (picked s ps)) (a .value)
     value-other n = rw (ne-eqb (a .role) 2 n)
@@ -140,7 +140,7 @@ module _ {z : Sizes} {R : Rule} (right : RuleRight z R) {s : State} (sound : Sou
   mark-made a o c r = (rw (eq-eqb (a .role) 2 r), owner-next a o c (λ q. omega arith), rw (eq-eqb (a .role) 2 r))
 
   -- a begin's mark is the own mark of the transaction that it opens
-  begun-mark : begins R ≡ true → OwnMark all-entries (s .next)
+  begun-mark : begins R ≡ true → HasOwnMark all-entries (s .next)
   begun-mark h =
       let (a, m, q) = any-some (hasRole 2) (R .atoms) h in
       let r = eqb-true (a .role) 2 q in
@@ -192,7 +192,7 @@ module _ {z : Sizes} {R : Rule} (right : RuleRight z R) {s : State} (sound : Sou
             abort-entry z next′ (e a o) (ap kindMade q) (owner-positive (λ r. omega arith)) p
             (value-other a o (λ r. omega arith) ∙ ap (valueIn (map (λ e. e .value) (picked s ps))) v)
 
-    made-own : (e a o .owner ≡ 0 → ⊥) → OwnMark all-entries (e a o .owner)
+    made-own : (e a o .owner ≡ 0 → ⊥) → HasOwnMark all-entries (e a o .owner)
     made-own n = by-bool (eqb (R .class) 0)
         (λ c. let c = eqb-true (R .class) 0 c in
         let r : a .role ≡ 1 → ⊥ = λ q. n (owner-emitted a o c q) in

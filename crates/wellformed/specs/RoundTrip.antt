@@ -10,7 +10,7 @@ use lib.Seq.{take-at, drop-at}
 use Rattle.lists.specs.Members.{Among}
 use Rattle.semantics.specs.Words.{itemKind, itemWord, portOf, valueOf}
 use Rattle.semantics.specs.State.{Entry, State, entryCount, nextOf, ownersOf, itemsOf, entriesOf, stateOf, stateWords, stateSizesOk}
-use Rattle.wellformed.specs.Verdicts.{state-sizes-given}
+use Rattle.wellformed.specs.States.{state-sized}
 use Rattle.wellformed.specs.Entries.{Small}
 use Rattle.wellformed.specs.Bare.{bare}
 
@@ -40,14 +40,14 @@ pub bare-numbered : (q : ℕ) (es : List Entry) → map bare (numbered q es) ≡
 bare-numbered q [] = refl
 bare-numbered q (e ∷ es) = rw (bare-numbered (suc q) es)
 
-abbrev pub wordOf : Entry → ℕ
-wordOf e = itemWord (e .kind) (e .port) (e .value)
+abbrev pub itemOf : Entry → ℕ
+itemOf e = itemWord (e .kind) (e .port) (e .value)
 
 -- ports and values fit their fields
 abbrev pub Fits : List Entry → Type 0
 Fits es = (e : Entry) → Among e es → (e .port < 256) × (e .value < 65536)
 
-entriesOf-columns : (q : ℕ) (es : List Entry) → Fits es → entriesOf q (map (λ e. e .owner) es) (map wordOf es) ≡ numbered q es
+entriesOf-columns : (q : ℕ) (es : List Entry) → Fits es → entriesOf q (map (λ e. e .owner) es) (map itemOf es) ≡ numbered q es
 entriesOf-columns q [] f = refl
 entriesOf-columns q (e ∷ es) f = λ k.
     record {
@@ -62,25 +62,25 @@ pub stateOf-stateWords : (s : State) → Fits (s .entries) → stateOf (stateWor
 unfolding stateOf stateWords
 stateOf-stateWords s f = λ k. record { next = s .next; entries = entries k }
   where
-    owners : take (length (s .entries)) (map (λ e. e .owner) (s .entries) ++ map wordOf (s .entries)) ≡ map (λ e. e .owner) (s .entries)
-    owners = take-at (map (λ e. e .owner) (s .entries)) (map wordOf (s .entries)) (length (s .entries)) (length-map (s .entries) (λ e. e .owner))
+    owners : take (length (s .entries)) (map (λ e. e .owner) (s .entries) ++ map itemOf (s .entries)) ≡ map (λ e. e .owner) (s .entries)
+    owners = take-at (map (λ e. e .owner) (s .entries)) (map itemOf (s .entries)) (length (s .entries)) (length-map (s .entries) (λ e. e .owner))
 
     two : (m : ℕ) → 2 + m ≡ suc (suc m)
     two m = omega arith
 
-    items : drop (2 + length (s .entries)) (length (s .entries) ∷ s .next ∷ map (λ e. e .owner) (s .entries) ++ map wordOf (s .entries)) ≡ map wordOf (s .entries)
-    items = rw (two (length (s .entries))) (drop-at (map (λ e. e .owner) (s .entries)) (map wordOf (s .entries)) (length (s .entries)) (length-map (s .entries) (λ e. e .owner)))
+    items : drop (2 + length (s .entries)) (length (s .entries) ∷ s .next ∷ map (λ e. e .owner) (s .entries) ++ map itemOf (s .entries)) ≡ map itemOf (s .entries)
+    items = rw (two (length (s .entries))) (drop-at (map (λ e. e .owner) (s .entries)) (map itemOf (s .entries)) (length (s .entries)) (length-map (s .entries) (λ e. e .owner)))
 
-    entries : entriesOf 0 (take (length (s .entries)) (map (λ e. e .owner) (s .entries) ++ map wordOf (s .entries)))
-        (drop (2 + length (s .entries)) (length (s .entries) ∷ s .next ∷ map (λ e. e .owner) (s .entries) ++ map wordOf (s .entries))) ≡ numbered 0 (s .entries)
+    entries : entriesOf 0 (take (length (s .entries)) (map (λ e. e .owner) (s .entries) ++ map itemOf (s .entries)))
+        (drop (2 + length (s .entries)) (length (s .entries) ∷ s .next ∷ map (λ e. e .owner) (s .entries) ++ map itemOf (s .entries))) ≡ numbered 0 (s .entries)
     entries = (λ k. entriesOf 0 (owners k) (items k)) ∙ entriesOf-columns 0 (s .entries) f
 
 pub length-stateWords : (s : State) → length (stateWords s) ≡ 2 + 2 * length (s .entries)
 unfolding stateWords
 length-stateWords s =
-    let a = length-append (map (λ e. e .owner) (s .entries)) (map wordOf (s .entries)) in
+    let a = length-append (map (λ e. e .owner) (s .entries)) (map itemOf (s .entries)) in
     let b = length-map (s .entries) (λ e. e .owner) in
-    let c = length-map (s .entries) wordOf in
+    let c = length-map (s .entries) itemOf in
     omega arith
 
 pub entryCount-stateWords : (s : State) → entryCount (stateWords s) ≡ length (s .entries)
@@ -102,7 +102,7 @@ owners-entriesOf q [] ws h = refl
 owners-entriesOf q (o ∷ os) [] h = absurd (omega arith)
 owners-entriesOf q (o ∷ os) (w ∷ ws) h = rw (owners-entriesOf (suc q) os ws (omega arith))
 
-words-entriesOf : (q : ℕ) (os ws : List ℕ) → length os ≡ length ws → map wordOf (entriesOf q os ws) ≡ ws
+words-entriesOf : (q : ℕ) (os ws : List ℕ) → length os ≡ length ws → map itemOf (entriesOf q os ws) ≡ ws
 words-entriesOf q [] [] h = refl
 words-entriesOf q [] (w ∷ ws) h = absurd (omega arith)
 words-entriesOf q (o ∷ os) [] h = absurd (omega arith)
@@ -110,7 +110,7 @@ words-entriesOf q (o ∷ os) (w ∷ ws) h = λ k. itemWord-fields w k ∷ words-
 
 pub stateWords-stateOf : (S : List ℕ) → stateSizesOk S ≡ true → stateWords (stateOf S) ≡ S
 unfolding stateOf stateWords
-stateWords-stateOf S h = go S (state-sizes-given S h .words)
+stateWords-stateOf S h = go S (state-sized S h .size)
   where
     go : (S : List ℕ) → length S ≡ 2 + 2 * entryCount S → stateWords (stateOf S) ≡ S
     go [] h = absurd (omega arith)

@@ -1,26 +1,28 @@
 -- What is true of every rule of an accepted table, as facts on the decoded rule.
 use Prim.Native.Nat.{ℕ, _+_, _≤_, _<_}
 use mathlib.Core.Bool.{Bool, true, false, _&&_, _||_, not, cond}
-use mathlib.Core.List.{List, [], _∷_, map}
+use mathlib.Core.List.{List, map}
 use mathlib.Core.Logic.{_⊎_, inl, inr, ⊎-elim}
 use mathlib.Core.Path.{_≡_, refl, sym, ap, subst, _∙_}
 use native.Mathlib.Omega.{arith}
 use lib.Dec.{leb, ltb, eqb}
 use lib.ListN.{length, getD, length-map}
-use borrow.Author.Tests.{leb-true, ltb-true, eqb-true, eqb-false, eq-eqb, ne-eqb, le-leb, not-true}
-use Rattle.lists.specs.Lists.{all, any, oneIf, count, keep, risesFrom}
-use Rattle.lists.specs.Choices.{by-bool, and-intro, and-left, and-right, or-cases, or-right, and-six, and-nine, given-holds}
+use borrow.Author.Tests.{ltb-true, leb-true, eqb-true, eqb-false, eq-eqb, ne-eqb, le-leb, not-true}
+use Rattle.lists.specs.Lists.{any, count, keep, risesFrom}
+use Rattle.lists.specs.Choices.{by-bool, and-intro, and-left, and-right, and-three, or-cases, or-right, given-holds}
 use Rattle.lists.specs.Members.{Among, all-each, any-some, any-intro, among-map, among-keep}
-use Rattle.lists.specs.Totals.{length-keep, count-map}
+use Rattle.lists.specs.Counting.{count-map, any-count}
+use Rattle.lists.specs.Rising.{rises-map}
 use Rattle.semantics.specs.Words.{atomRole, atomMode, portOf, valueOf}
-use Rattle.semantics.specs.Table.{Table, Rule, sizesOf, portCount, classOf, isRole, modeOk, consumeOk, emitOk, markOk, beginOk, innerOk, compensateOk, atomOk, shapeOf, ruleOk, atomValue, atomOf, ruleOf, tableOf, ruleAt, hasRole, consumed, productAtoms, begins}
+use Rattle.semantics.specs.Table.{Table, Rule, sizesOf, portCount, classOf, isRole, modeOk, markOk, atomOk, shapeOf, ruleOk, atomValue, atomOf, ruleOf, tableOf, ruleAt}
+use Rattle.semantics.specs.Table.{hasRole, consumed, productAtoms, begins}
 use Rattle.semantics.specs.Answers.{tableVerdict}
 use Rattle.semantics.specs.declared.Sizes.{Sizes}
 use Rattle.semantics.specs.declared.Atom.{Atom}
 use Rattle.semantics.specs.declared.AtomValue.{AtomValue}
 use Rattle.semantics.specs.declared.AtomValue.the-variants.{Constant, Received}
 use Rattle.semantics.specs.declared.Verdict.the-variants.{Allowed}
-use Rattle.wellformed.specs.Verdicts.{table-given, sizes-given, rule-given, sizes-tableOf, length-rules, ruleAt-tableOf, wordsAt}
+use Rattle.wellformed.specs.Tables.{well-formed, RuleFits, rule-fits, atom-fits, sizes-tableOf, length-rules, ruleAt-tableOf, wordsOfRule, rule-has, consumed-length}
 
 -- what an atom's value needs of its rule
 abbrev pub ValueRight : ℕ → AtomValue → Type 0
@@ -59,12 +61,6 @@ classOf-le z p = go (ltb p (z .globals)) (ltb p (z .globals + z .locals))
     go false false = omega arith
 
 module _ (z : Sizes) (ws : List ℕ) where
-  length-consumed : length (consumed (ruleOf z ws)) ≡ count (isRole 0) ws
-  unfolding ruleOf
-  length-consumed =
-      length-map (keep (hasRole 0) (map atomOf ws)) (λ a. a .port)
-      ∙ length-keep (hasRole 0) (map atomOf ws) ∙ count-map (hasRole 0) atomOf ws
-
   value-right : (w : ℕ) → modeOk (shapeOf z ws) w ≡ true → ValueRight (count (isRole 0) ws) (atomOf w .value)
   value-right w h = go (eqb (atomMode w) 1) refl
     where
@@ -77,47 +73,37 @@ module _ (z : Sizes) (ws : List ℕ) where
 
   mark-bare : (w : ℕ) → markOk w ≡ true → (atomRole w ≡ 2) ⊎ (atomRole w ≡ 5) → (atomOf w .port ≡ 0) × (atomOf w .value ≡ Constant 0)
   mark-bare w h r =
-      let k = given-holds (isRole 2 w || isRole 5 w) (eqb (atomMode w) 0 && eqb (portOf w) 0 && eqb (valueOf w) 0) h
-      (⊎-elim (λ q. rw (eq-eqb (atomRole w) 2 q)) (λ q. or-right (isRole 2 w) (isRole 5 w) (eq-eqb (atomRole w) 5 q)) r) in
-      let l = and-left (eqb (atomMode w) 0 && eqb (portOf w) 0) (eqb (valueOf w) 0) k in
-      let m = eqb-true (atomMode w) 0 (and-left (eqb (atomMode w) 0) (eqb (portOf w) 0) l) in
-      let n : eqb (atomMode w) 1 ≡ false = ne-eqb (atomMode w) 1 (λ q. omega arith) in (
-        eqb-true (portOf w) 0 (and-right (eqb (atomMode w) 0) (eqb (portOf w) 0) l),
-        rw n (ap Constant (eqb-true (valueOf w) 0 (and-right (eqb (atomMode w) 0 && eqb (portOf w) 0) (eqb (valueOf w) 0) k))),
-      )
+      let role : isRole 2 w || isRole 5 w ≡ true = ⊎-elim (λ q. rw (eq-eqb (atomRole w) 2 q)) (λ q. or-right (isRole 2 w) (isRole 5 w) (eq-eqb (atomRole w) 5 q)) r in
+      let k = given-holds (isRole 2 w || isRole 5 w) (eqb (atomMode w) 0 && eqb (portOf w) 0 && eqb (valueOf w) 0) h role in
+      let (mode, port, value) = and-three (eqb (atomMode w) 0) (eqb (portOf w) 0) (eqb (valueOf w) 0) k in
+      let m = eqb-true (atomMode w) 0 mode in
+      let n : eqb (atomMode w) 1 ≡ false = ne-eqb (atomMode w) 1 (λ q. omega arith) in
+      (eqb-true (portOf w) 0 port, rw n (ap Constant (eqb-true (valueOf w) 0 value)))
 
   some-begins : 1 ≤ count (isRole 2) ws → begins (ruleOf z ws) ≡ true
-  unfolding ruleOf
-  some-begins h = go ws h
-    where
-      go : (vs : List ℕ) → 1 ≤ count (isRole 2) vs → any (hasRole 2) (map atomOf vs) ≡ true
-      go [] h = absurd (omega arith)
-      go (v ∷ vs) h = two (go vs) (isRole 2 v) h
-        where
-          two : (1 ≤ count (isRole 2) vs → any (hasRole 2) (map atomOf vs) ≡ true) → (b : Bool) → 1 ≤ oneIf b + count (isRole 2) vs → b || any (hasRole 2) (map atomOf vs) ≡ true
-          two ih true k = refl
-          two ih false k = ih (omega arith)
+  some-begins h = rule-has z ws 2 ∙ any-count (isRole 2) ws ∙ le-leb 1 (count (isRole 2) ws) h
 
   atom-right : (w : ℕ) → atomOk z (shapeOf z ws) w ≡ true → AtomRight z (ruleOf z ws) (atomOf w)
-  unfolding ruleOf atomOk
+  unfolding ruleOf
   atom-right w h =
       let s = shapeOf z ws in
-      let (role, mode, port, consume, emit, mark, begun, inner, compensate) =
-      and-nine (leb (atomRole w) 5) (modeOk s w) (ltb (portOf w) (portCount z)) (consumeOk z s w) (emitOk z s w) (markOk w) (beginOk s w) (innerOk s w) (compensateOk z w) h in
+      let f = atom-fits z s w h in
+      let class = eqb (classOf z (portOf w)) (s .class) in
+      let bare = eqb (atomMode w) 0 && eqb (valueOf w) 0 in
+      let global = ltb (portOf w) (z .globals) in
       record {
-        role-le = leb-true (atomRole w) 5 role;
-        port-lt = ltb-true (portOf w) (portCount z) port;
-        value-right = subst (λ (n : ℕ). ValueRight n (atomOf w .value)) (sym length-consumed) (value-right w mode);
-        consume-class = λ e. eqb-true (classOf z (portOf w)) (s .class)
-            (and-right (eqb (atomMode w) 0 && eqb (valueOf w) 0) (eqb (classOf z (portOf w)) (s .class))
-            (given-holds (isRole 0 w) (eqb (atomMode w) 0 && eqb (valueOf w) 0 && eqb (classOf z (portOf w)) (s .class)) consume (eq-eqb (atomRole w) 0 e)));
+        role-le = f .role;
+        port-lt = f .port;
+        value-right = subst (λ (n : ℕ). ValueRight n (atomOf w .value)) (sym (consumed-length z ws)) (value-right w (f .mode));
+        consume-class = λ e.
+            eqb-true (classOf z (portOf w)) (s .class) (and-right bare class (given-holds (isRole 0 w) (bare && class) (f .consume) (eq-eqb (atomRole w) 0 e)));
         emit-global = λ e c. ltb-true (portOf w) (z .globals)
-            (given-holds (isRole 1 w && eqb (s .class) 0) (ltb (portOf w) (z .globals)) emit (and-intro (eq-eqb (atomRole w) 1 e) (eq-eqb (s .class) 0 c)));
-        mark-bare = mark-bare w mark;
+            (given-holds (isRole 1 w && eqb (s .class) 0) global (f .emit) (and-intro (eq-eqb (atomRole w) 1 e) (eq-eqb (s .class) 0 c)));
+        mark-bare = mark-bare w (f .mark);
         begun = λ c l. some-begins (leb-true 1 (s .begins)
-            (given-holds (eqb (s .class) 0 && leb 3 (atomRole w)) (leb 1 (s .begins)) begun (and-intro (eq-eqb (s .class) 0 c) (le-leb 3 (atomRole w) l))));
-        inner = λ n. roles (given-holds (not (eqb (s .class) 0)) (isRole 0 w || isRole 1 w || isRole 5 w) inner (rw (ne-eqb (s .class) 0 n)));
-        compensate-global = λ e. ltb-true (portOf w) (z .globals) (given-holds (isRole 4 w) (ltb (portOf w) (z .globals)) compensate (eq-eqb (atomRole w) 4 e));
+            (given-holds (eqb (s .class) 0 && leb 3 (atomRole w)) (leb 1 (s .begins)) (f .begin) (and-intro (eq-eqb (s .class) 0 c) (le-leb 3 (atomRole w) l))));
+        inner = λ n. roles (given-holds (not (eqb (s .class) 0)) (isRole 0 w || isRole 1 w || isRole 5 w) (f .inner) (rw (ne-eqb (s .class) 0 n)));
+        compensate-global = λ e. ltb-true (portOf w) (z .globals) (given-holds (isRole 4 w) global (f .compensate) (eq-eqb (atomRole w) 4 e));
       }
     where
       roles : isRole 0 w || isRole 1 w || isRole 5 w ≡ true → (atomRole w ≡ 0) ⊎ (atomRole w ≡ 1) ⊎ (atomRole w ≡ 5)
@@ -125,33 +111,26 @@ module _ (z : Sizes) (ws : List ℕ) where
           (λ l. ⊎-elim (λ k. inl (eqb-true (atomRole w) 0 k)) (λ k. inr (inl (eqb-true (atomRole w) 1 k))) (or-cases (isRole 0 w) (isRole 1 w) l))
           (λ r. inr (inr (eqb-true (atomRole w) 5 r))) (or-cases (isRole 0 w || isRole 1 w) (isRole 5 w) q)
 
-  pub rule-right : ruleOk z ws ≡ true → RuleRight z (ruleOf z ws)
-  unfolding ruleOk ruleOf
-  rule-right h =
-      let takes = leb 1 (count (isRole 0) ws) && leb (count (isRole 0) ws) 4 in
-      let (atoms, rises, takes, begins, aborts, each) =
-      and-six (leb (length ws) 16) (risesFrom 0 atomRole ws) takes (leb (count (isRole 2) ws) 1) (leb (count (isRole 5) ws) 1) (all (atomOk z (shapeOf z ws)) ws) h in
-      let some = leb-true 1 (count (isRole 0) ws) (and-left (leb 1 (count (isRole 0) ws)) (leb (count (isRole 0) ws) 4) takes) in
-      let most = leb-true (count (isRole 0) ws) 4 (and-right (leb 1 (count (isRole 0) ws)) (leb (count (isRole 0) ws) 4) takes) in
-      record {
-        class-le = classOf-le z (portOf (getD ws 0 0));
-        atoms-le = rw (length-map ws atomOf) (leb-true (length ws) 16 atoms);
-        consumes-some = rw length-consumed some;
-        consumes-le = rw length-consumed most;
-        begins-le = rw (count-map (hasRole 2) atomOf ws) (leb-true (count (isRole 2) ws) 1 begins);
-        aborts-le = rw (count-map (hasRole 5) atomOf ws) (leb-true (count (isRole 5) ws) 1 aborts);
-        rises = rising 0 ws rises;
-        each = λ a m. let (w, n, e) = among-map atomOf ws a m in subst (λ (x : Atom). AtomRight z (ruleOf z ws) x) (sym e) (atom-right w (all-each (atomOk z (shapeOf z ws)) ws each w n));
-      }
-    where
-      rising : (k : ℕ) (vs : List ℕ) → risesFrom k atomRole vs ≡ true → risesFrom k (λ a. a .role) (map atomOf vs) ≡ true
-      rising k [] q = refl
-      rising k (v ∷ vs) q = and-intro (and-left (leb k (atomRole v)) (risesFrom (atomRole v) atomRole vs) q) (rising (atomRole v) vs (and-right (leb k (atomRole v)) (risesFrom (atomRole v) atomRole vs) q))
+  pub rule-right : RuleFits z ws → RuleRight z (ruleOf z ws)
+  unfolding ruleOf
+  rule-right f = record {
+    class-le = classOf-le z (portOf (getD ws 0 0));
+    atoms-le = rw (length-map ws atomOf) (f .few);
+    consumes-some = rw (consumed-length z ws) (f .some);
+    consumes-le = rw (consumed-length z ws) (f .most);
+    begins-le = rw (count-map atomOf (hasRole 2) ws) (f .begins);
+    aborts-le = rw (count-map atomOf (hasRole 5) ws) (f .aborts);
+    rises = rises-map atomOf (λ (a : Atom). a .role) 0 ws ∙ f .rises;
+    each = λ a m.
+        let (w, n, e) = among-map atomOf ws a m in
+        subst (λ (x : Atom). AtomRight z (ruleOf z ws) x) (sym e) (atom-right w (all-each (atomOk z (shapeOf z ws)) ws (f .atoms) w n));
+  }
 
 -- ---- the rules of an accepted table
 
 pub rules-right : (T : List ℕ) → tableVerdict T ≡ Allowed → (r : ℕ) → r < sizesOf T .rules → RuleRight (sizesOf T) (ruleAt (tableOf T) r)
-rules-right T h r l = rw (ruleAt-tableOf T r l) (rule-right (sizesOf T) (wordsAt T r) (rule-given T (table-given T h .1) r l))
+rules-right T h r l =
+    rw (ruleAt-tableOf T r l) (rule-right (sizesOf T) (wordsOfRule T r) (rule-fits (sizesOf T) (wordsOfRule T r) (well-formed T h .each r l)))
 
 pub record TableRight (t : Table) : Type 0 where
   pub ports : portCount (t .sizes) ≤ 256
@@ -159,25 +138,13 @@ pub record TableRight (t : Table) : Type 0 where
 
 pub table-right : (T : List ℕ) → tableVerdict T ≡ Allowed → TableRight (tableOf T)
 table-right T h = record {
-  ports = rw (sizes-tableOf T) (sizes-given T (table-given T h .0) .ports);
+  ports = rw (sizes-tableOf T) (well-formed T h .sizes .ports);
   rule = λ r l. rw (sizes-tableOf T) (rules-right T h r (rw (length-rules T) at l));
 }
-
--- an atom's port fits its field; so does a constant (`ValueRight`). No bound on the words is needed: ports, modes and values are cut out of them, and the
--- check bounds the role.
-pub port-small : {t : Table} → TableRight t → (r : ℕ) → r < length (t .rules) → (a : Atom) → Among a (ruleAt t r .atoms) → a .port < 256
-port-small h r l a m = let p = h .ports in let q = h .rule r l .each a m .port-lt in omega arith
 
 -- ---- what follows for a rule
 
 module _ {z : Sizes} {R : Rule} (right : RuleRight z R) where
-  pub consumed-class : (p : ℕ) → Among p (consumed R) → (classOf z p ≡ R .class) × (p < portCount z)
-  consumed-class p m =
-      let (a, n, e) = among-map (λ a. a .port) (keep (hasRole 0) (R .atoms)) p m in
-      let (k, h) = among-keep (hasRole 0) (R .atoms) a n in
-      let r = right .each a k in
-      (ap (classOf z) e ∙ r .consume-class (eqb-true (a .role) 0 h), rw e (r .port-lt))
-
   -- an atom that makes something
   pub product-atom : (a : Atom) → Among a (productAtoms R) → AtomRight z R a × (1 ≤ a .role)
   product-atom a m =

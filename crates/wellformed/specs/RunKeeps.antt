@@ -13,7 +13,8 @@ use Rattle.semantics.specs.declared.Refusal.{Refusal}
 use Rattle.semantics.specs.declared.Refusal.the-variants.{LogSizes}
 use Rattle.semantics.specs.declared.Verdict.{Verdict}
 use Rattle.semantics.specs.declared.Verdict.the-variants.{Allowed, Denied}
-use Rattle.wellformed.specs.Verdicts.{both-allowed, state-given}
+use Rattle.wellformed.specs.Verdicts.{both-allowed}
+use Rattle.wellformed.specs.States.{state-given}
 use Rattle.wellformed.specs.Results.{write-same, unlessDenied-write}
 use Rattle.wellformed.specs.RoundTrip.{entryCount-stateWords}
 use Rattle.wellformed.specs.Held.{stateOf-held, words-pass, run-holds}

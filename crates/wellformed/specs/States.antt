@@ -11,11 +11,19 @@ use lib.ListN.{length, getD, take, drop, length-take, length-drop, drop-of-lengt
 use lib.Seq.{take-all}
 use Rattle.lists.specs.Lists.{all}
 use Rattle.lists.specs.Tests.{and-both}
+use Rattle.lists.specs.Choices.{and-three}
 use Rattle.lists.specs.Walk.{drop-step}
 use Rattle.lists.specs.Ahead.{Tails}
-use Rattle.semantics.specs.State.{Entry, entryOf, entriesOf, entryCount, nextOf, ownersOf, itemsOf, stateSizesOk}
+use Rattle.semantics.specs.Table.{sizesOf}
+use Rattle.semantics.specs.State.{Entry, entryOf, entriesOf, entryCount, nextOf, ownersOf, itemsOf, stateOf, stateSizesOk, entriesOk}
+use Rattle.semantics.specs.Answers.{tableVerdict, stateOwnFaults, stateOwnVerdict, stateVerdict}
+use Rattle.semantics.specs.declared.Refusal.the-variants.{StateSizes, StateContents}
+use Rattle.semantics.specs.declared.Verdict.the-variants.{Allowed}
+use Rattle.wellformed.specs.Verdicts.{both-allowed, unless-allowed, passed-each}
 
--- the entries from place i on
+-- ---- entries
+
+-- those from place i on
 unfoldable pub entriesFrom : List ℕ → List ℕ → ℕ → List Entry
 entriesFrom os ws i = entriesOf i (drop i os) (drop i ws)
 
@@ -36,6 +44,8 @@ all-owners p i [] ws h = refl
 all-owners p i (o ∷ os) [] h = absurd (omega arith)
 all-owners p i (o ∷ os) (w ∷ ws) h = rw (all-owners p (suc i) os ws (omega arith))
 
+-- ---- an accepted state
+
 -- what sizes in order say
 pub record StateSized (s : List ℕ) : Type 0 where
   pub count : entryCount s ≤ 1024
@@ -51,8 +61,7 @@ state-sized s h =
     let n = entryCount s in
     let next = leb 1 (nextOf s) && leb (nextOf s) 65536 in
     let (two, rest) = and-both (leb 2 (length s)) (leb n 1024 && next && eqb (length s) (2 + 2 * n)) h in
-    let (front, long) = and-both (leb n 1024 && next) (eqb (length s) (2 + 2 * n)) rest in
-    let (few, ids) = and-both (leb n 1024) next front in
+    let (few, ids, long) = and-three (leb n 1024) next (eqb (length s) (2 + 2 * n)) rest in
     let (low, high) = and-both (leb 1 (nextOf s)) (leb (nextOf s) 65536) ids in
     let size = eqb-true (length s) (2 + 2 * n) long in
     record {
@@ -64,7 +73,16 @@ state-sized s h =
       items = simp length-drop (omega arith);
     }
 
--- the columns as parts of the words, in the form in which code slices
+-- its table is accepted, its sizes are in order, and so are its entries
+pub state-given : (s t : List ℕ) → stateVerdict t s ≡ Allowed
+    → (tableVerdict t ≡ Allowed) × (stateSizesOk s ≡ true) × (entriesOk (sizesOf t) (stateOf s) ≡ true)
+unfolding stateVerdict stateOwnVerdict
+state-given s t h =
+    let (table, own) = both-allowed (tableVerdict t) (stateOwnVerdict (sizesOf t) s) h in
+    let (sizes, (contents, _)) = passed-each (stateOwnFaults (sizesOf t) s) own in
+    (table, unless-allowed (stateSizesOk s) StateSizes sizes, unless-allowed (entriesOk (sizesOf t) (stateOf s)) StateContents contents)
+
+-- ---- the columns, as code cuts them out
 pub owners-part : (s : List ℕ) (n : ℕ) → n ≡ entryCount s → take (2 + n - 2) (drop 2 s) ≡ ownersOf s
 owners-part s n e =
     let k : 2 + n - 2 ≡ entryCount s = omega arith in

@@ -36,19 +36,19 @@ stepWords-verdict ceiling t i s m =
 pub refused≢to : {r : Refusal} {s : State} → refused r ≡ to s → ⊥
 refused≢to h = let z : _≡_ {A = ℕ} 0 1 = cc in omega arith
 
-pub record Accepted (ceiling : ℕ) (t : Table) (i : ℕ) (s : State) (m : List ℕ) (s′ : State) : Type 0 where
+pub record AcceptedMove (ceiling : ℕ) (t : Table) (i : ℕ) (s : State) (m : List ℕ) (s′ : State) : Type 0 where
   pub form : moveOk t m ≡ true
   pub allows : allowed t s (moveOf t m) ≡ Allowed
   pub result : applied t i s (moveOf t m) ≡ s′
   pub fits : length (s′ .entries) ≤ ceiling
 
 -- what an accepted move has passed, and what it leaves
-pub accepted : (ceiling : ℕ) (t : Table) (i : ℕ) (s : State) (m : List ℕ) (s′ : State) → stepWords ceiling t i s m ≡ to s′ → Accepted ceiling t i s m s′
+pub accepted-move : (ceiling : ℕ) (t : Table) (i : ℕ) (s : State) (m : List ℕ) (s′ : State) → stepWords ceiling t i s m ≡ to s′ → AcceptedMove ceiling t i s m s′
 unfolding stepWords step
-accepted ceiling t i s m s′ = go (moveOk t m) refl (allowed t s (moveOf t m)) refl (leb (length (applied t i s (moveOf t m) .entries)) ceiling) refl
+accepted-move ceiling t i s m s′ = go (moveOk t m) refl (allowed t s (moveOf t m)) refl (leb (length (applied t i s (moveOf t m) .entries)) ceiling) refl
   where
     go : (b : Bool) → moveOk t m ≡ b → (v : Verdict) → allowed t s (moveOf t m) ≡ v → (c : Bool) → leb (length (applied t i s (moveOf t m) .entries)) ceiling ≡ c
-        → cond b (within ceiling (steppedBy v (applied t i s (moveOf t m)))) (refused MoveForm) ≡ to s′ → Accepted ceiling t i s m s′
+        → cond b (within ceiling (steppedBy v (applied t i s (moveOf t m)))) (refused MoveForm) ≡ to s′ → AcceptedMove ceiling t i s m s′
     go false p v q c l h = absurd (refused≢to h)
     go true p (Denied r) q c l h = absurd (refused≢to h)
     go true p Allowed q false l h = absurd (refused≢to (rw l at h))

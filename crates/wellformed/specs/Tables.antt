@@ -1,31 +1,32 @@
--- What is known of a table that the check accepts, of its rules and of their atoms.
+-- An accepted table: its sizes, its rules as words and decoded, and what each atom and rule has passed.
 use Prim.Native.Nat.{ℕ, _+_, _-_, _*_, _≤_, _<_}
-use mathlib.Core.Bool.{Bool, true, false, _&&_, _||_}
+use mathlib.Core.Bool.{true, _&&_}
 use mathlib.Core.List.{List, map}
-use mathlib.Core.Path.{_≡_, refl, sym, ap, _∙_}
+use mathlib.Core.Path.{_≡_, refl, ap, _∙_}
 use native.Mathlib.Omega.{arith}
-use borrow.Author.Tests.{leb-true, eqb-true, ltb-true, ne-eqb, lt-ltb}
+use borrow.Author.Tests.{leb-true, eqb-true, ltb-true}
 use lib.Dec.{leb, ltb, eqb}
 use lib.ListN.{length, take, drop, length-drop, length-map}
 use lib.Seq.{length-take-le, take-all}
-use Rattle.lists.specs.Lists.{all, any, keep, count, risesFrom, allBelow, upFrom}
-use Rattle.lists.specs.Tests.{and-both, or-false}
-use Rattle.lists.specs.Counting.{count-le, count-map, all-map, all-each, all-weaker, length-keep}
+use Rattle.lists.specs.Lists.{all, any, keep, count, risesFrom, allBelow}
+use Rattle.lists.specs.Choices.{and-three, and-six, and-nine}
+use Rattle.lists.specs.Tests.{and-both}
+use Rattle.lists.specs.Counting.{count-le, count-map, length-keep}
 use Rattle.lists.specs.Parts.{any-map}
 use Rattle.lists.specs.Rising.{zeros-first, rises-map}
-use Rattle.lists.specs.Walk.{below-each, getD-upFrom, length-upFrom}
-use Rattle.semantics.specs.Words.{atomRole, atomMode, portOf, valueOf}
-use Rattle.semantics.specs.Table.{sizesOf, numbersOf, atomWordsOf, ruleWords, portCount, sizesWithin, tableSizesOk, occurs, numbersOk, isRole, modeOk, consumeOk, emitOk, markOk, beginOk, innerOk, compensateOk, atomOk, shapeOf, ruleOk, rulesOk, tableContentsOk, atomValue, atomOf, Rule, ruleOf, tableOf, noRule, ruleAt, hasRole, consumed, productAtoms}
-use Rattle.semantics.specs.Move.{unless, both}
-use Rattle.semantics.specs.Answers.{tableVerdict}
+use Rattle.lists.specs.Walk.{below-each}
+use Rattle.lists.specs.Tabled.{length-tabled, getD-upFrom}
+use Rattle.semantics.specs.Words.{atomRole, portOf}
+use Rattle.semantics.specs.Table.{sizesOf, numbersOf, atomWordsOf, ruleWords, portCount, sizesWithin, tableSizesOk, occurs, numbersOk}
+use Rattle.semantics.specs.Table.{isRole, modeOk, consumeOk, emitOk, markOk, beginOk, innerOk, compensateOk, atomOk, shapeOf, ruleOk, rulesOk, tableContentsOk}
+use Rattle.semantics.specs.Table.{atomOf, Rule, ruleOf, tableOf, noRule, ruleAt, hasRole, consumed, productAtoms}
+use Rattle.semantics.specs.Answers.{tableFaults, tableVerdict}
 use Rattle.semantics.specs.declared.Sizes.{Sizes}
 use Rattle.semantics.specs.declared.Shape.{Shape}
 use Rattle.semantics.specs.declared.Atom.{Atom}
-use Rattle.semantics.specs.declared.AtomValue.{AtomValue}
-use Rattle.semantics.specs.declared.AtomValue.the-variants.{Constant, Received}
-use Rattle.semantics.specs.declared.Refusal.{Refusal}
 use Rattle.semantics.specs.declared.Refusal.the-variants.{TableSizes, TableContents}
 use Rattle.semantics.specs.declared.Verdict.the-variants.{Allowed}
+use Rattle.wellformed.specs.Verdicts.{unless-allowed, passed-each}
 
 -- ---- sizes and length
 
@@ -40,16 +41,15 @@ pub table-sized : (t : List ℕ) → tableSizesOk t ≡ true → TableSized t
 unfolding tableSizesOk
 table-sized t h =
     let z = sizesOf t in
-    let (l, h) = and-both (leb 5 (length t)) (sizesWithin z && eqb (length t) (5 + 2 * z .atoms)) h in
-    let (h, w) = and-both (sizesWithin z) (eqb (length t) (5 + 2 * z .atoms)) h in
-    let (h, a) = and-both (leb (portCount z) 256 && leb (z .rules) 64) (leb (z .atoms) 512) h in
-    let (p, r) = and-both (leb (portCount z) 256) (leb (z .rules) 64) h in
+    let (long, rest) = and-both (leb 5 (length t)) (sizesWithin z && eqb (length t) (5 + 2 * z .atoms)) h in
+    let (within, whole) = and-both (sizesWithin z) (eqb (length t) (5 + 2 * z .atoms)) rest in
+    let (ports, rules, atoms) = and-three (leb (portCount z) 256) (leb (z .rules) 64) (leb (z .atoms) 512) within in
     record {
-      long = leb-true 5 (length t) l;
-      ports = leb-true (portCount z) 256 p;
-      rules = leb-true (z .rules) 64 r;
-      atoms = leb-true (z .atoms) 512 a;
-      whole = eqb-true (length t) (5 + 2 * z .atoms) w;
+      long = leb-true 5 (length t) long;
+      ports = leb-true (portCount z) 256 ports;
+      rules = leb-true (z .rules) 64 rules;
+      atoms = leb-true (z .atoms) 512 atoms;
+      whole = eqb-true (length t) (5 + 2 * z .atoms) whole;
     }
 
 pub numbers-length : (t : List ℕ) → TableSized t → length (numbersOf t) ≡ sizesOf t .atoms
@@ -82,23 +82,23 @@ pub record WellFormed (t : List ℕ) : Type 0 where
   pub numbers : numbersOk (sizesOf t .rules) (numbersOf t) ≡ true
   pub each : (r : ℕ) → r < sizesOf t .rules → ruleOk (sizesOf t) (ruleWords r (numbersOf t) (atomWordsOf t)) ≡ true
 
--- an allowed verdict of two tests
-both-allowed : (a b : Bool) (x y : Refusal) → both (unless a x) (unless b y) ≡ Allowed → (a ≡ true) × (b ≡ true)
-both-allowed true true x y h = (refl, refl)
-both-allowed true false x y h = let e : _≡_ {A = ℕ} 0 1 = cc in absurd (omega arith)
-both-allowed false b x y h = let e : _≡_ {A = ℕ} 0 1 = cc in absurd (omega arith)
-
-pub verdict-allowed : (t : List ℕ) → tableVerdict t ≡ Allowed → (tableSizesOk t ≡ true) × (tableContentsOk t ≡ true)
+pub table-given : (t : List ℕ) → tableVerdict t ≡ Allowed → (tableSizesOk t ≡ true) × (tableContentsOk t ≡ true)
 unfolding tableVerdict
-verdict-allowed t h = both-allowed (tableSizesOk t) (tableContentsOk t) TableSizes TableContents h
+table-given t h =
+    let (sizes, (contents, _)) = passed-each (tableFaults t) h in
+    (unless-allowed (tableSizesOk t) TableSizes sizes, unless-allowed (tableContentsOk t) TableContents contents)
 
 pub well-formed : (t : List ℕ) → tableVerdict t ≡ Allowed → WellFormed t
 unfolding tableContentsOk rulesOk
 well-formed t h =
-    let (s, c) = verdict-allowed t h in
+    let (sizes, contents) = table-given t h in
     let z = sizesOf t in
-    let (n, k) = and-both (numbersOk (z .rules) (numbersOf t)) (rulesOk z (numbersOf t) (atomWordsOf t)) c in
-    record { sizes = table-sized t s; numbers = n; each = λ r. below-each (λ r. ruleOk z (ruleWords r (numbersOf t) (atomWordsOf t))) (z .rules) r k }
+    let (numbers, rules) = and-both (numbersOk (z .rules) (numbersOf t)) (rulesOk z (numbersOf t) (atomWordsOf t)) contents in
+    record {
+      sizes = table-sized t sizes;
+      numbers = numbers;
+      each = λ r. below-each (λ r. ruleOk z (ruleWords r (numbersOf t) (atomWordsOf t))) (z .rules) r rules;
+    }
 
 -- ---- a rule
 
@@ -114,26 +114,20 @@ pub record RuleFits (z : Sizes) (ws : List ℕ) : Type 0 where
 pub rule-fits : (z : Sizes) (ws : List ℕ) → ruleOk z ws ≡ true → RuleFits z ws
 unfolding ruleOk
 rule-fits z ws h =
-    let few = leb (length ws) 16 in
-    let rises = risesFrom 0 atomRole ws in
-    let some = leb 1 (count (isRole 0) ws) in
-    let most = leb (count (isRole 0) ws) 4 in
-    let begins = leb (count (isRole 2) ws) 1 in
-    let aborts = leb (count (isRole 5) ws) 1 in
-    let (h, g) = and-both (few && rises && (some && most) && begins && aborts) (all (atomOk z (shapeOf z ws)) ws) h in
-    let (h, f) = and-both (few && rises && (some && most) && begins) aborts h in
-    let (h, e) = and-both (few && rises && (some && most)) begins h in
-    let (h, cd) = and-both (few && rises) (some && most) h in
-    let (c, d) = and-both some most cd in
-    let (a, b) = and-both few rises h in
+    let n = count (isRole 0) ws in
+    let begin = leb (count (isRole 2) ws) 1 in
+    let abort = leb (count (isRole 5) ws) 1 in
+    let (few, rises, takes, begins, aborts, atoms) =
+    and-six (leb (length ws) 16) (risesFrom 0 atomRole ws) (leb 1 n && leb n 4) begin abort (all (atomOk z (shapeOf z ws)) ws) h in
+    let (some, most) = and-both (leb 1 n) (leb n 4) takes in
     record {
-      few = leb-true (length ws) 16 a;
-      rises = b;
-      some = leb-true 1 (count (isRole 0) ws) c;
-      most = leb-true (count (isRole 0) ws) 4 d;
-      begins = leb-true (count (isRole 2) ws) 1 e;
-      aborts = leb-true (count (isRole 5) ws) 1 f;
-      atoms = g;
+      few = leb-true (length ws) 16 few;
+      rises = rises;
+      some = leb-true 1 n some;
+      most = leb-true n 4 most;
+      begins = leb-true (count (isRole 2) ws) 1 begins;
+      aborts = leb-true (count (isRole 5) ws) 1 aborts;
+      atoms = atoms;
     }
 
 -- ---- an atom
@@ -152,21 +146,9 @@ pub record AtomFits (z : Sizes) (s : Shape) (w : ℕ) : Type 0 where
 pub atom-fits : (z : Sizes) (s : Shape) (w : ℕ) → atomOk z s w ≡ true → AtomFits z s w
 unfolding atomOk
 atom-fits z s w h =
-    let a = leb (atomRole w) 5 in
-    let b = a && modeOk s w in
-    let c = b && ltb (portOf w) (portCount z) in
-    let d = c && consumeOk z s w in
-    let e = d && emitOk z s w in
-    let f = e && markOk w in
-    let g = f && beginOk s w in
-    let (h, compensate) = and-both (g && innerOk s w) (compensateOk z w) h in
-    let (h, inner) = and-both g (innerOk s w) h in
-    let (h, begin) = and-both f (beginOk s w) h in
-    let (h, mark) = and-both e (markOk w) h in
-    let (h, emit) = and-both d (emitOk z s w) h in
-    let (h, consume) = and-both c (consumeOk z s w) h in
-    let (h, port) = and-both b (ltb (portOf w) (portCount z)) h in
-    let (role, mode) = and-both a (modeOk s w) h in
+    let port = ltb (portOf w) (portCount z) in
+    let (role, mode, port, consume, emit, mark, begin, inner, compensate) =
+    and-nine (leb (atomRole w) 5) (modeOk s w) port (consumeOk z s w) (emitOk z s w) (markOk w) (beginOk s w) (innerOk s w) (compensateOk z w) h in
     record {
       role = leb-true (atomRole w) 5 role;
       mode = mode;
@@ -179,39 +161,37 @@ atom-fits z s w h =
       compensate = compensate;
     }
 
+-- ---- a decoded table
+
+module _ (t : List ℕ) where
+  -- the words of rule r
+  abbrev pub wordsOfRule : ℕ → List ℕ
+  wordsOfRule r = ruleWords r (numbersOf t) (atomWordsOf t)
+
+  pub sizes-tableOf : tableOf t .sizes ≡ sizesOf t
+  unfolding tableOf
+  sizes-tableOf = refl
+
+  pub length-rules : length (tableOf t .rules) ≡ sizesOf t .rules
+  unfolding tableOf
+  length-rules = length-tabled (λ r. ruleOf (sizesOf t) (wordsOfRule r)) 0 (sizesOf t .rules)
+
+  pub ruleAt-tableOf : (r : ℕ) → r < sizesOf t .rules → ruleAt (tableOf t) r ≡ ruleOf (sizesOf t) (wordsOfRule r)
+  unfolding tableOf
+  ruleAt-tableOf r h =
+      let e : 0 + r ≡ r = omega arith in
+      getD-upFrom (λ r. ruleOf (sizesOf t) (wordsOfRule r)) noRule 0 (sizesOf t .rules) r h
+      ∙ ap (λ (r : ℕ). ruleOf (sizesOf t) (wordsOfRule r)) e
+
 -- ---- a decoded rule
 
-pub rule-at : (t : List ℕ) (r : ℕ) → r < sizesOf t .rules → ruleAt (tableOf t) r ≡ ruleOf (sizesOf t) (ruleWords r (numbersOf t) (atomWordsOf t))
-unfolding tableOf
-rule-at t r l =
-    let e : 0 + r ≡ r = omega arith in
-    getD-upFrom (λ r. ruleOf (sizesOf t) (ruleWords r (numbersOf t) (atomWordsOf t))) noRule 0 (sizesOf t .rules) r l
-    ∙ ap (λ (r : ℕ). ruleOf (sizesOf t) (ruleWords r (numbersOf t) (atomWordsOf t))) e
-
--- the value is a constant, or one of n received ones
-abbrev pub valueExists : ℕ → AtomValue → Bool
-valueExists n (Constant v) = true
-valueExists n (Received i) = ltb i n
-
-mode-exists : (m v n : ℕ) → eqb m 0 || eqb m 1 && ltb v n ≡ true → valueExists n (atomValue (eqb m 1) v) ≡ true
-mode-exists m v n h = go (eqb m 1) refl h
-  where
-    go : (b : Bool) → eqb m 1 ≡ b → eqb m 0 || b && ltb v n ≡ true → valueExists n (atomValue b v) ≡ true
-    go false e h = refl
-    go true e h =
-        let one = eqb-true m 1 e in
-        sym (or-false (ltb v n) (ne-eqb m 0 (λ zero. omega arith))) ∙ h
-
--- A rule of a well-formed table, with n consumes: its first n atoms are those.
+-- the n consumes of a rule come first
 pub record LegalRule (n : ℕ) (r : Rule) : Type 0 where
   pub some : 1 ≤ n
   pub most : n ≤ 4
   pub within : n ≤ length (r .atoms)
-  pub few : length (r .atoms) ≤ 16
   pub consumed : consumed r ≡ map (λ a. a .port) (take n (r .atoms))
   pub products : productAtoms r ≡ drop n (r .atoms)
-  pub ports : all (λ a. ltb (a .port) 256) (r .atoms) ≡ true
-  pub values : all (λ a. valueExists n (a .value)) (r .atoms) ≡ true
 
 module _ (z : Sizes) (ws : List ℕ) where
   pub rule-has : (k : ℕ) → any (hasRole k) (ruleOf z ws .atoms) ≡ any (isRole k) ws
@@ -221,51 +201,18 @@ module _ (z : Sizes) (ws : List ℕ) where
   pub consumed-length : length (consumed (ruleOf z ws)) ≡ count (isRole 0) ws
   unfolding ruleOf
   consumed-length =
-      length-map (keep (hasRole 0) (map atomOf ws)) (λ a. a .port) ∙ length-keep (hasRole 0) (map atomOf ws) ∙ count-map atomOf (hasRole 0) ws
+      length-map (keep (hasRole 0) (map atomOf ws)) (λ a. a .port)
+      ∙ length-keep (hasRole 0) (map atomOf ws) ∙ count-map atomOf (hasRole 0) ws
 
-  module _ (f : RuleFits z ws) where
-    values : all (λ w. valueExists (count (isRole 0) ws) (atomOf w .value)) ws ≡ true
-    values =
-        all-weaker
-        (atomOk z (shapeOf z ws))
-        (λ w. valueExists (count (isRole 0) ws) (atomOf w .value))
-        (λ w h. mode-exists (atomMode w) (valueOf w) (count (isRole 0) ws) (atom-fits z (shapeOf z ws) w h .mode))
-        ws
-        (f .atoms)
-
-    pub rule-legal : LegalRule (count (isRole 0) ws) (ruleOf z ws)
-    unfolding ruleOf
-    rule-legal =
-        let first = zeros-first (λ (a : Atom). a .role) 0 (map atomOf ws) (rises-map atomOf (λ (a : Atom). a .role) 0 ws ∙ f .rises) in
-        let n = count-map atomOf (hasRole 0) ws in
-        record {
-          some = f .some;
-          most = f .most;
-          within = rw length-map (count-le (isRole 0) ws);
-          few = rw length-map (f .few);
-          consumed = ap (map (λ a. a .port)) (first .zero ∙ ap (λ (k : ℕ). take k (map atomOf ws)) n);
-          products = first .other ∙ ap (λ (k : ℕ). drop k (map atomOf ws)) n;
-          ports = all-map atomOf (λ a. ltb (a .port) 256) ws ∙ all-each (λ w. ltb (portOf w) 256) (λ w. lt-ltb (portOf w) 256 (omega arith)) ws;
-          values = all-map atomOf (λ a. valueExists (count (isRole 0) ws) (a .value)) ws ∙ values;
-        }
-
-pub legal-rule :
-    (t : List ℕ) (r : ℕ)
-    → tableVerdict t ≡ Allowed
-    → r < sizesOf t .rules
-    → LegalRule (length (consumed (ruleAt (tableOf t) r))) (ruleAt (tableOf t) r)
-legal-rule t r v l =
-    let z = sizesOf t in
-    let ws = ruleWords r (numbersOf t) (atomWordsOf t) in
-    rw (rule-at t r l, consumed-length z ws) (rule-legal z ws (rule-fits z ws (well-formed t v .each r l)))
-
--- ---- a decoded table
-pub table-sizes : (t : List ℕ) → tableOf t .sizes ≡ sizesOf t
-unfolding tableOf
-table-sizes t = refl
-
-pub table-rules : (t : List ℕ) → length (tableOf t .rules) ≡ sizesOf t .rules
-unfolding tableOf
-table-rules t =
-    length-map (upFrom 0 (sizesOf t .rules)) (λ r. ruleOf (sizesOf t) (ruleWords r (numbersOf t) (atomWordsOf t)))
-    ∙ length-upFrom 0 (sizesOf t .rules)
+  pub rule-legal : RuleFits z ws → LegalRule (count (isRole 0) ws) (ruleOf z ws)
+  unfolding ruleOf
+  rule-legal f =
+      let first = zeros-first (λ (a : Atom). a .role) 0 (map atomOf ws) (rises-map atomOf (λ (a : Atom). a .role) 0 ws ∙ f .rises) in
+      let n = count-map atomOf (hasRole 0) ws in
+      record {
+        some = f .some;
+        most = f .most;
+        within = rw length-map (count-le (isRole 0) ws);
+        consumed = ap (map (λ a. a .port)) (first .zero ∙ ap (λ (k : ℕ). take k (map atomOf ws)) n);
+        products = first .other ∙ ap (λ (k : ℕ). drop k (map atomOf ws)) n;
+      }

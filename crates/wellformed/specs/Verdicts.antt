@@ -1,33 +1,20 @@
--- What an accepted table or state gives: each test that its verdict is made of, and the rule at each number.
-use Prim.Native.Nat.{ℕ, _+_, _*_, _≤_, _<_}
-use mathlib.Core.Bool.{Bool, true, false, _&&_}
-use mathlib.Core.List.{List}
-use mathlib.Core.Path.{_≡_, refl, ap, _∙_}
+-- Verdicts: an allowed one has passed each of its tests, and of several tests the first fault counts.
+use Prim.Native.Nat.{ℕ}
+use mathlib.Core.Bool.{Bool, true, false}
+use mathlib.Core.List.{List, [], _∷_}
+use mathlib.Core.Logic.{_⊎_, inl, inr}
+use mathlib.Core.Path.{_≡_, refl, sym, _∙_}
 use native.Mathlib.Omega.{arith}
-use lib.Dec.{leb, eqb}
-use lib.ListN.{length}
-use borrow.Author.Tests.{leb-true, eqb-true}
-use Rattle.lists.specs.Walk.{below-each}
-use Rattle.lists.specs.Choices.{and-left, and-right, and-three}
-use Rattle.lists.specs.Tabled.{length-upFrom, getD-upFrom}
-use Rattle.semantics.specs.Table.{sizesOf, numbersOf, atomWordsOf, ruleWords, portCount, sizesWithin, tableSizesOk, numbersOk, ruleOk, rulesOk, tableContentsOk, ruleOf, tableOf, noRule, ruleAt}
-use Rattle.semantics.specs.State.{entryCount, nextOf, stateOf, stateSizesOk, entriesOk}
-use Rattle.semantics.specs.Move.{unless, both}
-use Rattle.semantics.specs.Answers.{tableVerdict, stateOwnVerdict, stateVerdict}
+use Rattle.lists.specs.Each.{All}
+use Rattle.semantics.specs.Move.{unless, both, firstFault}
 use Rattle.semantics.specs.declared.Refusal.{Refusal}
-use Rattle.semantics.specs.declared.Refusal.the-variants.{TableSizes, TableContents, StateSizes, StateContents}
 use Rattle.semantics.specs.declared.Verdict.{Verdict}
 use Rattle.semantics.specs.declared.Verdict.the-variants.{Allowed, Denied}
 
 pub denied≢allowed : {r : Refusal} → Denied r ≡ Allowed → ⊥
 denied≢allowed h = let z : _≡_ {A = ℕ} 0 1 = cc in omega arith
 
-pub both-allowed : (a b : Verdict) → both a b ≡ Allowed → (a ≡ Allowed) × (b ≡ Allowed)
-both-allowed Allowed b h = (refl, h)
-both-allowed (Denied r) b h = absurd (denied≢allowed h)
-
-pub both-intro : {a b : Verdict} → a ≡ Allowed → b ≡ Allowed → both a b ≡ Allowed
-both-intro p q = rw (p, q)
+-- ---- one test
 
 pub unless-allowed : (b : Bool) (r : Refusal) → unless b r ≡ Allowed → b ≡ true
 unless-allowed true r h = refl
@@ -36,80 +23,43 @@ unless-allowed false r h = absurd (denied≢allowed h)
 pub unless-intro : {b : Bool} (r : Refusal) → b ≡ true → unless b r ≡ Allowed
 unless-intro r h = rw h
 
--- ---- tables
+pub unless-false : {b : Bool} (r : Refusal) → b ≡ false → unless b r ≡ Denied r
+unless-false r h = rw h
 
-module _ (T : List ℕ) where
-  pub table-given : tableVerdict T ≡ Allowed → (tableSizesOk T ≡ true) × (tableContentsOk T ≡ true)
-  unfolding tableVerdict
-  table-given h =
-      let (a, b) = both-allowed (unless (tableSizesOk T) TableSizes) (unless (tableContentsOk T) TableContents) h in
-      (unless-allowed (tableSizesOk T) TableSizes a, unless-allowed (tableContentsOk T) TableContents b)
+-- ---- two tests
 
-  pub record SizesGiven : Type 0 where
-    pub ports : portCount (sizesOf T) ≤ 256
-    pub rules : sizesOf T .rules ≤ 64
-    pub atoms : sizesOf T .atoms ≤ 512
-    pub words : length T ≡ 5 + 2 * sizesOf T .atoms
+pub both-allowed : (a b : Verdict) → both a b ≡ Allowed → (a ≡ Allowed) × (b ≡ Allowed)
+both-allowed Allowed b h = (refl, h)
+both-allowed (Denied r) b h = absurd (denied≢allowed h)
 
-  pub sizes-given : tableSizesOk T ≡ true → SizesGiven
-  unfolding tableSizesOk
-  sizes-given h =
-      let z = sizesOf T in
-      let l = and-right (leb 5 (length T)) (sizesWithin z && eqb (length T) (5 + 2 * z .atoms)) h in
-      let (p, r, a) = and-three (leb (portCount z) 256) (leb (z .rules) 64) (leb (z .atoms) 512) (and-left (sizesWithin z) (eqb (length T) (5 + 2 * z .atoms)) l) in
-      record {
-        ports = leb-true (portCount z) 256 p;
-        rules = leb-true (z .rules) 64 r;
-        atoms = leb-true (z .atoms) 512 a;
-        words = eqb-true (length T) (5 + 2 * z .atoms) (and-right (sizesWithin z) (eqb (length T) (5 + 2 * z .atoms)) l);
-      }
+pub both-intro : {a b : Verdict} → a ≡ Allowed → b ≡ Allowed → both a b ≡ Allowed
+both-intro p q = rw (p, q)
 
-  -- the words of rule r
-  abbrev pub wordsAt : ℕ → List ℕ
-  wordsAt r = ruleWords r (numbersOf T) (atomWordsOf T)
+-- ---- a list of tests
 
-  pub rule-given : tableContentsOk T ≡ true → (r : ℕ) → r < sizesOf T .rules → ruleOk (sizesOf T) (wordsAt r) ≡ true
-  unfolding tableContentsOk rulesOk
-  rule-given h r l =
-      below-each (λ r. ruleOk (sizesOf T) (wordsAt r)) (sizesOf T .rules) r
-      (and-right (numbersOk (sizesOf T .rules) (numbersOf T)) (rulesOk (sizesOf T) (numbersOf T) (atomWordsOf T)) h) l
+first-cons : (v : Verdict) (vs : List Verdict) → firstFault (v ∷ vs) ≡ both v (firstFault vs)
+first-cons Allowed [] = refl
+first-cons (Denied r) [] = refl
+first-cons v (w ∷ vs) = refl
 
-  pub sizes-tableOf : tableOf T .sizes ≡ sizesOf T
-  unfolding tableOf
-  sizes-tableOf = refl
+-- the first fault is q: the tests before it are passed
+abbrev pub FaultAt : Refusal → List Verdict → Type 0
+FaultAt q [] = ⊥
+FaultAt q (v ∷ vs) = (v ≡ Denied q) ⊎ ((v ≡ Allowed) × FaultAt q vs)
 
-  pub length-rules : length (tableOf T .rules) ≡ sizesOf T .rules
-  unfolding tableOf
-  length-rules = length-upFrom (λ r. ruleOf (sizesOf T) (wordsAt r)) 0 (sizesOf T .rules)
+pub first-fault : (vs : List Verdict) {q : Refusal} → FaultAt q vs → firstFault vs ≡ Denied q
+first-fault [] h = absurd h
+first-fault (v ∷ vs) (inl e) = first-cons v vs ∙ rw e
+first-fault (v ∷ vs) (inr (e, h)) = first-cons v vs ∙ rw e (first-fault vs h)
 
-  pub ruleAt-tableOf : (r : ℕ) → r < sizesOf T .rules → ruleAt (tableOf T) r ≡ ruleOf (sizesOf T) (wordsAt r)
-  unfolding tableOf
-  ruleAt-tableOf r h = getD-upFrom (λ r. ruleOf (sizesOf T) (wordsAt r)) noRule 0 (sizesOf T .rules) r h ∙ ap (λ (n : ℕ). ruleOf (sizesOf T) (wordsAt n)) (omega arith)
+-- each test is passed
+abbrev pub Passed : List Verdict → Type 0
+Passed vs = All (λ v. v ≡ Allowed) vs
 
--- ---- states
+pub no-fault : (vs : List Verdict) → Passed vs → firstFault vs ≡ Allowed
+no-fault [] h = refl
+no-fault (v ∷ vs) h = first-cons v vs ∙ rw (h .0) (no-fault vs (h .1))
 
-module _ (S : List ℕ) where
-  pub record StateSizesGiven : Type 0 where
-    pub entries : entryCount S ≤ 1024
-    pub next-low : 1 ≤ nextOf S
-    pub next-high : nextOf S ≤ 65536
-    pub words : length S ≡ 2 + 2 * entryCount S
-
-  pub state-sizes-given : stateSizesOk S ≡ true → StateSizesGiven
-  unfolding stateSizesOk
-  state-sizes-given h =
-      let (n, m, l) = and-three (leb (entryCount S) 1024) (leb 1 (nextOf S) && leb (nextOf S) 65536) (eqb (length S) (2 + 2 * entryCount S))
-      (and-right (leb 2 (length S)) (leb (entryCount S) 1024 && (leb 1 (nextOf S) && leb (nextOf S) 65536) && eqb (length S) (2 + 2 * entryCount S)) h) in
-      record {
-        entries = leb-true (entryCount S) 1024 n;
-        next-low = leb-true 1 (nextOf S) (and-left (leb 1 (nextOf S)) (leb (nextOf S) 65536) m);
-        next-high = leb-true (nextOf S) 65536 (and-right (leb 1 (nextOf S)) (leb (nextOf S) 65536) m);
-        words = eqb-true (length S) (2 + 2 * entryCount S) l;
-      }
-
-  pub state-given : (T : List ℕ) → stateVerdict T S ≡ Allowed → (tableVerdict T ≡ Allowed) × (stateSizesOk S ≡ true) × (entriesOk (sizesOf T) (stateOf S) ≡ true)
-  unfolding stateVerdict stateOwnVerdict
-  state-given T h =
-      let (t, s) = both-allowed (tableVerdict T) (stateOwnVerdict (sizesOf T) S) h in
-      let (a, b) = both-allowed (unless (stateSizesOk S) StateSizes) (unless (entriesOk (sizesOf T) (stateOf S)) StateContents) s in
-      (t, unless-allowed (stateSizesOk S) StateSizes a, unless-allowed (entriesOk (sizesOf T) (stateOf S)) StateContents b)
+pub passed-each : (vs : List Verdict) → firstFault vs ≡ Allowed → Passed vs
+passed-each [] h = tt
+passed-each (v ∷ vs) h = let (a, b) = both-allowed v (firstFault vs) (sym (first-cons v vs) ∙ h) in (a, passed-each vs b)

@@ -26,7 +26,7 @@ fn functions(text: &str) -> Vec<(usize, &str, usize)> {
         let indent = line.len() - line.trim_start().len();
         let ends = |line: &&str| line.trim_start() == "}" && line.len() == indent + 1;
         let closed = line.ends_with('}') && !line.contains('⌜');
-        let length = if closed { Some(0) } else { lines[place..].iter().position(|line| ends(line)) };
+        let length = if closed { Some(0) } else { lines[place..].iter().position(ends) };
         found.push((place + 1, name, length.map_or(lines.len() - place, |length| length + 1)));
     }
     found
@@ -82,13 +82,16 @@ const FIELDS: [&str; 3] = ["16777216", "268435456", "33554432"];
 /// Fields taken apart, or put together, by hand in code or contracts.
 pub fn fields_in_code(tree: &Tree) -> Vec<Finding> {
     let by_hand = |file: &File, words: &[&str]| {
-        let is_field = |place: usize| FIELDS.contains(&words[place]) && !FIELD_MODULES.contains(&file.path.as_str());
-        let is_origin = |place: usize| {
-            let scaled = words[place] == "1024" && place > 0 && matches!(words[place - 1], "*" | "/" | "%");
-            scaled && file.path != ORIGINS
+        let at_home = FIELD_MODULES.contains(&file.path.as_str());
+        let is_field = |place: usize| {
+            let scales = place > 0 && matches!(words[place - 1], "*" | "/" | "%");
+            match words[place] {
+                "1024" => scales && file.path != ORIGINS,
+                "65536" => scales && !at_home,
+                word => FIELDS.contains(&word) && !at_home,
+            }
         };
-        let field = |place: usize| (is_field(place) || is_origin(place)).then(|| words[place].to_string());
-        (0..words.len()).find_map(field)
+        (0..words.len()).find(|place| is_field(*place)).map(|place| words[place].to_string())
     };
     fields(tree, &[Part::Src], "//", by_hand)
 }
@@ -183,7 +186,8 @@ mod tests {
     // Catches a field by hand that is missed, or one that is found where fields are at home.
     #[test]
     fn fields_by_hand_are_found() {
-        let code = "head / 16777216; // 16777216\n[u32; 1024]\nn <= 1024\nx=(y)/ 1024\n1167772160\n";
+        let code =
+            "head / 16777216; // 16777216\n[u32; 1024]\nn <= 1024\nx=(y)/ 1024\n1167772160\nv < 65536\nw % 65536\n";
         let specs = "-- 2 ^ 24\na = 2 ^ 28\nb = 2 ^ 16\nc = x + 33554432\n";
         let tree = Tree::of(&[
             ("crates/a/src/lib.rt", code),
@@ -196,6 +200,7 @@ mod tests {
         let wanted = [
             "crates/a/src/lib.rt:1: 16777216 by hand",
             "crates/a/src/lib.rt:4: 1024 by hand",
+            "crates/a/src/lib.rt:7: 65536 by hand",
             "crates/words/src/item.rt:4: 1024 by hand",
         ];
         assert_eq!(shown(fields_in_code(&tree)), wanted);

@@ -1,5 +1,5 @@
 //! One name for one thing, and one proof of a statement.
-use std::collections::BTreeMap;
+use std::collections::{BTreeMap, BTreeSet};
 
 use super::antt::{declarations, Declaration};
 use super::cites::sources;
@@ -46,6 +46,14 @@ pub fn declared_twice(tree: &Tree) -> Vec<Finding> {
     shared(tree, public, |name| format!("{name} is declared public in"))
 }
 
+/// Public laws whose name a file lower down has for a public law too, one of them inside a module.
+pub fn laws_named_twice(tree: &Tree) -> Vec<Finding> {
+    let top: BTreeSet<Finding> = declared_twice(tree).into_iter().collect();
+    let law = |one: &Declaration| (one.public && statement(one).is_some()).then(|| one.name.to_string());
+    let all = shared(tree, law, |name| format!("{name} is declared public in"));
+    all.into_iter().filter(|finding| !top.contains(finding)).collect()
+}
+
 /// Laws that a file lower down proves too, up to names of variables, brackets, white space and the order of
 /// what is given.
 pub fn stated_twice(tree: &Tree) -> Vec<Finding> {
@@ -78,11 +86,23 @@ mod tests {
         assert_eq!(shown(declared_twice(&tree)), wanted);
     }
 
-    // Catches a law that is proved again under other names of its variables or with other brackets,
-    // and two statements that only look alike.
+    // Catches two laws of one name, one of them inside a module; aliases inside modules are no matter.
     #[test]
-    fn statements_of_two_files_are_found() {
-        let low = "\
+    fn laws_of_one_name_are_found() {
+        let module = "module _ (x : T) where\n  pub law : x ≡ x\n  law = t\n  abbrev pub s : T\n  s = x\n";
+        let top = "abbrev pub s : T\ns = x\npub law : (x y : T) → x ≡ y\nlaw = t\n";
+        let tree = Tree::of(&[
+            ("crates/high/specs/High.antt", module),
+            ("crates/low/specs/Low.antt", top),
+            ("crates/low/specs/Too.antt", top),
+            ("crates.txt", CRATES),
+        ]);
+        let wanted = ["crates/high/specs/High.antt:2: law is declared public in crates/low/specs/Low.antt:3"];
+        assert_eq!(shown(laws_named_twice(&tree)), wanted);
+        assert_eq!(declared_twice(&tree).len(), 2);
+    }
+
+    const LOW_LAWS: &str = "\
 law : {A : Type 0} (xs ys : List A) → xs ≡ ys
 law = x
 apart : (n m : ℕ) → n + m ≡ n
@@ -96,7 +116,7 @@ type = x
 function : (n : ℕ) → ℕ
 function = x
 ";
-        let high = "\
+    const HIGH_LAWS: &str = "\
 module _ {B : Type 0} (unused : T) where
   module _ (us : List B) where
     mine : (vs : List B)
@@ -118,9 +138,14 @@ function = x
 abbrev short : (n m : ℕ) → n + m ≡ n
 short = x
 ";
+
+    // Catches a law that is proved again under other names of its variables or with other brackets,
+    // and two statements that only look alike.
+    #[test]
+    fn statements_of_two_files_are_found() {
         let tree = Tree::of(&[
-            ("crates/high/specs/High.antt", high),
-            ("crates/low/specs/Low.antt", low),
+            ("crates/high/specs/High.antt", HIGH_LAWS),
+            ("crates/low/specs/Low.antt", LOW_LAWS),
             ("crates.txt", CRATES),
         ]);
         let wanted = [

@@ -1,5 +1,5 @@
 use native.Mathlib.Omega.{arith}
-use Rattle.wellformed.specs.Verdicts.{state-given}
+use Rattle.wellformed.specs.States.{state-given}
 use Rattle.run.specs.Whole.{words-prepared, loaded-workable}
 use Rattle.calls.proofs.Running.{finish-refused, finish-written}
 use borrow.Author.Needs.{needs}

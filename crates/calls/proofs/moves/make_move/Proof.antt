@@ -1,6 +1,6 @@
 use mathlib.Core.Path.{sym, _∙_}
 use borrow.Author.Tests.{not-true, not-false}
-use Rattle.wellformed.specs.Verdicts.{state-given}
+use Rattle.wellformed.specs.States.{state-given}
 use Rattle.calls.proofs.Moving.{five, form-read, make-denied, make-malformed, make-unsized, make-short, make-done}
 use borrow.Author.Needs.{needs}
 use Rattle.calls.proofs.moves.make_move.Statement.{statement}

@@ -3,7 +3,7 @@ use native.Mathlib.Omega.{arith}
 use lib.ListN.{length-replicate}
 use borrow.Author.Tests.{not-true, not-false}
 use borrow.Author.Needs.{needs}
-use Rattle.wellformed.specs.Verdicts.{state-given}
+use Rattle.wellformed.specs.States.{state-given}
 use Rattle.log.specs.Form.{log-sized}
 use Rattle.calls.proofs.SecondPass.{keys-asked, order-asked, replay-asked, replay-outgrown, copy-asked, replay-written}
 use Rattle.calls.proofs.serials.reordered.Statement.{statement}

@@ -5,7 +5,7 @@ use lib.ListN.{length}
 use borrow.Author.Tests.{not-true, not-false}
 use borrow.Author.Needs.{needs}
 use Rattle.semantics.specs.Log.{moveCount}
-use Rattle.wellformed.specs.Verdicts.{state-given}
+use Rattle.wellformed.specs.States.{state-given}
 use Rattle.calls.proofs.Serializing.{serial-denied, serial-missized, serial-short, serial-emits, serial-open, serial-done}
 use Rattle.calls.proofs.serials.serialize.Statement.{statement}
 use Rattle.calls.proofs.serials.serialize.Tie as tie

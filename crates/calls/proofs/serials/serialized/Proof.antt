@@ -1,8 +1,8 @@
 use mathlib.Core.Path.{refl, sym, _∙_}
 use native.Mathlib.Omega.{arith}
 use borrow.Author.Needs.{needs}
-use Rattle.wellformed.specs.Verdicts.{state-given}
-use Rattle.opened.specs.Owners.{open-held}
+use Rattle.wellformed.specs.States.{state-given}
+use Rattle.state.specs.Owners.{open-held}
 use Rattle.calls.proofs.FirstPass.{recordable, record-room, ran-refused, ran-open, ran-closed, reorder-asked}
 use Rattle.calls.proofs.serials.serialized.Statement.{statement}
 use Rattle.calls.proofs.serials.serialized.Tie as tie

@@ -17,7 +17,9 @@ loop-holds : tie.Need-loop-holds Inv μ
 loop-holds c gs = surveying-from _ _ _ _ _ (c .pre .1 .within) (c .pre .1 .none)
 
 loop-again : tie.Need-loop-again Inv μ
-loop-again c gs = surveying-next (c .before .before .before .loop .inv gs) (c .before .before .loop-test .taken)
+loop-again c gs =
+    rw (c .port-of .ensures, c .before .kind-of .ensures)
+    (surveying-next (c .before .before .before .before .before .loop .inv gs) (c .before .before .before .before .loop-test .taken))
 
 returns : tie.Need-returns Inv μ
 returns c gs = surveying-done (c .before .loop .inv gs) (c .loop-test .left) _
@@ -27,4 +29,4 @@ surveyed-spec =
     tie.close
     (tie.spec
     Inv μ loop-holds (λ c. search needs) (λ c. search needs) (λ c. search needs) (λ c. search needs)
-    (λ c. search needs) (λ c. search needs) loop-again returns)
+    (λ c κs. search needs) (λ c κs. search needs) (λ c. search needs) (λ c. search needs) loop-again returns)

@@ -1,4 +1,7 @@
 use borrow.Author.Needs.{needs}
+use mathlib.Core.Path.{_∙_}
+use native.Mathlib.Nat.{add-zero}
+use native.Mathlib.Omega.{arith}
 use borrow.Author.Tests.{eq-eqb, ne-eqb}
 use Rattle.serial.proofs.record.note_begin.Statement.{statement}
 use Rattle.serial.proofs.record.note_begin.Tie as tie
@@ -8,6 +11,6 @@ note-begin-spec =
     tie.close
     (tie.spec
     (λ c. (rw (eq-eqb _ _ (c .if1 .taken)), rw (eq-eqb _ _ (c .if1 .taken))))
-    (λ c. search needs) (λ c. search needs) (λ c. search needs) (λ c. search needs) (λ c. search needs) (λ c. search needs)
+    (λ c. search needs) (λ c. search needs) (λ c κs. (omega arith, omega arith)) (λ c. search needs) (λ c. search needs) (λ c. search needs)
     (λ c. search needs) (λ c. search needs) (λ c. search needs)
-    (λ c. (rw (ne-eqb _ _ (c .if1 .left)), rw (ne-eqb _ _ (c .if1 .left)))))
+    (λ c. (rw (ne-eqb _ _ (c .before .if1 .left), c .origin-of .ensures ∙ add-zero _), rw (ne-eqb _ _ (c .before .if1 .left), c .origin-of .ensures ∙ add-zero _))))

@@ -1,22 +1,33 @@
 use borrow.Author.Needs.{needs}
+use mathlib.Core.Path.{sym, _∙_}
+use native.Mathlib.Omega.{arith}
 use Rattle.serial.proofs.Again.{head-react, head-commit, head-abort}
 use Rattle.serial.proofs.replay.head_again.Statement.{statement}
 use Rattle.serial.proofs.replay.head_again.Tie as tie
 
 returns : tie.Need-returns
-returns c ws = head-react _ _ _ (c .if1 .taken)
+returns c ws = head-react _ _ _ (sym (c .before .kind-of .ensures) ∙ c .if1 .taken)
 
 returns-2 : tie.Need-returns-2
 returns-2 c ws =
-    let a = c .before .before .before .before .args in
-    head-commit _ _ _ (c .before .before .before .if1 .left) (c .before .owner-at .ensures ws (a .origins .now)) (c .before .before .place-of .ensures .0 (a .owners .now) ws) (c .if2 .taken)
+    let owner = c .before .before .before in
+    let kind = owner .before .before .before in
+    let a = kind .before .args in
+    c .head-of .ensures ∙ (rw (c .before .before .number-of .ensures)
+    (head-commit _ _ _ (λ e. owner .before .before .if1 .left (kind .kind-of .ensures ∙ e)) (owner .owner-at .ensures ws (a .origins .now)) (owner .before .place-of .ensures .0 (a .owners .now) ws)
+    (sym (kind .kind-of .ensures) ∙ c .before .if2 .taken)))
 
 returns-3 : tie.Need-returns-3
 returns-3 c ws =
-    let a = c .before .before .before .before .args in
-    head-abort _ _ _ (c .before .before .before .if1 .left) (c .before .owner-at .ensures ws (a .origins .now)) (c .before .before .place-of .ensures .0 (a .owners .now) ws) (c .if2 .left)
+    let owner = c .before .before .before in
+    let kind = owner .before .before .before in
+    let a = kind .before .args in
+    c .head-of2 .ensures ∙ (rw (c .before .before .number-of .ensures)
+    (head-abort _ _ _ (λ e. owner .before .before .if1 .left (kind .kind-of .ensures ∙ e)) (owner .owner-at .ensures ws (a .origins .now)) (owner .before .place-of .ensures .0 (a .owners .now) ws)
+    (λ e. c .before .if2 .left (kind .kind-of .ensures ∙ e))))
 
 pub head-again-spec : {M : Type 1} → statement M
 head-again-spec =
     tie.close
-    (tie.spec returns (λ c κs. search needs) (λ c κs. search needs) (λ c. search needs) (λ c. search needs) returns-2 returns-3)
+    (tie.spec (λ c κs. search needs) returns (λ c κs. search needs) (λ c κs. search needs) (λ c κs. search needs) (λ c κs. (omega arith, omega (arith, c .before .number-of .ensures)))
+    (λ c κs. (omega arith, omega (arith, c .before .number-of .ensures))) returns-2 returns-3)

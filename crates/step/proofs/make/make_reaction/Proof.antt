@@ -6,6 +6,7 @@ use mathlib.Core.Bool.{true}
 use mathlib.Core.List.{_∷_}
 use native.Mathlib.Omega.{arith}
 use lib.ListN.{length}
+use Rattle.semantics.specs.Words.{headNumber}
 use Rattle.semantics.specs.Table.{tableOf}
 use Rattle.semantics.specs.Move.{moveOk}
 use Rattle.reaction.specs.Decoded.{decodes-itself}
@@ -18,25 +19,28 @@ use Rattle.step.proofs.make.make_reaction.Tie as tie
 
 -- where a decoded rule began
 abbrev start : tie.After-rule-at → tie.Start
-start c = c .before .before .before .before .before
+start c = c .before .before .before .before .before .before
+
+abbrev number : (c : tie.After-rule-at) → c .before .before .before .before .number-of .result ≡ headNumber (start c .args .head)
+number c = c .before .before .before .before .number-of .ensures
 
 four : (c : tie.Start) → length (c .args .picks) ≡ 4
 four c = search needs
 
 returns : tie.Need-returns
 returns c =
-    let start = c .before .before .before .before .before in
+    let start = c .before .before .before .before .before .before in
     let a = start .args in
     rw (c .refused .ensures)
-    (made-malformed (start .pre .1) (sym (form-no-rule _ (c .before .before .before .sizes-of .ensures) (a .head) (a .picks) (four start) (start .pre .3) (c .before .if1 .taken))))
+    (made-malformed (start .pre .1) (sym (form-no-rule _ (c .before .before .before .sizes-of .ensures) (a .head) (a .picks) (four start) (start .pre .3) (rw (c .before .before .before .before .number-of .ensures) at (c .before .if1 .taken)))))
 
 chosen : (c : tie.After-rule-at) → Chosen (start c .args .table .now) (c .rule-at .result) (start c .args .head) (start c .args .picks)
 chosen c = record {
   table = start c .pre .0 .table;
   four = four (start c);
   kind = start c .pre .3;
-  below = below-rules (start c .args .table .now) (c .before .before .before .sizes-of .ensures) (c .before .if1 .left);
-  rule = c .rule-at .ensures;
+  below = below-rules (start c .args .table .now) (c .before .before .before .sizes-of .ensures) (rw (number c) at (c .before .if1 .left));
+  rule = rw (number c) at (c .rule-at .ensures);
 }
 
 formed : (c : tie.Else2) → moveOk (tableOf (start (c .before .before) .args .table .now)) (start (c .before .before) .args .head ∷ start (c .before .before) .args .picks) ≡ true
@@ -78,8 +82,8 @@ pub make-reaction-spec : {M : Type 1} → statement M
 make-reaction-spec =
     tie.close
     (tie.spec
-    (λ c κs. well-formed _ (c .before .pre .0 .table) .sizes .long) (λ c κs. search needs) returns
-    (λ c κs. let start = c .before .before .before .before in (start .pre .0 .table, below-rules (start .args .table .now) (c .before .before .sizes-of .ensures) (c .if1 .left), start .pre .0 .starts))
+    (λ c κs. search needs) (λ c κs. well-formed _ (c .before .before .pre .0 .table) .sizes .long) (λ c κs. search needs) returns
+    (λ c κs. let start = c .before .before .before .before .before in (start .pre .0 .table, below-rules (start .args .table .now) (c .before .before .sizes-of .ensures) (c .if1 .left), start .pre .0 .starts))
     (λ c κs. c .rule-at .ensures .legal .most) (λ c κs. search needs) returns-2
     react-verdict-requires (λ c. search needs) (λ c κs. search needs) returns-3
     (λ c. search needs) react-requires (λ c κs. start (c .before .before .before .before .before .before .before .before .before .before .before) .pre .1 .bounds .next) returns-4)
