@@ -52,6 +52,6 @@ pub append-products-spec : {M : Type 1} → statement M
 append-products-spec =
     tie.close
     (tie.spec Inv μ sub-made loop-holds (λ c. search needs) (λ c. search needs) (λ c. search needs) (λ c. search needs) (λ c κs. search needs)
-    (λ c. search needs) (λ c. search needs) item-made-requires (λ c. search needs) (λ c. search needs) (λ c. search needs) 
+    (λ c. search needs) (λ c. search needs) item-made-requires (λ c. search needs) (λ c. search needs) (λ c. search needs)
     (λ c κs. let start = c .before .before .before .before .before in (start .pre .1 .1 .0 .makers, omega (arith, start .pre .1 .0, c .before .before .before .loop-test .taken)))
     (λ c. search needs) (λ c. search needs) (λ c. search needs) (λ c. search needs) loop-again (λ c. search needs) (λ c κs. c .before .before .pre .1 .1 .0 .limit) returns)
