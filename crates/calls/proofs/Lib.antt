@@ -3,5 +3,3 @@ pub mod Results
 pub mod Running
 pub mod Moving
 pub mod Serializing
-pub mod FirstPass
-pub mod SecondPass

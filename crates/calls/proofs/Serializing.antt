@@ -16,7 +16,7 @@ use Rattle.semantics.specs.declared.Verdict.{Verdict}
 use Rattle.semantics.specs.declared.Verdict.the-variants.{Allowed, Denied}
 use Rattle.semantics.specs.declared.Outcome.{Outcome}
 use Rattle.semantics.specs.declared.Outcome.the-variants.{Refused}
-use Rattle.calls.specs.Serials.{afterRun, SerializedAs}
+use Rattle.serial.specs.Serialized.{afterRun, SerializedAs}
 use Rattle.calls.proofs.Results.{denied-gives, allowed-gives, both-first, both-second, unless-false, unless-true, too-short, long-enough, log-denied, log-missized, log-allowed}
 
 -- what `serialize` says

@@ -1,4 +1,3 @@
 pub mod Ready
 pub mod Logs
 pub mod Moves
-pub mod Serials

@@ -232,11 +232,13 @@ act-local t a es vs = go (a .move)
     go (commit b) h = end-local 0 (a .touched) (a .place) (h .2)
     go (abort b) h = end-local 1 (a .touched) (a .place) (h .2)
 
-pub act-inner : (t : Table) (a : Deed) (vs : List ℕ) → isEnd (a .move) ≡ false → isIn (least (a .touched)) (a .touched) ≡ true → Inner (actionOf t vs a) (a .touched)
+pub act-inner : (t : Table) (a : Deed) (vs : List ℕ) → isEnd (a .move) ≡ false → isIn (least (a .touched)) (a .touched) ≡ true
+    → Inner (actionOf t vs a) (a .touched)
 unfolding actionBy
 act-inner t a vs = go (a .move)
   where
-    go : (mv : Move) → isEnd mv ≡ false → isIn (least (a .touched)) (a .touched) ≡ true → Inner (actionBy t (a .place) (a .picks) (a .touched) vs mv) (a .touched)
+    go : (mv : Move) → isEnd mv ≡ false → isIn (least (a .touched)) (a .touched) ≡ true
+        → Inner (actionBy t (a .place) (a .picks) (a .touched) vs mv) (a .touched)
     go (react r ps) e z = react-inner (ruleAt t r) (a .place) (a .picks) (a .touched) vs z
     go (commit b) e z = absurd (true≢false e)
     go (abort b) e z = absurd (true≢false e)

@@ -186,7 +186,8 @@ module _ (l : List Entry) (ps : List ℕ) (u : Uniq l) (h : All (λ p. p < lengt
       both-none true = refl
       both-none false = refl
 
-      go : (x : Option Entry) → look o l ≡ x → bindO (onlyIf (notAmong (originsOf (map (entryAt l) ps)))) x ≡ cond (isInO o (originsOf (map (entryAt l) ps))) none x
+      go : (x : Option Entry) → look o l ≡ x → bindO (onlyIf (notAmong (originsOf (map (entryAt l) ps)))) x ≡ cond
+          (isInO o (originsOf (map (entryAt l) ps))) none x
       go none q = both-none (isInO o (originsOf (map (entryAt l) ps)))
       go (some e) q = ap (λ (z : Origin). cond (not (isInO z (originsOf (map (entryAt l) ps)))) (some e) none) (look-origin o l q)
           ∙ two (isInO o (originsOf (map (entryAt l) ps))) e

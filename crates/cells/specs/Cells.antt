@@ -114,7 +114,8 @@ module _ (f : Cells) (A : Action) (bs : List ℕ) (i : ℕ) (L : Local A bs i) w
       (λ j. none-some (sym h ∙ frame-keep o e w j g)))
 
 -- an entry of one action's transactions, or a global one, is in none of the other's
-pub not-in : (bs cs : List ℕ) (e : Entry) → isIn 0 cs ≡ false → ((v : ℕ) → isIn v cs ≡ true → isIn v bs ≡ true → ⊥) → mine bs e ≡ true → isIn (e .owner) cs ≡ false
+pub not-in : (bs cs : List ℕ) (e : Entry) → isIn 0 cs ≡ false → ((v : ℕ) → isIn v cs ≡ true → isIn v bs ≡ true → ⊥) → mine bs e ≡ true
+    → isIn (e .owner) cs ≡ false
 not-in bs cs e z ap′ h = go (or-cases (eqb (e .owner) 0) (isIn (e .owner) bs) h)
   where
     go : (eqb (e .owner) 0 ≡ true) ⊎ (isIn (e .owner) bs ≡ true) → isIn (e .owner) cs ≡ false
@@ -140,11 +141,13 @@ module _ (f : Cells) (A B : Action) (bs cs : List ℕ) (i j : ℕ) (LA : Local A
       (λ k. inA k (LB .other e (not-theirs e k)) (A .change e) refl)
       (λ k. let w = LA .other e k in by-bool (isIn (e .owner) cs) (λ l. inB l w (B .change e) refl) (λ l. let u = LB .other e l in rw (w, u, w)))
     where
-      inA : isIn (e .owner) bs ≡ true → B .change e ≡ some e → (x : Option Entry) → A .change e ≡ x → bindO (B .change) (A .change e) ≡ bindO (A .change) (B .change e)
+      inA : isIn (e .owner) bs ≡ true → B .change e ≡ some e → (x : Option Entry) → A .change e ≡ x
+          → bindO (B .change) (A .change e) ≡ bindO (A .change) (B .change e)
       inA k w none q = rw (w, q)
       inA k w (some e′) q = rw (w, q, skips-B e′ (LA .result e e′ k q))
 
-      inB : isIn (e .owner) cs ≡ true → A .change e ≡ some e → (x : Option Entry) → B .change e ≡ x → bindO (B .change) (A .change e) ≡ bindO (A .change) (B .change e)
+      inB : isIn (e .owner) cs ≡ true → A .change e ≡ some e → (x : Option Entry) → B .change e ≡ x
+          → bindO (B .change) (A .change e) ≡ bindO (A .change) (B .change e)
       inB l w none q = rw (w, q)
       inB l w (some e′) q = rw (w, q, skips-A e′ (LB .result e e′ l q))
 

@@ -78,7 +78,8 @@ module _ (t : Table) (F : Seen) (m x : Deed) (P : Apart m x) (km : Ok t F m) (kx
   pub found-after : map f2 (m .picks) ≡ map some (km .es)
   unfolding f2 B
   found-after = map-frame (F .cell) f2 (mine (m .touched)) (m .picks) (km .es)
-      (λ o e i h k. frame-keep (F .cell) B (x .touched) (x .place) LB o e h (not-x e k) (is-false (B .gone o) (λ w. P .picks o i (gone-picked t (received F x) x o w))))
+      (λ o e i h k. frame-keep (F .cell) B (x .touched) (x .place) LB o e h (not-x e k)
+      (is-false (B .gone o) (λ w. P .picks o i (gone-picked t (received F x) x o w))))
       (km .found) (km .own)
 
   pub fresh-after : (o : Origin) → o .maker ≡ suc (m .place) → f2 o ≡ none
@@ -101,7 +102,8 @@ module _ (t : Table) (F : Seen) (m x : Deed) (P : Apart m x) (km : Ok t F m) (kx
   pub theirs-after : (o : Origin) (e : Entry) → F .cell o ≡ some e → isIn (e .owner) (m .touched) ≡ true → f2 o ≡ some e
   unfolding f2 B
   theirs-after o e h k = frame-keep (F .cell) B (x .touched) (x .place) LB o e h (not-x e (mine-in (m .touched) e k))
-      (is-false (B .gone o) (λ w. let q = found-at (F .cell) (mine (x .touched)) o (x .picks) (kx .es) (kx .found) (kx .own) (gone-picked t (received F x) x o w) in
+      (is-false (B .gone o) (λ w. let q = found-at (F .cell) (mine (x .touched)) o (x .picks) (kx .es) (kx .found) (kx .own)
+      (gone-picked t (received F x) x o w) in
       clash k (subst (λ (z : Entry). isIn (z .owner) (m .touched) ≡ false) (some-inj (sym (q .1) ∙ h))
       (not-in (x .touched) (m .touched) (q .0) (km .noZero) (P .touched) (q .2)))))
 
@@ -158,7 +160,8 @@ unfolding astep
 same-either t F m x P km kx = λ i. record { next = later-comm (isBegin t (x .move)) (isBegin t (m .move)) (F .next) i; cell = cells i }
   where
     picked : (a : Deed) → Ok t F a → (o : Origin) → actionOf t (received F a) a .gone o ≡ true → (e : Entry) × (F .cell o ≡ some e)
-    picked a k o h = let q = found-at (F .cell) (mine (a .touched)) o (a .picks) (k .es) (k .found) (k .own) (gone-picked t (received F a) a o h) in (q .0, q .1)
+    picked a k o h = let q = found-at (F .cell) (mine (a .touched)) o (a .picks) (k .es) (k .found) (k .own) (gone-picked t (received F a) a o h) in
+        (q .0, q .1)
 
     cells : astep t (astep t F m) x .cell ≡ astep t (astep t F x) m .cell
     cells = after-is t F x m (apart-sym m x P) kx km

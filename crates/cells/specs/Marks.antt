@@ -110,7 +110,8 @@ not-picked t f a es r ps T fd o e h k = is-false (isInO o (a .picks)) (λ q.
     let y = found-at f isMessage o (a .picks) es fd (ports-messages (consumed (ruleAt t r)) es (T .0)) q in
     let z = eqb-true (y .0 .kind) 0 (y .2) in let x : y .0 .kind ≡ e .kind = ap (λ (d : Entry). d .kind) (some-inj (sym (y .1) ∙ h)) in omega arith)
 
-pub mark-stay : (t : Table) (f : Cells) (a : Deed) (es : List Entry) (vs : List ℕ) (o : Origin) (e : Entry) (mv : Move) → Tests t a es mv → map f (a .picks) ≡ map some es
+pub mark-stay : (t : Table) (f : Cells) (a : Deed) (es : List Entry) (vs : List ℕ) (o : Origin) (e : Entry) (mv : Move) → Tests t a es mv
+    → map f (a .picks) ≡ map some es
     → (isEnd mv ≡ true → isIn (e .owner) (a .touched) ≡ false) → f o ≡ some e → e .kind ≡ 3
     → MarkAt (apply f (actionBy t (a .place) (a .picks) (a .touched) vs mv)) o (cond (isIn (e .owner) (a .touched)) (least (a .touched)) (e .owner))
 unfolding actionBy

@@ -56,7 +56,8 @@ pub values-rename : (ρ : ℕ → ℕ) (es : List Entry) → values (map (rename
 values-rename ρ [] = refl
 values-rename ρ (e ∷ es) = rw (values-rename ρ es)
 
-pub fit-rename : (ρ : ℕ → ℕ) (k : ℕ) (ns : List ℕ) → ρ 0 ≡ 0 → ((v : ℕ) → isIn v ns ≡ true → ρ v ≡ 0 → v ≡ 0) → ownersFit k ns ≡ true → ownersFit k (map ρ ns) ≡ true
+pub fit-rename : (ρ : ℕ → ℕ) (k : ℕ) (ns : List ℕ) → ρ 0 ≡ 0 → ((v : ℕ) → isIn v ns ≡ true → ρ v ≡ 0 → v ≡ 0) → ownersFit k ns ≡ true
+    → ownersFit k (map ρ ns) ≡ true
 fit-rename ρ k ns z nz = go (eqb k 0) (eqb k 1)
   where
     positive : (w : ℕ) → (v : ℕ) × (isIn v ns ≡ true) × (ρ v ≡ w) → ((v : ℕ) → isIn v ns ≡ true → ltb 0 v ≡ true) → ltb 0 w ≡ true
@@ -77,7 +78,8 @@ fit-rename ρ k ns z nz = go (eqb k 0) (eqb k 1)
         alike : (w : ℕ) → (v : ℕ) × (isIn v ns ≡ true) × (ρ v ≡ w) → w ≡ ρ (least ns)
         alike w (v, q, r) = sym r ∙ ap ρ (eqb-true v (least ns) (and-right (ltb 0 v) (eqb v (least ns)) (test v q)))
 
-pub make-rename : (ρ : ℕ → ℕ) (i w : ℕ) (vs : List ℕ) (q : ℕ) (ats : List Atom) → map strip (make i (ρ w) vs q ats) ≡ map (rename ρ) (map strip (make i w vs q ats))
+pub make-rename : (ρ : ℕ → ℕ) (i w : ℕ) (vs : List ℕ) (q : ℕ) (ats : List Atom)
+    → map strip (make i (ρ w) vs q ats) ≡ map (rename ρ) (map strip (make i w vs q ats))
 make-rename ρ i w vs q [] = refl
 make-rename ρ i w vs q (a ∷ ats) =
     λ j. record {
@@ -117,7 +119,8 @@ module _ (c : State) (F : Seen) (ρ : ℕ → ℕ) (rel : Rel c F ρ) where
   nowAt os = map (placeOf (c .entries)) os
 
   pub picked-again : (os : List Origin) (es : List Entry) → map (F .cell) os ≡ map some es → all isMessage es ≡ true
-      → (map (entryAt (c .entries)) (nowAt os) ≡ map (rename ρ) es) × (originsOf (map (entryAt (c .entries)) (nowAt os)) ≡ os) × All (λ p. p < length (c .entries))
+      → (map (entryAt (c .entries)) (nowAt os) ≡ map (rename ρ) es) × (originsOf (map (entryAt (c .entries)) (nowAt os)) ≡ os)
+      × All (λ p. p < length (c .entries))
       (nowAt os)
   picked-again [] [] h k = (refl, refl, tt)
   picked-again [] (e ∷ es) h k = absurd (let z : _≡_ {A = ℕ} 0 1 = cc in omega arith)

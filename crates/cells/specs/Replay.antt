@@ -28,13 +28,14 @@ use Rattle.cells.specs.ReplayEnd as End
 -- a move whose picks have the origins os, or which ends the members of the origins os, again in c
 pub data Again (c : State) (os : List Origin) : Move → Move → Type 0 where
   reacts : (r : ℕ) (ps ps′ : List ℕ) → originsOf (picked c ps′) ≡ os → Again c os (react r ps) (react r ps′)
-  commits : (b b′ : ℕ) → ((o : Origin) → isInO o (marksIn (b′ ∷ []) c) ≡ isInO o os) → b′ ≡ least (markValues (entriesIn b′ c)) → Again c os (commit b) (commit b′)
+  commits : (b b′ : ℕ) → ((o : Origin) → isInO o (marksIn (b′ ∷ []) c) ≡ isInO o os) → b′ ≡ least (markValues (entriesIn b′ c))
+      → Again c os (commit b) (commit b′)
   aborts : (b b′ : ℕ) → ((o : Origin) → isInO o (marksIn (b′ ∷ []) c) ≡ isInO o os) → b′ ≡ least (markValues (entriesIn b′ c)) → Again c os (abort b) (abort b′)
 
 -- ---- one move
 
 pub record Next (t : Table) (c : State) (F : Seen) (a : Deed) (m : Move) : Type 0 where
-  pub again : Again c (a .picks) (a .move) m
+  pub made-again : Again c (a .picks) (a .move) m
   pub members : isBegin t (a .move) ≡ false → (o : Origin) → isInO o (membersOf t (a .place) c m) ≡ isInO o (a .members)
   pub allows : allowed t c m ≡ Allowed
   pub names : ℕ → ℕ
@@ -47,7 +48,7 @@ module _ (t : Table) (sd : Shaped t) (c : State) (F : Seen) (ρ : ℕ → ℕ) (
   pub react-next : (r : ℕ) (ps : List ℕ) → NextBy (react r ps)
   unfolding again astep actionBy applied
   react-next r ps k = record {
-    again = reacts r ps (React.qs t sd c F ρ rel a r ps k) (React.seen-again t sd c F ρ rel a r ps k .1);
+    made-again = reacts r ps (React.qs t sd c F ρ rel a r ps k) (React.seen-again t sd c F ρ rel a r ps k .1);
     members = React.members-again t sd c F ρ rel a r ps k;
     allows = react-allowed t c r (React.qs t sd c F ρ rel a r ps k) (React.passes t sd c F ρ rel a r ps k);
     names = React.ρ′ t sd c F ρ rel a r ps k;
@@ -61,7 +62,7 @@ module _ (t : Table) (sd : Shaped t) (c : State) (F : Seen) (ρ : ℕ → ℕ) (
       let E = end-ok t F d k refl in
       let b = ρ (least (a .touched)) in
       let moved : Next t c F d (commit b) = record {
-        again = commits x b (End.members-same c F ρ rel N d E) (smallest c (rel .uniq) N b (End.own-there c F ρ rel N d E));
+        made-again = commits x b (End.members-same c F ρ rel N d E) (smallest c (rel .uniq) N b (End.own-there c F ρ rel N d E));
         members = λ _ o. End.members-same c F ρ rel N d E o ∙ ap (isInO o) (sym (E .members));
         allows = rw (End.open-there c F ρ rel N d E, End.may-commit c F ρ rel N d E t (k .whole .0));
         names = ρ;
@@ -76,7 +77,7 @@ module _ (t : Table) (sd : Shaped t) (c : State) (F : Seen) (ρ : ℕ → ℕ) (
       let E = end-ok t F d k refl in
       let b = ρ (least (a .touched)) in
       let moved : Next t c F d (abort b) = record {
-        again = aborts x b (End.members-same c F ρ rel N d E) (smallest c (rel .uniq) N b (End.own-there c F ρ rel N d E));
+        made-again = aborts x b (End.members-same c F ρ rel N d E) (smallest c (rel .uniq) N b (End.own-there c F ρ rel N d E));
         members = λ _ o. End.members-same c F ρ rel N d E o ∙ ap (isInO o) (sym (E .members));
         allows = rw (End.open-there c F ρ rel N d E, End.may-abort c F ρ rel N d E (k .whole .0));
         names = ρ;
@@ -84,8 +85,8 @@ module _ (t : Table) (sd : Shaped t) (c : State) (F : Seen) (ρ : ℕ → ℕ) (
       } in
       subst (λ (b : ℕ). Next t c F d (abort b)) (sym (End.least-members c F ρ rel N d E)) moved
 
-  pub next : Ok t F a → Next t c F a (again c (actOf a) (a .move))
-  next k = go (a .move) k
+  pub next-made : Ok t F a → Next t c F a (again c (actOf a) (a .move))
+  next-made k = go (a .move) k
     where
       go : (mv : Move) → NextBy mv
       go (react r ps) = react-next r ps
@@ -111,7 +112,7 @@ Agains t c (a ∷ xs) = Uniq (c .entries) × AgainAs t c a (again c (actOf a) (a
 pub record Ends (t : Table) (c : State) (xs : List Deed) (G : Seen) : Type 0 where
   pub state : State
   pub names : ℕ → ℕ
-  pub goes : Goes t c (map actOf xs) state
+  pub all-go : Goes t c (map actOf xs) state
   pub agains : Agains t c xs
   pub rel : Rel state G names
   pub sound : Sound (t .sizes) state
@@ -127,17 +128,25 @@ pub replay-runs : (t : Table) → TableRight t → Shaped t → (xs : List Deed)
 replay-runs t right sd [] c F G ρ rel sound known h = record {
   state = c;
   names = ρ;
-  goes = refl;
+  all-go = refl;
   agains = tt;
   rel = subst
       (λ (H : Seen). Rel c H ρ) h rel;
   sound = sound;
 }
 replay-runs t right sd (a ∷ xs) c F G ρ rel sound known h =
-    let n = next t sd c F ρ rel (named-of (t .sizes) c (rel .uniq) (sound .right)) a (h .0) in
+    let n = next-made t sd c F ρ rel (named-of (t .sizes) c (rel .uniq) (sound .right)) a (h .0) in
     let m = again c (actOf a) (a .move) in
     let q : applied t (suc (a .place)) c m ≡ after t (suc (a .place)) c m = sym (after-allowed t (suc (a .place)) c m (n .allows)) in
     let still = applied-keeps right sound (suc (a .place)) m (again-known t c (actOf a) (a .move) (known .0)) (n .allows) in
-    let e = replay-runs t right sd xs (after t (suc (a .place)) c m) (astep t F a) G (n .names) (subst (λ (x : State). Rel x (astep t F a) (n .names)) q (n .rel))
+    let e = replay-runs t right sd xs (after t (suc (a .place)) c m) (astep t F a) G (n .names)
+    (subst (λ (x : State). Rel x (astep t F a) (n .names)) q (n .rel))
     (subst (Sound (t .sizes)) q still) (known .1) (h .1) in
-    record { state = e .state; names = e .names; goes = (n .allows, e .goes); agains = (rel .uniq, record { same = n .again; members = n .members }, e .agains); rel = e .rel; sound = e .sound }
+    record {
+      state = e .state;
+      names = e .names;
+      all-go = (n .allows, e .all-go);
+      agains = (rel .uniq, record { same = n .made-again; members = n .members }, e .agains);
+      rel = e .rel;
+      sound = e .sound;
+    }

@@ -24,7 +24,7 @@ use Rattle.cells.specs.Actions.{Seen, strip, left, endAction, markOf, En
 use Rattle.cells.specs.Moves.{ofKind, look-ended, uniq-ended}
 use Rattle.cells.specs.Simulation.{view-cell, Mark, left-strip, marked, marked-mark, mark-marked}
 use Rattle.cells.specs.Marks.{end-live}
-use Rattle.cells.specs.SmallestId.{OwnMark, Named}
+use Rattle.cells.specs.SmallestId.{OwnMarkAt, Named}
 use Rattle.cells.specs.Rename.{rename, Live, Rel, there, back-again, live-zero}
 
 -- a function on the origins of a list
@@ -53,29 +53,30 @@ module _ (c : State) (F : Seen) (ρ : ℕ → ℕ) (rel : Rel c F ρ) (N : Named
   abbrev pub b′ : ℕ
   b′ = ρ b
 
-  pub positive : b ≡ 0 → ⊥
-  positive z = clash (one-in (a .touched) (E .one)) (rw z (E .noZero))
+  pub id-positive : b ≡ 0 → ⊥
+  id-positive z = clash (one-in (a .touched) (E .one)) (rw z (E .noZero))
 
-  pub mark-there : Mark (F .cell) b
-  mark-there = end-live (F .cell) b (a .picks) (E .es) (E .found) (E .marks) (E .some-mark)
+  pub end-mark : Mark (F .cell) b
+  end-mark = end-live (F .cell) b (a .picks) (E .es) (E .found) (E .marks) (E .some-mark)
 
   pub live : Live F b
-  live = inr (mark-there .0, mark-there .1, mark-there .2, mark-there .4)
+  live = inr (end-mark .0, end-mark .1, end-mark .2, end-mark .4)
 
   positive′ : b′ ≡ 0 → ⊥
-  positive′ z = positive (live-zero c F ρ rel b live z)
+  positive′ z = id-positive (live-zero c F ρ rel b live z)
 
   -- the entries of b′ are those of b
-  theirs : (o : Origin) (d : Entry) → look o (c .entries) ≡ some d → d .owner ≡ b′ → (e : Entry) × (F .cell o ≡ some e) × (e .owner ≡ b) × (rename ρ e ≡ strip d)
+  theirs : (o : Origin) (d : Entry) → look o (c .entries) ≡ some d → d .owner ≡ b′ → (e : Entry) × (F .cell o ≡ some e) × (e .owner ≡ b)
+      × (rename ρ e ≡ strip d)
   theirs o d h w = let q = back-again c F ρ rel o d h in
       (q .0, q .1, rel .inj (q .0 .owner) b (inr (o, q .0, q .1, refl)) live (ap (λ (x : Entry). x .owner) (q .2) ∙ w), q .2)
 
   ours : (o : Origin) (e : Entry) → F .cell o ≡ some e → e .owner ≡ b → (d : Entry) × (look o (c .entries) ≡ some d) × (d .owner ≡ b′) × (strip d ≡ rename ρ e)
   ours o e h w = let q = there c F ρ rel o e h in (q .0, q .1, ap (λ (x : Entry). x .owner) (q .2) ∙ ap ρ w, q .2)
 
-  pub own-there : OwnMark (c .entries) b′
-  own-there = let q = ours (mark-there .0) (mark-there .1) (mark-there .2) (mark-there .4) in
-      subst (λ (v : ℕ). OwnMark (c .entries) v) (q .2) (N .own (mark-there .0) (q .0) (q .1) (λ z. positive′ (sym (q .2) ∙ z)))
+  pub own-there : OwnMarkAt (c .entries) b′
+  own-there = let q = ours (end-mark .0) (end-mark .1) (end-mark .2) (end-mark .4) in
+      subst (λ (v : ℕ). OwnMarkAt (c .entries) v) (q .2) (N .own-mark (end-mark .0) (q .0) (q .1) (λ z. positive′ (sym (q .2) ∙ z)))
 
   -- ---- the same members
 
@@ -115,19 +116,20 @@ module _ (c : State) (F : Seen) (ρ : ℕ → ℕ) (rel : Rel c F ρ) (N : Named
       own-in : isIn b′ (map (valueAt c) (a .picks)) ≡ true
       own-in = go own-there
         where
-          go : OwnMark (c .entries) b′ → isIn b′ (map (valueAt c) (a .picks)) ≡ true
+          go : OwnMarkAt (c .entries) b′ → isIn b′ (map (valueAt c) (a .picks)) ≡ true
           go (o, d, h, k, w, v) = subst (λ (n : ℕ). isIn n (map (valueAt c) (a .picks)) ≡ true) (value-is o d h ∙ v)
               (value-of (valueAt c) o (a .picks) (mark-picked o d h k w))
 
       at-least : (v : ℕ) → (o : Origin) × (isInO o (a .picks) ≡ true) × (valueAt c o ≡ v) → b′ ≤ v
-      at-least v (o, h, w) = let d = picked-mark o h in let x = N .marks o (d .0) (d .1) (d .2) in let y = value-is o (d .0) (d .1) in let z = d .3 in omega arith
+      at-least v (o, h, w) = let d = picked-mark o h in let x = N .mark-low o (d .0) (d .1) (d .2) in let y = value-is o (d .0) (d .1) in let z = d .3 in
+          omega arith
 
   -- ---- allowed
 
   pub open-there : isOpen b′ c ≡ true
   open-there = and-intro (lt-ltb 0 b′ (let n = positive′ in omega arith)) (go own-there)
     where
-      go : OwnMark (c .entries) b′ → any (owned b′) (c .entries) ≡ true
+      go : OwnMarkAt (c .entries) b′ → any (owned b′) (c .entries) ≡ true
       go (o, d, h, k, w, v) = look-any (owned b′) o (c .entries) d h (eq-eqb (d .owner) b′ w)
 
   pub may-commit : (t : Table) → ((o : Origin) (e : Entry) → F .cell o ≡ some e → e .owner ≡ b → mayLeave t e ≡ true) → mayCommit t b′ c ≡ true
@@ -143,15 +145,18 @@ module _ (c : State) (F : Seen) (ρ : ℕ → ℕ) (rel : Rel c F ρ) (N : Named
   -- ---- the cells afterwards
 
   module _ (k : ℕ) (kl : k < 2) where
-    left-rename : (x : Option Entry) → ((e : Entry) → x ≡ some e → Live F (e .owner)) → bindO (left k b′) (omap (rename ρ) x) ≡ omap (rename ρ) (bindO (left k b) x)
+    left-rename : (x : Option Entry) → ((e : Entry) → x ≡ some e → Live F (e .owner))
+        → bindO (left k b′) (omap (rename ρ) x) ≡ omap (rename ρ) (bindO (left k b) x)
     left-rename none l = refl
     left-rename (some e) l = rw test (go (owned b e) (eqb (e .kind) k))
       where
         test : eqb (ρ (e .owner)) b′ ≡ eqb (e .owner) b
-        test = same-test (eqb (ρ (e .owner)) b′) (eqb (e .owner) b) (λ q. eq-eqb (e .owner) b (rel .inj (e .owner) b (l e refl) live (eqb-true (ρ (e .owner)) b′ q)))
+        test = same-test (eqb (ρ (e .owner)) b′) (eqb (e .owner) b)
+            (λ q. eq-eqb (e .owner) b (rel .inj (e .owner) b (l e refl) live (eqb-true (ρ (e .owner)) b′ q)))
             (λ q. eq-eqb (ρ (e .owner)) b′ (ap ρ (eqb-true (e .owner) b q)))
 
-        go : (x y : Bool) → cond x (cond y (some (toGlobal (rename ρ e))) none) (some (rename ρ e)) ≡ omap (rename ρ) (cond x (cond y (some (toGlobal e)) none) (some e))
+        go : (x y : Bool) → cond x (cond y (some (toGlobal (rename ρ e))) none) (some (rename ρ e)) ≡ omap (rename ρ)
+            (cond x (cond y (some (toGlobal e)) none) (some e))
         go true true = λ j. some (record { origin = e .origin; owner = sym (rel .zero-is) j; kind = 0; port = e .port; value = e .value })
         go true false = refl
         go false y = refl

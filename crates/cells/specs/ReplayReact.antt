@@ -196,13 +196,15 @@ module _ (t : Table) (sd : Shaped t) (c : State) (F : Seen) (ρ : ℕ → ℕ) (
       ∙ ap (omap strip) (look-reacted R (sd r) (suc (a .place)) c qs fit-c (rel .uniq) (seen-again .2) fresh-c o)
       ∙ cell-eq (isInO o (originsOf (picked c qs))) (look o (c .entries)) (look o (productsOf R (suc (a .place)) c qs)) (merged os′) (merged os′) (λ e. refl)
       ∙ (λ j. orElse (cond (isInO o (seen-again .1 j)) none (bindO (λ e. some (merged os′ e)) (there-is j))) (made-is j))
-      ∙ cell-rename (isInO o (a .picks)) (F .cell o) (look o (map strip (make (suc (a .place)) (least bs) vs 0 (productAtoms R)))) ρ (merged os′) (merged bs) (rename ρ′)
+      ∙ cell-rename (isInO o (a .picks)) (F .cell o) (look o (map strip (make (suc (a .place)) (least bs) vs 0 (productAtoms R)))) ρ (merged os′) (merged bs)
+      (rename ρ′)
       (λ e h. kept-entry o e h)
     where
       there-is : omap strip (look o (c .entries)) ≡ omap (rename ρ) (F .cell o)
       there-is = sym (view-cell c o) ∙ rel .cells o
 
-      made-is : omap strip (look o (productsOf R (suc (a .place)) c qs)) ≡ omap (rename ρ′) (look o (map strip (make (suc (a .place)) (least bs) vs 0 (productAtoms R))))
+      made-is : omap strip (look o (productsOf R (suc (a .place)) c qs)) ≡ omap (rename ρ′)
+          (look o (map strip (make (suc (a .place)) (least bs) vs 0 (productAtoms R))))
       made-is = sym (look-map strip (λ e. refl) o (productsOf R (suc (a .place)) c qs)) ∙ ap (look o) made-entries
           ∙ look-map (rename ρ′) (λ e. refl) o (map strip (make (suc (a .place)) (least bs) vs 0 (productAtoms R)))
 
@@ -241,7 +243,8 @@ module _ (t : Table) (sd : Shaped t) (c : State) (F : Seen) (ρ : ℕ → ℕ) (
       go (plain z b x) = absurd (false≢true (rw (bs-plain z b) at i))
       go (begin z b x m rest q w k) = let y : least bs′ ≡ c .next = ap least (touched-begin R (c .next) os′ b) in let w = rel .next-is in
           let x : later (begins R) (F .next) ≡ suc (F .next) = ap (λ (b : Bool). later b (F .next)) b in omega arith
-      go (inner z b x k) = let u = one-of (bs-inner z b) i in let w = rel .below (u .0) (u .1) in let y : least bs′ ≡ ρ (u .0) = ap least (bs′-inner z b) ∙ sym (u .3) in
+      go (inner z b x k) = let u = one-of (bs-inner z b) i in let w = rel .below (u .0) (u .1) in let y : least bs′ ≡ ρ (u .0) = ap least (bs′-inner z b)
+          ∙ sym (u .3) in
           let x = later-le (begins R) (F .next) in omega arith
 
   now-inj : (v w : ℕ) → Now v → Now w → ρ′ v ≡ ρ′ w → v ≡ w

@@ -42,9 +42,9 @@ touchedBy r n os = cond (begins r) (n ∷ []) (cond (eqb (r .class) 0) [] os)
 pub zeros : (os : List ℕ) → all isZero os ≡ true → (v : ℕ) → isIn v os ≡ true → v ≡ 0
 zeros os h v k = eqb-true v 0 (all-use isZero os v h k)
 
-pub least-zero : (os : List ℕ) → all isZero os ≡ true → least os ≡ 0
-least-zero [] h = refl
-least-zero (o ∷ os) h = zeros (o ∷ os) h (least (o ∷ os)) (least-in o os)
+pub least-zeros : (os : List ℕ) → all isZero os ≡ true → least os ≡ 0
+least-zeros [] h = refl
+least-zeros (o ∷ os) h = zeros (o ∷ os) h (least (o ∷ os)) (least-in o os)
 
 pub global-fit : (r : Rule) (os : List ℕ) → r .class ≡ 0 → ownersFit (r .class) os ≡ true → all isZero os ≡ true
 global-fit r os c h = subst (λ (k : ℕ). ownersFit k os ≡ true) c h
@@ -100,7 +100,7 @@ module _ (r : Rule) (n : ℕ) (os : List ℕ) where
     touched-merge e = go sh
       where
         zero-same : r .class ≡ 0 → merged os e ≡ e
-        zero-same c = let z = global-fit r os c fit in merged-same os e (λ v k. zeros os z v k ∙ sym (least-zero os z))
+        zero-same c = let z = global-fit r os c fit in merged-same os e (λ v k. zeros os z v k ∙ sym (least-zeros os z))
 
         go : Shape r → merged os e ≡ merged (touchedBy r n os) e
         go (plain c b h) = zero-same c ∙ sym (ap (λ (l : List ℕ). merged l e) (touched-plain c b))
@@ -153,7 +153,7 @@ products-make r sh s es i fit = products-one r s es i (least (touchedBy r (s .ne
 
     fine-plain : r .class ≡ 0 → (a : Atom) → hasRole 1 a ≡ true → Fine 0 a
     fine-plain c a h = let q = eqb-true (a .role) 1 h in
-        (rw (c, q) (least-zero os (global-fit r os c fit)), λ z. absurd (let y = eqb-true (a .role) 2 z in omega arith))
+        (rw (c, q) (least-zeros os (global-fit r os c fit)), λ z. absurd (let y = eqb-true (a .role) 2 z in omega arith))
 
     fine-begin : r .class ≡ 0 → (a : Atom) → eqb (a .role) 1 ≡ false → Fine (s .next) a
     fine-begin c a h = (rw (c, h), λ z. refl)

@@ -45,7 +45,8 @@ begin-first m (a ∷ l) h b e c = go (λ b′. begin-first (a .role) l up b′ (
     Found : List Atom → Type 0
     Found k = (a : Atom) × (rest : List Atom) × (k ≡ a ∷ rest) × (a .role ≡ 2) × (all (λ b. leb 3 (b .role)) rest ≡ true)
 
-    go : (any (hasRole 2) l ≡ true → Found (keep makes l)) → (x : Bool) → hasRole 0 a ≡ x → (y : Bool) → hasRole 2 a ≡ y → Found (keepIf (not x) a (keep makes l))
+    go : (any (hasRole 2) l ≡ true → Found (keep makes l)) → (x : Bool) → hasRole 0 a ≡ x → (y : Bool) → hasRole 2 a ≡ y
+        → Found (keepIf (not x) a (keep makes l))
     go ih true p y q = ih (later-one (let z = eqb-true (a .role) 0 p in ne-eqb (a .role) 2 (λ v. omega arith)))
     go ih false p true q = (
       a,
@@ -54,12 +55,14 @@ begin-first m (a ∷ l) h b e c = go (λ b′. begin-first (a .role) l up b′ (
       eqb-true (a .role) 2 q,
       all-of (λ b. leb 3 (b .role)) (keep makes l) (All-keep (λ b. leb 3 (b .role) ≡ true) makes l
           (All-two {P = λ b. a .role ≤ b .role} {Q = λ b. hasRole 2 b ≡ false} {R = λ b. makes b ≡ true → leb 3 (b .role) ≡ true}
-          (λ b n k _. let x = eqb-true (a .role) 2 q in let y = eqb-false (b .role) 2 k in le-leb 3 (b .role) (omega arith)) l (rises-all (λ a. a .role) (a .role) l up)
+          (λ b n k _. let x = eqb-true (a .role) 2 q in let y = eqb-false (b .role) 2 k in le-leb 3 (b .role) (omega arith)) l
+          (rises-all (λ a. a .role) (a .role) l up)
           (count-zero (hasRole 2) l (let z = ap oneIf q in omega arith)))),
     )
     go ih false p false q =
         let x = any-found (λ b. a .role ≤ b .role) (hasRole 2) l (later-one q) (rises-all (λ a. a .role) (a .role) l up) in
-        let k0 = eqb-false (a .role) 0 p in let k1 = eqb-false (a .role) 1 (or-left-false (hasRole 1 a) (any (hasRole 1) l) e) in let k2 = eqb-false (a .role) 2 q in
+        let k0 = eqb-false (a .role) 0 p in let k1 = eqb-false (a .role) 1 (or-left-false (hasRole 1 a) (any (hasRole 1) l) e) in
+        let k2 = eqb-false (a .role) 2 q in
         let y = eqb-true (x .0 .role) 2 (x .1) in let z = x .2 in absurd (omega arith)
 
 module _ {z : Sizes} {R : Rule} (right : RuleRight z R) where

@@ -118,12 +118,14 @@ all-zero bs (e ∷ es) h = and-intro (mine-zero bs e (eqb-true (e .owner) 0 (and
 
 pub all-in : (bs : List ℕ) (es : List Entry) → ((v : ℕ) → isIn v (owners es) ≡ true → isIn v bs ≡ true) → all (mine bs) es ≡ true
 all-in bs [] h = refl
-all-in bs (e ∷ es) h = and-intro (mine-in bs e (h (e .owner) (isIn-head (e .owner) (owners es)))) (all-in bs es (λ v k. h v (isIn-cons v (e .owner) (owners es) k)))
+all-in bs (e ∷ es) h = and-intro (mine-in bs e (h (e .owner) (isIn-head (e .owner) (owners es))))
+    (all-in bs es (λ v k. h v (isIn-cons v (e .owner) (owners es) k)))
 
 pub own-react : (R : Rule) → Shape R → (n : ℕ) (es : List Entry) → ownersFit (R .class) (owners es) ≡ true → all (mine (touchedBy R n (owners es))) es ≡ true
 own-react R (plain c b h) n es fit = all-zero (touchedBy R n (owners es)) es (global-fit R (owners es) c fit)
 own-react R (begin c b h m rest q w k) n es fit = all-zero (touchedBy R n (owners es)) es (global-fit R (owners es) c fit)
-own-react R (inner c b h k) n es fit = all-in (touchedBy R n (owners es)) es (λ v z. subst (λ (l : List ℕ). isIn v l ≡ true) (sym (touched-inner R n (owners es) c b)) z)
+own-react R (inner c b h k) n es fit = all-in (touchedBy R n (owners es)) es
+    (λ v z. subst (λ (l : List ℕ). isIn v l ≡ true) (sym (touched-inner R n (owners es) c b)) z)
 
 pub unused-react : (R : Rule) (n v : ℕ) (os : List ℕ) → begins R ≡ true → v < n → isIn v (touchedBy R n os) ≡ false
 unused-react R n v os b k = rw (touched-begin R n os b, ne-eqb v n (λ q. omega arith))
@@ -243,8 +245,8 @@ module _ (t : Table) (i k : ℕ) (s : State) (b : ℕ) (u : Uniq (s .entries)) (
   pub marksHere : List Entry
   marksHere = keep (marked b) (s .entries)
 
-  pub positive : b ≡ 0 → ⊥
-  positive z = let w = ltb-true 0 b (and-left (ltb 0 b) (any (owned b) (s .entries)) op) in omega arith
+  pub open-positive : b ≡ 0 → ⊥
+  open-positive z = let w = ltb-true 0 b (and-left (ltb 0 b) (any (owned b) (s .entries)) op) in omega arith
 
   pub marks-found : map (view s .cell) (originsOf marksHere) ≡ map some (map strip marksHere)
   unfolding view marksHere
@@ -256,11 +258,11 @@ module _ (t : Table) (i k : ℕ) (s : State) (b : ℕ) (u : Uniq (s .entries)) (
   unfolding marksHere
   marks-mine p h = all-kept strip p (marked b) (s .entries) h
 
-  pub mark-there : Mark (view s .cell) b
-  mark-there =
+  pub open-mark : Mark (view s .cell) b
+  open-mark =
       let q = any-look (owned b) (s .entries) u (and-right (ltb 0 b) (any (owned b) (s .entries)) op) in
       let w : q .1 .owner ≡ b = eqb-true (q .1 .owner) b (q .3) in
-      subst (λ (v : ℕ). Mark (view s .cell) v) w (g .marks (q .0) (strip (q .1)) (view-look s (q .0) (q .1) (q .2)) (λ z. positive (sym w ∙ z)))
+      subst (λ (v : ℕ). Mark (view s .cell) v) w (g .marks (q .0) (strip (q .1)) (view-look s (q .0) (q .1) (q .2)) (λ z. open-positive (sym w ∙ z)))
 
   pub all-marks : AllMarks (view s .cell) b (originsOf marksHere)
   unfolding marksHere
@@ -269,7 +271,7 @@ module _ (t : Table) (i k : ℕ) (s : State) (b : ℕ) (u : Uniq (s .entries)) (
       (mark-marked b (v .0) (ap (λ (x : Entry). x .kind) (v .2) ∙ z) (ap (λ (x : Entry). x .owner) (v .2) ∙ w)))
 
   pub marks-some : isEmpty (map strip marksHere) ≡ false
-  marks-some = let m = mark-there in go (m .0) marksHere (all-marks (m .0) (m .1) (m .2) (m .4) (m .3))
+  marks-some = let m = open-mark in go (m .0) marksHere (all-marks (m .0) (m .1) (m .2) (m .4) (m .3))
     where
       go : (o : Origin) (l : List Entry) → isInO o (originsOf l) ≡ true → isEmpty (map strip l) ≡ false
       go o [] h = absurd (false≢true h)
@@ -280,7 +282,8 @@ module _ (t : Table) (i k : ℕ) (s : State) (b : ℕ) (u : Uniq (s .entries)) (
 
   pub cells-end : (c : ℕ) → c < 2 → (o : Origin) → look o (map strip (ended (ofKind c) b s .entries)) ≡ apply (view s .cell) (endAction c (b ∷ [])) o
   unfolding view
-  cells-end c h o = look-map strip (λ e. refl) o (ended (ofKind c) b s .entries) ∙ ap (omap strip) (look-ended c b s u o) ∙ left-strip c b h (look o (s .entries))
+  cells-end c h o = look-map strip (λ e. refl) o (ended (ofKind c) b s .entries) ∙ ap (omap strip) (look-ended c b s u o)
+      ∙ left-strip c b h (look o (s .entries))
       ∙ ap (bindO (left c b)) (sym (look-map strip (λ e. refl) o (s .entries))) ∙ sym (orElse-none (bindO (left c b) (look o (map strip (s .entries)))))
 
   pub sim-commit : mayCommit t b s ≡ true → Sim t i k s (commit b)
@@ -292,7 +295,7 @@ module _ (t : Table) (i k : ℕ) (s : State) (b : ℕ) (u : Uniq (s .entries)) (
         found = marks-found;
         tests = (marks-mine (markOf b) (λ e h. marked-mark b e h), marks-some, refl, refl);
         own = marks-mine (mine (b ∷ [])) (λ e h. mine-in (b ∷ []) (strip e) (and-right (isMemberMark e) (isIn (e .owner) (b ∷ [])) h));
-        noZero = rw (ne-eqb 0 b (λ z. positive (sym z)));
+        noZero = rw (ne-eqb 0 b (λ z. open-positive (sym z)));
         roomy = refl;
         fresh = fresh-end;
         unused = λ h. absurd (false≢true h);
@@ -321,7 +324,7 @@ module _ (t : Table) (i k : ℕ) (s : State) (b : ℕ) (u : Uniq (s .entries)) (
         found = marks-found;
         tests = (marks-mine (markOf b) (λ e h. marked-mark b e h), marks-some, refl, refl);
         own = marks-mine (mine (b ∷ [])) (λ e h. mine-in (b ∷ []) (strip e) (and-right (isMemberMark e) (isIn (e .owner) (b ∷ [])) h));
-        noZero = rw (ne-eqb 0 b (λ z. positive (sym z)));
+        noZero = rw (ne-eqb 0 b (λ z. open-positive (sym z)));
         roomy = refl;
         fresh = fresh-end;
         unused = λ h. absurd (false≢true h);

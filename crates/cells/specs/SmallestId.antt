@@ -21,12 +21,12 @@ use Rattle.cells.specs.ByOrigin.{Uniq, look-head, look-deeper, uniq-keep
 use Rattle.cells.specs.Rules.{values}
 
 -- the transaction v's own mark
-abbrev pub OwnMark : List Entry → ℕ → Type 0
-OwnMark l v = (o : Origin) × (d : Entry) × (look o l ≡ some d) × (d .kind ≡ 3) × (d .owner ≡ v) × (d .value ≡ v)
+abbrev pub OwnMarkAt : List Entry → ℕ → Type 0
+OwnMarkAt l v = (o : Origin) × (d : Entry) × (look o l ≡ some d) × (d .kind ≡ 3) × (d .owner ≡ v) × (d .value ≡ v)
 
 pub record Named (s : State) : Type 0 where
-  pub marks : (o : Origin) (d : Entry) → look o (s .entries) ≡ some d → d .kind ≡ 3 → d .owner ≤ d .value
-  pub own : (o : Origin) (d : Entry) → look o (s .entries) ≡ some d → (d .owner ≡ 0 → ⊥) → OwnMark (s .entries) (d .owner)
+  pub mark-low : (o : Origin) (d : Entry) → look o (s .entries) ≡ some d → d .kind ≡ 3 → d .owner ≤ d .value
+  pub own-mark : (o : Origin) (d : Entry) → look o (s .entries) ≡ some d → (d .owner ≡ 0 → ⊥) → OwnMarkAt (s .entries) (d .owner)
 
 -- ---- of a well-formed state
 
@@ -45,11 +45,11 @@ among-look (x ∷ l) u d (inr m) = look-deeper x l (u .0) (d .origin) (among-loo
 
 pub named-of : (z : Sizes) (s : State) → Uniq (s .entries) → StateRight z s → Named s
 named-of z s u right = record {
-  marks = λ o d h k. right .each d (look-among o (s .entries) d h) .member-mark k .owner-le;
-  own = λ o d h n. here (d .owner) (right .own d (look-among o (s .entries) d h) n);
+  mark-low = λ o d h k. right .each d (look-among o (s .entries) d h) .member-mark k .owner-le;
+  own-mark = λ o d h n. here (d .owner) (right .own d (look-among o (s .entries) d h) n);
 }
   where
-    here : (v : ℕ) → Entries.HasOwnMark (s .entries) v → OwnMark (s .entries) v
+    here : (v : ℕ) → Entries.HasOwnMark (s .entries) v → OwnMarkAt (s .entries) v
     here v (m, a, k, w, x) = (m .origin, m, among-look (s .entries) u m a, k, w, x)
 
 -- ---- the smallest id
@@ -71,7 +71,7 @@ value-look v (x ∷ l) u h = go (value-look v l (u .1)) (isIn-cases v (x .value)
     go ih (inl q) = (x .origin, x, look-head x l, sym q)
     go ih (inr q) = let r = ih q in (r .0, r .1, look-deeper x l (u .0) (r .0) (r .2), r .3)
 
-pub smallest : (s : State) → Uniq (s .entries) → Named s → (b : ℕ) → OwnMark (s .entries) b → b ≡ least (markValues (entriesIn b s))
+pub smallest : (s : State) → Uniq (s .entries) → Named s → (b : ℕ) → OwnMarkAt (s .entries) b → b ≡ least (markValues (entriesIn b s))
 smallest s u N b (o, d, h, k, x, y) = sym (least-is b (markValues (entriesIn b s))
     (subst (λ (v : ℕ). isIn v (markValues (entriesIn b s)) ≡ true) y (value-in o (keep isMemberMark (entriesIn b s)) d
     (look-kept isMemberMark o (entriesIn b s) d u′ (look-kept (owned b) o (s .entries) d u h (eq-eqb (d .owner) b x)) (eq-eqb (d .kind) 3 k))))
@@ -85,4 +85,4 @@ smallest s u N b (o, d, h, k, x, y) = sym (least-is b (markValues (entriesIn b s
         let p = kept-look isMemberMark o1 (entriesIn b s) d1 u′ h1 in
         let q = kept-look (owned b) o1 (s .entries) d1 u (p .0) in
         let w = eqb-true (d1 .owner) b (q .1) in
-        let z = N .marks o1 d1 (q .0) (eqb-true (d1 .kind) 3 (p .1)) in omega arith
+        let z = N .mark-low o1 d1 (q .0) (eqb-true (d1 .kind) 3 (p .1)) in omega arith

@@ -70,7 +70,8 @@ module _ (z : Sizes) (s : State) (S : Start z s) where
   messages = closed-messages z s (S .sound .right) (S .closed)
 
   pub kind-start : (o : Origin) (e : Entry) → view s .cell o ≡ some e → e .kind ≡ 0
-  kind-start o e k = let v = view-some s o e k in ap (λ (x : Entry). x .kind) (sym (v .2)) ∙ eqb-true (v .0 .kind) 0 (look-all isMessage o (s .entries) messages (v .1))
+  kind-start o e k = let v = view-some s o e k in ap (λ (x : Entry). x .kind) (sym (v .2))
+      ∙ eqb-true (v .0 .kind) 0 (look-all isMessage o (s .entries) messages (v .1))
 
   pub good-start : Good 0 (view s)
   unfolding view NoneOpen

@@ -58,12 +58,14 @@ module _ (t : Table) (sd : Shaped t) (i : ℕ) (F : Seen) (a : Deed) (g : Good i
       (o, q .0, q .1, q .2, q .3 ∙ ap (λ (y : ℕ). cond (isIn y (a .touched)) (least (a .touched)) y) w)
 
   -- after a move that is no end, its transaction has a mark
-  pub new-mark : (v : ℕ) → isEnd (a .move) ≡ false → isIn v (a .touched) ≡ true → Mark (astep t F a .cell) (least (a .touched))
+  pub mark-left : (v : ℕ) → isEnd (a .move) ≡ false → isIn v (a .touched) ≡ true → Mark (astep t F a .cell) (least (a .touched))
   unfolding astep
-  new-mark v e h = by-bool (isBegin t (a .move))
-      (λ b. let q = mark-made t sd (F .cell) a (received F a) (a .move) b (st .ok .fresh (firstOf (a .place)) refl) in (firstOf (a .place), q .0, q .1, q .2, q .3))
+  mark-left v e h = by-bool (isBegin t (a .move))
+      (λ b. let q = mark-made t sd (F .cell) a (received F a) (a .move) b (st .ok .fresh (firstOf (a .place)) refl) in
+      (firstOf (a .place), q .0, q .1, q .2, q .3))
       (λ b. let l = touched-live t sd F a (st .ok) b v h in
-      let m = keeps-mark v (λ z. absurd (clash z e)) (subst (λ (x : ℕ). Mark (F .cell) x) (l .3) (g .marks (l .0) (l .1) (l .2) (λ z. not-zero v h (sym (l .3) ∙ z)))) in
+      let m = keeps-mark v (λ z. absurd (clash z e)) (subst (λ (x : ℕ). Mark (F .cell) x) (l .3)
+      (g .marks (l .0) (l .1) (l .2) (λ z. not-zero v h (sym (l .3) ∙ z)))) in
       subst (λ (x : Bool). Mark (astep t F a .cell) (cond x (least (a .touched)) v)) h m)
 
   came-from : (o : Origin) (e : Entry) → astep t F a .cell o ≡ some e → (e .owner ≡ 0 → ⊥) → From (F .cell) (a .touched) (isEnd (a .move)) o (e .owner)
@@ -78,7 +80,8 @@ module _ (t : Table) (sd : Shaped t) (i : ℕ) (F : Seen) (a : Deed) (g : Good i
 
       go : From (F .cell) (a .touched) (isEnd (a .move)) o (e .owner) → Mark (astep t F a .cell) (e .owner)
       go (inl (c, w, q, x)) = subst (λ (v : ℕ). Mark (astep t F a .cell) v) (sym q) (keeps-mark (c .owner) x (g .marks o c w (λ z. nz (q ∙ zero-case c z))))
-      go (inr q) = subst (λ (v : ℕ). Mark (astep t F a .cell) v) (sym (q .0)) (new-mark (least (a .touched)) (q .1) (least-pos (a .touched) (λ z. nz (q .0 ∙ z))))
+      go (inr q) = subst (λ (v : ℕ). Mark (astep t F a .cell) v) (sym (q .0))
+          (mark-left (least (a .touched)) (q .1) (least-pos (a .touched) (λ z. nz (q .0 ∙ z))))
 
   pub good-next : Good (suc i) (astep t F a)
   unfolding astep
@@ -111,7 +114,8 @@ module _ (t : Table) (sd : Shaped t) (i : ℕ) (F : Seen) (a : Deed) (g : Good i
           → (Mark (F .cell) v) × ((isIn v (a .touched) ≡ true → (v ≡ least (a .touched)) × (isEnd (a .move) ≡ false)))
       merged-into s r = (old-mark v lt (rw s (least-pos (a .touched) (λ z. nz (s ∙ z)))), λ u. (s, r))
 
-      go : From (F .cell) (a .touched) (isEnd (a .move)) o v → (Mark (F .cell) v) × ((isIn v (a .touched) ≡ true → (v ≡ least (a .touched)) × (isEnd (a .move) ≡ false)))
+      go : From (F .cell) (a .touched) (isEnd (a .move)) o v → (Mark (F .cell) v)
+          × ((isIn v (a .touched) ≡ true → (v ≡ least (a .touched)) × (isEnd (a .move) ≡ false)))
       go (inl (c, p, q, r)) = by-bool (isIn (c .owner) (a .touched))
           (λ y. merged-into (q ∙ rw y) (is-false (isEnd (a .move)) (λ z. clash y (r z))))
           (λ y. let s : v ≡ c .owner = q ∙ rw y in

@@ -1,14 +1,2 @@
-pub mod Tally
-pub mod Filling
-pub mod Chunking
-pub mod Marking
-pub mod Copying
-pub mod Tracking
-pub mod Acting
-pub mod Recording
-pub mod Keying
-pub mod Places
-pub mod Used
-pub mod Again
-pub mod Replaying
-pub mod Turns
+pub mod FirstPass
+pub mod SecondPass

@@ -11,7 +11,7 @@ use Rattle.lists.specs.Each.{All, All-map, All-append}
 use Rattle.semantics.specs.Serial.{Act}
 use Rattle.cells.specs.Deeds.{Deed, actOf}
 use Rattle.serializability.specs.Sort.{keyIs, arrange}
-use Rattle.serial.specs.Order.{placesOfKey, placesFrom, arrangedBy}
+use Rattle.serial_laws.specs.Order.{placesOfKey, placesFrom, arrangedBy}
 
 module _ {A B : Type 0} (f : A → B) (d : B) (key : A → ℕ) (zs : List B) where
   of-key : (e i : ℕ) (xs : List A) → ((j : ℕ) → getD zs (i + j) d ≡ getD (map f xs) j d)

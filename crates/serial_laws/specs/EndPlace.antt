@@ -18,7 +18,7 @@ use Rattle.semantics.specs.Serial.{Act, isEnd, isInner, sameOrigin, isBegin}
 use Rattle.serializability.specs.Statement.{endsMemberOf}
 use Rattle.cells.specs.Origins.{same-eq, isInO-head, isInO-cons}
 use Rattle.cells.specs.Marks.{firstOf}
-use Rattle.serial.specs.Acts.{concerns, endsBegun, endAfter}
+use Rattle.serial_laws.specs.Acts.{concerns, endsBegun, endAfter}
 use Rattle.serial_laws.specs.Splits.{among-split, All-split, All-among}
 
 -- ---- tests on the members of an act

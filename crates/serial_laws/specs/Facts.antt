@@ -28,14 +28,13 @@ use Rattle.serializability.specs.LogWords.{moves-count}
 use Rattle.serializability.specs.RunWords.{run-accepted}
 use Rattle.serializability.specs.Demand3 as Demand3
 use Rattle.serializability.specs.Demand3.{demand3}
-use Rattle.serial.specs.Acts.{concerns, keyBy, Replays, replayFits}
-use Rattle.serial.specs.KeysFor.{Begun}
-use Rattle.serial.specs.Order.{arrangedBy}
+use Rattle.serial_laws.specs.Acts.{concerns, keyBy, Replays, replayFits, Begun}
+use Rattle.serial_laws.specs.Order.{arrangedBy}
 use Rattle.serial_laws.specs.ByKey.{arranged-below}
 use Rattle.serial_laws.specs.Keys.{Told, keysBy}
 use Rattle.serial_laws.specs.Places.{noAct, acts-length, acts-places, act-place, act-move, move-in, places-back}
-use Rattle.serial_laws.specs.Again.{replayed-length}
-use Rattle.serial_laws.specs.OfLog as OfLog
+use Rattle.serializability.specs.Decoded.{replayed-length}
+use Rattle.serial_laws.specs.AcceptedLog as AcceptedLog
 
 -- the acts of the log that the words hold, and their serial order
 abbrev pub actsIn : List ℕ → List ℕ → List ℕ → List Act
@@ -109,7 +108,7 @@ module _ (ceiling : ℕ) (T S L : List ℕ) (e : State) (ok : stateVerdict T S �
   right = Demand3.right ceiling T S L e ok ne op lo ran cl
 
   start : Start (tableOf T .sizes) (stateOf S)
-  start = Demand3.start ceiling T S L e ok ne op lo ran cl
+  start = Demand3.log-start ceiling T S L e ok ne op lo ran cl
 
   known : All (RuleKnown (tableOf T)) (movesIn T L)
   known = Demand3.known ceiling T S L e ok ne op lo ran cl
@@ -125,17 +124,17 @@ module _ (ceiling : ℕ) (T S L : List ℕ) (e : State) (ok : stateVerdict T S �
   begun-here : All Begun (actsIn T S L)
   begun-here = All-map {P = λ a. (o : Origin) → concerns a o ≡ true → (1 ≤ o .maker) × (o .maker ≤ length (movesIn T L))} {Q = Begun}
       (λ a h o c. (h o c .0, (let k = h o c .1 in let n = moves-length in let l = short in omega arith))) (actsIn T S L)
-      (OfLog.members-begun (tableOf T) right few ne (stateOf S) start (movesIn T L) known e accepted cl)
+      (AcceptedLog.members-begun (tableOf T) right few ne (stateOf S) start (movesIn T L) known e accepted cl)
 
   below : (members : List ℕ) → All (Told members) (actsIn T S L) → (i : ℕ) → i < moveCount L → getD (keysBy (actsIn T S L) members) i 0 < moveCount L
   below members told i h =
       let n = moves-length in
-      let w = OfLog.keys-below (tableOf T) right few ne (stateOf S) start (movesIn T L) known e accepted cl members told i (omega arith) in
+      let w = AcceptedLog.keys-below (tableOf T) right few ne (stateOf S) start (movesIn T L) known e accepted cl members told i (omega arith) in
       omega arith
 
   by-keys : (members : List ℕ) → All (Told members) (actsIn T S L)
       → orderIn T S L ≡ map (λ p. getD (actsIn T S L) p noAct) (arrangedBy (keysBy (actsIn T S L) members))
-  by-keys = OfLog.order-by-keys (tableOf T) right few ne (stateOf S) start (movesIn T L) known e accepted cl
+  by-keys = AcceptedLog.order-by-keys (tableOf T) right few ne (stateOf S) start (movesIn T L) known e accepted cl
 
   places-by-keys : (members : List ℕ) → All (Told members) (actsIn T S L) → map (λ a. a .place) (orderIn T S L) ≡ arrangedBy (keysBy (actsIn T S L) members)
   places-by-keys members told =
@@ -146,7 +145,7 @@ module _ (ceiling : ℕ) (T S L : List ℕ) (e : State) (ok : stateVerdict T S �
 
   room-is : (n : ℕ) → replayFits n (tableOf T) (stateOf S) (orderIn T S L) ≡ serialFitsOf n T S L
   unfolding serialFitsOf serialFits serial
-  room-is = OfLog.order-room (tableOf T) right few ne (stateOf S) start (movesIn T L) known e accepted cl
+  room-is = AcceptedLog.order-room (tableOf T) right few ne (stateOf S) start (movesIn T L) known e accepted cl
 
   log-is : serialOf T S L ≡ replayed (tableOf T) (stateOf S) (orderIn T S L)
   unfolding serialOf serial
@@ -170,7 +169,7 @@ module _ (ceiling : ℕ) (T S L : List ℕ) (e : State) (ok : stateVerdict T S �
     order = by-keys;
     order-places = places-by-keys;
     order-count = count-order;
-    replays = OfLog.order-replays (tableOf T) right few ne (stateOf S) start (movesIn T L) known e accepted cl;
+    replays = AcceptedLog.order-replays (tableOf T) right few ne (stateOf S) start (movesIn T L) known e accepted cl;
     room = room-is;
     log = log-is;
     answer = answer-is;

@@ -11,7 +11,7 @@ use Rattle.semantics.specs.Log.{logSizesOk, Ran, ended, stopped, run}
 use Rattle.semantics.specs.Serial.{after, acts}
 use Rattle.semantics.specs.Answers.{tableVerdict, stateOwnVerdict, stateVerdict, lineCeiling, runOf}
 use Rattle.semantics.specs.Cases.{twoLot, start, logA, logD, logOf}
-use Rattle.serial.specs.Order.{arrangedBy}
+use Rattle.serial_laws.specs.Order.{arrangedBy}
 use Rattle.serial_laws.specs.Keys.{Told}
 use Rattle.serial_laws.specs.Facts.{actsIn, orderIn, SerialFacts, serial-facts}
 

@@ -23,7 +23,7 @@ use Rattle.serializability.specs.SameKey.{LogRuns, next-good, key-bound}
 use Rattle.cells.specs.Steps.{NoneOpen}
 use Rattle.serializability.specs.FollowMark.{seenAfter, log-rest, place-length, ender-not, follow}
 use Rattle.words.specs.Origin.{originOf}
-use Rattle.serial.specs.Acts.{Recorded, concerns, endAfter, keyBy}
+use Rattle.serial_laws.specs.Acts.{Recorded, concerns, endAfter, keyBy}
 use Rattle.serial_laws.specs.Splits.{place-split, All-split, map-same}
 use Rattle.serial_laws.specs.EndPlace.{BeginsFirst}
 
@@ -33,7 +33,8 @@ Told members x = isInner x ≡ true → concerns x (originOf (getD members (x .p
 
 -- as the first pass records it
 pub recorded-told : (t : Table) (l origins members : List ℕ) (xs : List Act) → All (Recorded t l origins members) xs → All (Told members) xs
-recorded-told t l origins members = All-map (λ x h inner. h .some (not-true (isEmpty (x .members)) (and-right (not (isEnd (x .move))) (not (isEmpty (x .members))) inner)))
+recorded-told t l origins members = All-map (λ x h inner. h .some
+    (not-true (isEmpty (x .members)) (and-right (not (isEnd (x .move))) (not (isEmpty (x .members))) inner)))
 
 -- the keys of the acts xs by such words
 abbrev pub keysBy : List Act → List ℕ → List ℕ

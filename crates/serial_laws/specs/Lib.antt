@@ -1,10 +1,12 @@
+pub mod Acts
+pub mod Order
 pub mod Splits
 pub mod ByKey
 pub mod EndPlace
 pub mod Keys
 pub mod Places
-pub mod Again
+pub mod MadeAgain
 pub mod Room
-pub mod OfLog
+pub mod AcceptedLog
 pub mod Facts
 pub mod Instances

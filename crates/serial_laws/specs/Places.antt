@@ -6,6 +6,7 @@ use native.Mathlib.Nat.{not-suc-le-zero}
 use native.Mathlib.Omega.{arith}
 use lib.ListN.{length, getD}
 use Rattle.lists.specs.Lists.{upFrom}
+use Rattle.lists.specs.Tabled.{getD-upFrom}
 use Rattle.lists.specs.Each.{All}
 use Rattle.semantics.specs.Table.{Table}
 use Rattle.semantics.specs.State.{State}
@@ -47,15 +48,10 @@ act-move t i s (m ∷ ms) (suc j) = act-move t (suc i) (after t (suc i) s m) ms 
 
 -- ---- the moves that a log's words hold
 
-getD-up : {A : Type 0} (f : ℕ → A) (d : A) (i n j : ℕ) → j < n → getD (map f (upFrom i n)) j d ≡ f (i + j)
-getD-up f d i zero j h = absurd (not-suc-le-zero h)
-getD-up f d i (suc n) zero h = let w : i ≡ i + 0 = omega arith in ap f w
-getD-up f d i (suc n) (suc j) h = let w : suc i + j ≡ i + suc j = omega arith in getD-up f d (suc i) n j (omega arith) ∙ ap f w
-
 pub move-in : (t : Table) (L : List ℕ) (j : ℕ) → j < moveCount L → getD (map (moveOf t) (movesOf L)) j noMove ≡ moveOf t (moveAt L j)
 move-in t L j h = let w : 0 + j ≡ j = omega arith in
     ap (λ (l : List Move). getD l j noMove) (map-map (moveOf t) (moveAt L) (upFrom 0 (moveCount L)))
-    ∙ getD-up (λ i. moveOf t (moveAt L i)) noMove 0 (moveCount L) j h ∙ ap (λ (i : ℕ). moveOf t (moveAt L i)) w
+    ∙ getD-upFrom (λ i. moveOf t (moveAt L i)) noMove 0 (moveCount L) j h ∙ ap (λ (i : ℕ). moveOf t (moveAt L i)) w
 
 -- ---- the places of acts picked by place
 

@@ -12,11 +12,12 @@ use Rattle.semantics.specs.Serial.{Act, after, again, replayed, along, fits}
 use Rattle.wellformed.specs.Bare.{bare, bareState, allowed-same, applied-same}
 use Rattle.cells.specs.Moves.{after-allowed}
 use Rattle.cells.specs.Replay.{Goes}
-use Rattle.serial.specs.Acts.{replayFits}
+use Rattle.serial_laws.specs.Acts.{replayFits}
 
 -- states that differ in origins alone have as many entries
 fits-same : (n : ℕ) (s c : State) → bareState s ≡ bareState c → fits n c ≡ fits n s
-fits-same n s c h = ap (λ (k : ℕ). leb k n) (sym (length-map (c .entries) bare) ∙ ap (λ (x : State). length (x .entries)) (sym h) ∙ length-map (s .entries) bare)
+fits-same n s c h = ap (λ (k : ℕ). leb k n) (sym (length-map (c .entries) bare) ∙ ap (λ (x : State). length (x .entries)) (sym h)
+    ∙ length-map (s .entries) bare)
 
 and-one : (b : Bool) → b ≡ b && true
 and-one true = refl

@@ -39,7 +39,11 @@ made-mark R (plain c b h) i w vs o d k z = absurd (no-marks (suc i) w vs 0 (prod
     (make-kinds (λ n. ltb n 3) (suc i) w vs 0 (productAtoms R) (kinds-plain (productAtoms R) h)) k z)
 made-mark R (inner c b h n) i w vs o d k z = absurd (no-marks (suc i) w vs 0 (productAtoms R) o d
     (make-kinds (λ n. ltb n 3) (suc i) w vs 0 (productAtoms R) (kinds-inner (productAtoms R) n)) k z)
-made-mark R (begin c b h m rest q y n) i w vs o d k z = (b, go (sameOrigin o (firstOf i)) refl (subst (λ (l : List Atom). look o (make (suc i) w vs 0 l) ≡ some d) q k))
+made-mark R (begin c b h m rest q y n) i w vs o d k z = (
+  b,
+  go (sameOrigin o (firstOf i)) refl
+      (subst (λ (l : List Atom). look o (make (suc i) w vs 0 l) ≡ some d) q k),
+)
   where
     go : (x : Bool) → sameOrigin o (firstOf i) ≡ x → look o (make (suc i) w vs 0 (m ∷ rest)) ≡ some d → o ≡ firstOf i
     go true p k = same-eq o (firstOf i) p

@@ -23,7 +23,7 @@ use Rattle.serializability.specs.Keys.{ender, keyOf, ender-ge, key-full}
 use Rattle.cells.specs.Actions.{Seen, astep, markOf, EndOk, end-ok}
 use Rattle.cells.specs.Simulation.{Good}
 use Rattle.cells.specs.Marks.{MarkAt}
-use Rattle.serializability.specs.SameKey.{LogRuns, next-good, places, key-bound}
+use Rattle.serializability.specs.SameKey.{LogRuns, next-good, places-below-keys, key-bound}
 use Rattle.cells.specs.Steps.{NoneOpen}
 use Rattle.serializability.specs.Sort.{isort, keyIs, arrange, arrange-isort}
 use Rattle.serializability.specs.FollowMark.{seenAfter, log-rest, place-length, ender-not, follow, Follows}
@@ -78,7 +78,8 @@ module _ (t : Table) (sd : Shaped t) (G : Seen) where
         forth (o ∷ os) ((e, h, k, w), m) n q =
             let d = fo o e h k .0 (sym (key-is (e .owner) w) ∙ q) in
             let E = end-ok t Fa a (rest-a .0 .0 .step .ok) en in
-            let z : isInO o (a .members) ≡ true = subst (λ (l : List Origin). isInO o l ≡ true) (sym (E .members)) (E .all-marks o (d .0) (d .1) (d .3) (d .2)) in
+            let z : isInO o (a .members) ≡ true = subst (λ (l : List Origin). isInO o l ≡ true) (sym (E .members))
+            (E .all-marks o (d .0) (d .1) (d .3) (d .2)) in
             rw z
 
         back : shares x a ≡ true → eqb (x .key) (a .place) ≡ true
@@ -128,7 +129,10 @@ module _ (t : Table) (sd : Shaped t) (G : Seen) where
   before-block : (xs : List Deed) (i : ℕ) (F : Seen) (a : Deed) (ys : List Deed) → Good i F → LogRuns t i F (xs ++ a ∷ ys) G
       → All (λ x. keyIs (a .place) x ≡ cond (isInner (actOf a)) false (belongsTo (actOf a) (actOf x))) xs
   before-block [] i F a ys g r = tt
-  before-block (x ∷ xs) i F a ys g r = (in-block i F x xs ys a g r, before-block xs (suc i) (astep t F x) a ys (next-good t sd G i F x (xs ++ a ∷ ys) g (r .0)) (r .1))
+  before-block (x ∷ xs) i F a ys g r = (
+    in-block i F x xs ys a g r,
+    before-block xs (suc i) (astep t F x) a ys (next-good t sd G i F x (xs ++ a ∷ ys) g (r .0)) (r .1),
+  )
 
   -- a's own key
   own-block : (i : ℕ) (F : Seen) (a : Deed) (ys : List Deed) → LogRuns t i F (a ∷ ys) G → keyIs (a .place) a ≡ not (isInner (actOf a))
@@ -141,7 +145,8 @@ module _ (t : Table) (sd : Shaped t) (G : Seen) where
       go true p c q = is-own (rw p) ∙ rw p
       go false p true q = is-own (rw (p, empty-nil (a .touched) q)) ∙ rw (p, r .0 .marked p .1 ∙ q)
       go false p false q =
-          ne-eqb (a .key) (a .place) (λ w. let y = r .0 .key ∙ key-full (isEnd (a .move)) i (a .touched) ys p q in let z = ender-ge (suc i) ys (least (a .touched)) in
+          ne-eqb (a .key) (a .place) (λ w. let y = r .0 .key ∙ key-full (isEnd (a .move)) i (a .touched) ys p q in
+          let z = ender-ge (suc i) ys (least (a .touched)) in
           let v = r .0 .step .place in omega arith)
           ∙ rw (p, r .0 .marked p .1 ∙ q)
 
@@ -156,9 +161,10 @@ module _ (t : Table) (sd : Shaped t) (G : Seen) where
       rest = log-rest t sd i F G xs (a ∷ ys) g r (i + length xs) refl .0
 
       none-later : keep (keyIs (a .place)) ys ≡ []
-      none-later = keep-none (keyIs (a .place)) ys (All-map {P = λ y. (suc (i + length xs) ≤ y .place) × (y .place ≤ y .key)} {Q = λ y. keyIs (a .place) y ≡ false}
+      none-later = keep-none (keyIs (a .place)) ys (All-map {P = λ y. (suc (i + length xs) ≤ y .place)
+          × (y .place ≤ y .key)} {Q = λ y. keyIs (a .place) y ≡ false}
           (λ y h. ne-eqb (y .key) (a .place) (λ w. let u = h .0 in let v = h .1 in let z = rest .0 .step .place in omega arith)) ys
-          (places t sd G (suc (i + length xs)) (astep t (seenAfter t F xs) a) ys (rest .1)))
+          (places-below-keys t sd G (suc (i + length xs)) (astep t (seenAfter t F xs) a) ys (rest .1)))
 
       before : (b : Bool) → isInner (actOf a) ≡ b → All (λ x. keyIs (a .place) x ≡ cond b false (belongsTo (actOf a) (actOf x))) xs
       before b q = subst (λ (c : Bool). All (λ x. keyIs (a .place) x ≡ cond c false (belongsTo (actOf a) (actOf x))) xs) q (before-block xs i F a ys g r)
@@ -199,4 +205,5 @@ module _ (t : Table) (sd : Shaped t) (G : Seen) where
   -- the serial order is the stable sort by key
   pub order-sorted : (xs : List Deed) (F : Seen) → Good 0 F → LogRuns t 0 F xs G → NoneOpen G → ordered [] (map actOf xs) ≡ map actOf (isort xs)
   order-sorted xs F g r n = ordered-is xs [] F g r ∙ ap (map actOf) (arrange-isort (length xs) 0 xs
-      (All-map {P = λ x. x .key < 0 + length xs} {Q = λ x. (0 ≤ x .key) × (x .key < 0 + length xs)} (λ x k. (omega arith, k)) xs (key-bound t sd G 0 F xs g r n)))
+      (All-map {P = λ x. x .key < 0 + length xs} {Q = λ x. (0 ≤ x .key) × (x .key < 0 + length xs)} (λ x k. (omega arith, k)) xs
+      (key-bound t sd G 0 F xs g r n)))

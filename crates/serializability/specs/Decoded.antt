@@ -46,7 +46,8 @@ use Rattle.cells.specs.SameCells.{end-closed, messages-same}
 sound-runs : (t : Table) → TableRight t → (i : ℕ) (s : State) (ms : List Move) (e : State) → Accepted t i s ms e → Sound (t .sizes) s → All (RuleKnown t) ms
     → Sound (t .sizes) e
 sound-runs t right i s [] e h sound known = subst (Sound (t .sizes)) h sound
-sound-runs t right i s (m ∷ ms) e h sound known = sound-runs t right (suc i) (applied t (suc i) s m) ms e (h .1) (applied-keeps right sound (suc i) m (known .0) (h .0))
+sound-runs t right i s (m ∷ ms) e h sound known = sound-runs t right (suc i) (applied t (suc i) s m) ms e (h .1)
+    (applied-keeps right sound (suc i) m (known .0) (h .0))
     (known .1)
 
 -- ---- the serial log is a run, with its own places for makers
@@ -61,7 +62,8 @@ goes-accepted t (a ∷ xs) i s c c′ b h =
     let r = goes-accepted t xs (suc i) (applied t (suc i) s m) (after t (suc (a .place)) c m) c′ n (h .1) in
     (r .0, (allowed-same s c b t m ∙ h .0, r .1), r .2)
 
-replayed-length : (t : Table) (c : State) (xs : List Act) → length (replayed t c xs) ≡ length xs
+-- one move for each act
+pub replayed-length : (t : Table) (c : State) (xs : List Act) → length (replayed t c xs) ≡ length xs
 unfolding replayed
 replayed-length t c [] = refl
 replayed-length t c (a ∷ xs) = ap suc (replayed-length t (after t (suc (a .place)) c (again c a (a .move))) xs)
@@ -70,7 +72,7 @@ count-bare : (p : Entry → Bool) → ((x : Entry) → p (bare x) ≡ p x) → (
 count-bare p h [] = refl
 count-bare p h (x ∷ l) = rw (h x, count-bare p h l)
 
-deeds-known : (t : Table) (i : ℕ) (s : State) (ms : List Move) → All (RuleKnown t) ms → All (λ a. RuleKnown t (a .move)) (deeds t i s ms)
+pub deeds-known : (t : Table) (i : ℕ) (s : State) (ms : List Move) → All (RuleKnown t) ms → All (λ a. RuleKnown t (a .move)) (deeds t i s ms)
 unfolding deeds
 deeds-known t i s [] h = tt
 deeds-known t i s (m ∷ ms) h = (h .0, deeds-known t (suc i) (after t (suc i) s m) ms (h .1))
@@ -126,8 +128,9 @@ module _ (t : Table) (right : TableRight t) (ne : beginsEmit t ≡ false) (s : S
   unfolding ds
   known-log = deeds-known t 0 s ms known
 
-  again-runs : Ends t s (isort ds) (view e)
-  again-runs = replay-runs t right sd (isort ds) s (view s) (view e) (λ v. v) (rel-start (t .sizes) s S) (S .sound) (All-isort (λ a. RuleKnown t (a .move)) ds known-log)
+  pub again-runs : Ends t s (isort ds) (view e)
+  again-runs = replay-runs t right sd (isort ds) s (view s) (view e) (λ v. v) (rel-start (t .sizes) s S) (S .sound)
+      (All-isort (λ a. RuleKnown t (a .move)) ds known-log)
       (sort-runs t (view e) ds (view s) (pairs t sd (view e) 0 (view s) ds g (ran .0)) (runs t 0 (view s) ds (view e) (ran .0)))
 
   -- the serial log's rules are the table's
@@ -136,7 +139,7 @@ module _ (t : Table) (right : TableRight t) (ne : beginsEmit t ≡ false) (s : S
       (All-unmap actOf (λ a. RuleKnown t (a .move)) (isort ds) (All-isort (λ a. RuleKnown t (a .move)) ds known-log)))
 
   accepted : (z : State) × Accepted t 0 s (replayed t s (map actOf (isort ds))) z × (bareState z ≡ bareState (again-runs .state))
-  accepted = goes-accepted t (map actOf (isort ds)) 0 s s (again-runs .state) refl (again-runs .goes)
+  accepted = goes-accepted t (map actOf (isort ds)) 0 s s (again-runs .state) refl (again-runs .all-go)
 
   sorted-length : length (isort ds) ≡ length ms
   unfolding ds
@@ -162,9 +165,11 @@ module _ (t : Table) (right : TableRight t) (ne : beginsEmit t ≡ false) (s : S
           → (count (endsMemberOf x) (acts t 0 s ms) ≡ 1) × (count (endsMemberOf x) ys ≡ 1)
       go (us, u, vs, p, a, b, c) =
           let r = one-block-of t sd (view e) us (view s) u vs g (subst (λ (l : List Deed). LogRuns t 0 (view s) l (view e)) p (ran .0)) shut (rw b h) in (
-            ap (λ (y : Act). count (endsMemberOf y) (acts t 0 s ms)) (sym b) ∙ ap (count (endsMemberOf (actOf u))) acts-are ∙ count-map actOf (endsMemberOf (actOf u)) ds
+            ap (λ (y : Act). count (endsMemberOf y) (acts t 0 s ms)) (sym b) ∙ ap (count (endsMemberOf (actOf u))) acts-are
+                ∙ count-map actOf (endsMemberOf (actOf u)) ds
                 ∙ ap (count (λ a. endsMemberOf (actOf u) (actOf a))) p ∙ r .0,
-            ap (λ (y : Act). count (endsMemberOf y) ys) (sym b) ∙ ap (count (endsMemberOf (actOf u))) (sym c) ∙ count-map actOf (endsMemberOf (actOf u)) vs ∙ r .1,
+            ap (λ (y : Act). count (endsMemberOf y) ys) (sym b) ∙ ap (count (endsMemberOf (actOf u))) (sym c) ∙ count-map actOf (endsMemberOf (actOf u)) vs
+                ∙ r .1,
           )
 
   pub begun-before : (xs ys : List Act) (a : Act) → acts t 0 s ms ≡ xs ++ a ∷ ys → isEnd (a .move) ≡ true
@@ -187,7 +192,8 @@ module _ (t : Table) (right : TableRight t) (ne : beginsEmit t ≡ false) (s : S
       → SameMove (stateBefore t (upFrom 0 (length ms)) s ms (getD (placesOf t s ms) j 0)) (stateBefore t (placesOf t s ms) s (serial t s ms) j)
       (getD ms (getD (placesOf t s ms) j 0) noMove) (getD (serial t s ms) j noMove)
   same-at j h =
-      subst (λ (ps : List ℕ). SameMove (stateBefore t (upFrom 0 (length ms)) s ms (getD ps j 0)) (stateBefore t ps s (serial t s ms) j) (getD ms (getD ps j 0) noMove)
+      subst (λ (ps : List ℕ). SameMove (stateBefore t (upFrom 0 (length ms)) s ms (getD ps j 0)) (stateBefore t ps s (serial t s ms) j)
+      (getD ms (getD ps j 0) noMove)
       (getD (serial t s ms) j noMove)) (sym places-are)
       (subst (λ (l : List Move). SameMove (stateBefore t (upFrom 0 (length ms)) s ms (getD (map (λ a. a .place) (isort ds)) j 0))
       (stateBefore t (map (λ a. a .place) (isort ds)) s l j) (getD ms (getD (map (λ a. a .place) (isort ds)) j 0) noMove) (getD l j noMove)) (sym serial-is)
@@ -263,7 +269,8 @@ module _ (t : Table) (right : TableRight t) (ne : beginsEmit t ≡ false) (s : S
     members = members-at;
     origins = origins-at;
     states = states-at;
-    blocks = λ xs ys a q h. subst (λ (l : List Act). (before : List Act) × (behind : List Act) × (ordered [] l ≡ before ++ (keep (belongsTo a) xs ++ a ∷ behind))) (sym q)
+    blocks = λ xs ys a q h. subst (λ (l : List Act). (before : List Act) × (behind : List Act)
+        × (ordered [] l ≡ before ++ (keep (belongsTo a) xs ++ a ∷ behind))) (sym q)
         (block-there xs ys a h);
     inner = inner-at;
     one-block = one-block;

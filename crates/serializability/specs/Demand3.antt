@@ -53,25 +53,26 @@ module _ (ceiling : ℕ) (T S L : List ℕ) (e : State) (ok : stateVerdict T S �
   pub right : TableRight t
   right = table-right T table-ok
 
-  pub start : Start (t .sizes) s
-  start = record { sound = rw (sizes-tableOf T) (stateOf-held T S ok .sound); numbered = state-numbered S; closed = op }
+  pub log-start : Start (t .sizes) s
+  log-start = record { sound = rw (sizes-tableOf T) (stateOf-held T S ok .sound); numbered = state-numbered S; closed = op }
 
   taken : Accepted t 0 s ms e × All (λ w. moveOk t w ≡ true) (movesOf L)
   taken = run-accepted ceiling t 0 s (movesOf L) e ran
 
   pub known : All (RuleKnown t) ms
-  known = All-unmap (moveOf t) (RuleKnown t) (movesOf L) (All-map {P = λ w. moveOk t w ≡ true} {Q = λ w. RuleKnown t (moveOf t w)} (λ w h. rule-known t w h) (movesOf L)
+  known = All-unmap (moveOf t) (RuleKnown t) (movesOf L) (All-map {P = λ w. moveOk t w ≡ true} {Q = λ w. RuleKnown t (moveOf t w)} (λ w h. rule-known t w h)
+      (movesOf L)
       (taken .1))
 
   serial-log : Serial t s ms e
-  serial-log = serial-decoded t right ne s start ms known e (taken .0) cl
+  serial-log = serial-decoded t right ne s log-start ms known e (taken .0) cl
 
   count-is : length ms ≡ moveCount L
   count-is = length-map (movesOf L) (moveOf t) ∙ moves-count L
 
-  pub held : All (Holdable t) (serial t s ms)
-  held = all-holdable t right (let k = length-rules T in let l = well-formed T table-ok .sizes .rules in omega arith)
-      0 s (serial t s ms) (serial-log .end) (serial-log .accepted) (start .sound) (serial-known t right ne s start ms known e (taken .0) cl)
+  pub serial-held : All (Holdable t) (serial t s ms)
+  serial-held = all-holdable t right (let k = length-rules T in let l = well-formed T table-ok .sizes .rules in omega arith)
+      0 s (serial t s ms) (serial-log .end) (serial-log .accepted) (log-start .sound) (serial-known t right ne s log-start ms known e (taken .0) cl)
 
   log-allowed : logVerdict T S L ≡ Allowed
   unfolding logVerdict
@@ -92,7 +93,8 @@ module _ (ceiling : ℕ) (T S L : List ℕ) (e : State) (ok : stateVerdict T S �
       go false = refl
 
   rerun-is : all (fits ceiling) (along t 0 s (serial t s ms)) ≡ true → run ceiling t 0 s (movesOf (logWords (serial t s ms))) ≡ ended (serial-log .end)
-  rerun-is f = ap (run ceiling t 0 s) (moves-back (serial t s ms)) ∙ accepted-run ceiling t 0 s (serial t s ms) (serial-log .end) (serial-log .accepted) f held
+  rerun-is f = ap (run ceiling t 0 s) (moves-back (serial t s ms))
+      ∙ accepted-run ceiling t 0 s (serial t s ms) (serial-log .end) (serial-log .accepted) f serial-held
 
   rerun-log : logVerdict T S (logWords (serial t s ms)) ≡ Allowed
   unfolding logVerdict

@@ -56,7 +56,8 @@ module _ (t : Table) (sd : Shaped t) (G : Seen) (a : Deed) (ys : List Deed) wher
   place-ge i F xs r = let w = place-length t i F G xs ys a r in omega arith
 
   -- only a commit or abort ends a transaction
-  pub ender-not : isEnd (a .move) ≡ false → (xs : List Deed) (i : ℕ) (F : Seen) → LogRuns t i F (xs ++ a ∷ ys) G → (v : ℕ) → ender i (xs ++ a ∷ ys) v ≡ a .place → ⊥
+  pub ender-not : isEnd (a .move) ≡ false → (xs : List Deed) (i : ℕ) (F : Seen) → LogRuns t i F (xs ++ a ∷ ys) G → (v : ℕ)
+      → ender i (xs ++ a ∷ ys) v ≡ a .place → ⊥
   ender-not n [] i F r v q = go (isIn v (a .touched)) (r .0 .step .place) (ender-ge (suc i) ys (least (a .touched))) (ender-ge (suc i) ys v) (rw n at q)
     where
       go : (c : Bool) → a .place ≡ i → suc i ≤ ender (suc i) ys (least (a .touched)) → suc i ≤ ender (suc i) ys v
@@ -103,20 +104,25 @@ module _ (t : Table) (sd : Shaped t) (G : Seen) (a : Deed) (ys : List Deed) wher
             → Follows i F (x ∷ xs) o e
         step-to e′ ih q = ((λ w. ih .0 (sym q ∙ w)), (λ d p w. q ∙ ih .1 d p w))
 
-        same-end : (v : ℕ) → (isEnd (x .move) ≡ true → isIn (e .owner) (x .touched) ≡ false) → v ≡ cond (isIn (e .owner) (x .touched)) (least (x .touched)) (e .owner)
+        same-end : (v : ℕ) → (isEnd (x .move) ≡ true → isIn (e .owner) (x .touched) ≡ false)
+            → v ≡ cond (isIn (e .owner) (x .touched)) (least (x .touched)) (e .owner)
             → ender i (x ∷ xs ++ a ∷ ys) (e .owner) ≡ ender (suc i) (xs ++ a ∷ ys) v
         same-end v n q = by-bool (isIn (e .owner) (x .touched))
-            (λ w. let y : v ≡ least (x .touched) = q ∙ rw w in let z : isEnd (x .move) ≡ false = is-false (isEnd (x .move)) (λ z. clash w (n z)) in rw (w, z, y))
+            (λ w. let y : v ≡ least (x .touched) = q ∙ rw w in let z : isEnd (x .move) ≡ false = is-false (isEnd (x .move)) (λ z. clash w (n z)) in
+            rw (w, z, y))
             (λ w. let y : v ≡ e .owner = q ∙ rw w in rw (w, y))
 
-        go : ((e′ : Entry) → astep t F x .cell o ≡ some e′ → e′ .kind ≡ 3 → Follows (suc i) (astep t F x) xs o e′) → (b : Bool) → isEnd (x .move) ≡ b → (c : Bool)
+        go : ((e′ : Entry) → astep t F x .cell o ≡ some e′ → e′ .kind ≡ 3 → Follows (suc i) (astep t F x) xs o e′) → (b : Bool) → isEnd (x .move) ≡ b
+            → (c : Bool)
             → isIn (e .owner) (x .touched) ≡ c → Follows i F (x ∷ xs) o e
         go ih true p true q = (
           (λ w. absurd (let y = place-ge (suc i) (astep t F x) xs (r .1) in let z : ender i (x ∷ xs ++ a ∷ ys) (e .owner) ≡ i = rw (q, p) in omega arith)),
           (λ d w v. absurd (none-some (sym
               (none-after t (suc i) (astep t F x) G xs (a ∷ ys) (r .1) o
-              (mark-gone t (F .cell) x (r .0 .step .ok .es) (received F x) o e (x .move) (r .0 .step .ok .tests) p q h k) (let y = g .makers o e h in omega arith))
+              (mark-gone t (F .cell) x (r .0 .step .ok .es) (received F x) o e (x .move) (r .0 .step .ok .tests) p q h k)
+              (let y = g .makers o e h in omega arith))
               ∙ w))),
         )
         go ih true p false q = let s = stays (λ z. q) in step-to (s .0) (ih (s .0) (s .1) (s .2)) (same-end (s .0 .owner) (λ z. q) (s .3))
-        go ih false p c q = let s = stays (λ z. absurd (clash z p)) in step-to (s .0) (ih (s .0) (s .1) (s .2)) (same-end (s .0 .owner) (λ z. absurd (clash z p)) (s .3))
+        go ih false p c q = let s = stays (λ z. absurd (clash z p)) in
+            step-to (s .0) (ih (s .0) (s .1) (s .2)) (same-end (s .0 .owner) (λ z. absurd (clash z p)) (s .3))

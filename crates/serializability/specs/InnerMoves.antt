@@ -14,11 +14,11 @@ use Rattle.cells.specs.Deeds.{Deed, actOf}
 use Rattle.cells.specs.Actions.{Seen, Tests, Ok}
 use Rattle.cells.specs.Simulation.{Good}
 use Rattle.serializability.specs.Statement.{isMadeInside}
-use Rattle.serializability.specs.SameKey.{Marked, LogRuns}
+use Rattle.serializability.specs.SameKey.{MembersMarked, LogRuns}
 use Rattle.serializability.specs.FollowMark.{log-rest}
 use Rattle.serializability.specs.LogOnCells.{ports-some}
 
-inner-deed : (t : Table) → Shaped t → (F : Seen) (a : Deed) → Ok t F a → Marked t F a → isInner (actOf a) ≡ isBegin t (a .move) || isMadeInside t (a .move)
+inner-deed : (t : Table) → Shaped t → (F : Seen) (a : Deed) → Ok t F a → MembersMarked t F a → isInner (actOf a) ≡ isBegin t (a .move) || isMadeInside t (a .move)
 inner-deed t sd F a k marked = go (a .move) (k .tests) (λ h. marked h .1)
   where
     go : (m : Move) → Tests t a (k .es) m → (isEnd m ≡ false → isEmpty (a .members) ≡ isEmpty (a .touched))

@@ -26,7 +26,7 @@ use Rattle.cells.specs.Actions.{Seen, strip, received, astep, Ok}
 use Rattle.cells.specs.Moves.{react-passes, after-allowed}
 use Rattle.cells.specs.Simulation.{view, view-look, view-some, Good, sim, all-found}
 use Rattle.cells.specs.Marks.{MarkAt, mark-stay, firstOf, mark-made, touched-live}
-use Rattle.serializability.specs.SameKey.{Marked, LogRuns}
+use Rattle.serializability.specs.SameKey.{MembersMarked, LogRuns}
 use Rattle.cells.specs.Steps.{good-next}
 
 pub ports-some : (ts : List ℕ) (es : List Entry) → isEmpty ts ≡ false → onPorts ts es ≡ true → isEmpty (owners es) ≡ false
@@ -60,7 +60,8 @@ module _ (t : Table) (sd : Shaped t) (i k : ℕ) (s : State) (r : ℕ) (ps : Lis
       (All-map {P = λ e. look (e .origin) (s .entries) ≡ some e} {Q = λ e. inOs e ≡ true → MarkAt (astep t (view s) theDeed .cell) (e .origin)
       (least (touched t s (react r ps)))} (λ e h z. at e h z) (s .entries) (all-found (s .entries) u)))
     where
-      at : (e : Entry) → look (e .origin) (s .entries) ≡ some e → inOs e ≡ true → MarkAt (astep t (view s) theDeed .cell) (e .origin) (least (touched t s (react r ps)))
+      at : (e : Entry) → look (e .origin) (s .entries) ≡ some e → inOs e ≡ true
+          → MarkAt (astep t (view s) theDeed .cell) (e .origin) (least (touched t s (react r ps)))
       at e h z =
           let w : isIn (e .owner) (touched t s (react r ps)) ≡ true = subst (λ (l : List ℕ). isIn (e .owner) l ≡ true) (sym q)
           (and-right (isMemberMark e) (isIn (e .owner) os) z) in
@@ -83,7 +84,8 @@ module _ (t : Table) (sd : Shaped t) (i k : ℕ) (s : State) (r : ℕ) (ps : Lis
       seen o e d h q k w =
           let x : d .kind ≡ 3 = ap (λ (x : Entry). x .kind) q ∙ k in
           let y : isIn (d .owner) os ≡ true = subst (λ (x : Entry). isIn (x .owner) os ≡ true) (sym q) w in
-          origins-some o (keep inOs (s .entries)) (look-isIn o (keep inOs (s .entries)) d (look-kept inOs o (s .entries) d u h (and-intro (eq-eqb (d .kind) 3 x) y)))
+          origins-some o (keep inOs (s .entries)) (look-isIn o (keep inOs (s .entries)) d
+          (look-kept inOs o (s .entries) d u h (and-intro (eq-eqb (d .kind) 3 x) y)))
 
       there : (o : Origin) (e : Entry) → view s .cell o ≡ some e → e .kind ≡ 3 → isIn (e .owner) os ≡ true → isEmpty (marksIn os s) ≡ false
       there o e h k w = let v = view-some s o e h in seen o e (v .0) (v .1) (v .2) k w
@@ -98,7 +100,7 @@ module _ (t : Table) (sd : Shaped t) (i k : ℕ) (s : State) (r : ℕ) (ps : Lis
   members-inner : eqb (R .class) 0 ≡ false → begins R ≡ false → membersOf t i s (react r ps) ≡ marksIn os s
   members-inner c b = rw (b, c)
 
-  marked-react : isEmpty (consumed R) ≡ true ⊎ (isEmpty os ≡ false) → Marked t (view s) theDeed
+  marked-react : isEmpty (consumed R) ≡ true ⊎ (isEmpty os ≡ false) → MembersMarked t (view s) theDeed
   unfolding touched astep
   marked-react ne _ = go (sd r)
     where
@@ -121,7 +123,7 @@ module _ (t : Table) (sd : Shaped t) (i k : ℕ) (s : State) (r : ℕ) (ps : Lis
           full (inr x) y = x
 
 marked-of : (t : Table) → Shaped t → (i k : ℕ) (s : State) (m : Move) → Uniq (s .entries) → Good i (view s) → Ok t (view s) (deedAt t i k s m)
-    → allowed t s m ≡ Allowed → Marked t (view s) (deedAt t i k s m)
+    → allowed t s m ≡ Allowed → MembersMarked t (view s) (deedAt t i k s m)
 marked-of t sd i k s (react r ps) u g K h = marked-react t sd i k s r ps u g K
     (by-bool (isEmpty (consumed (ruleAt t r))) (λ n. inl n) (λ n. inr (ports-some (consumed (ruleAt t r)) (picked s ps) n (react-passes t s r ps h .ports))))
 marked-of t sd i k s (commit b) u g K h = λ z. absurd (true≢false z)

@@ -126,7 +126,8 @@ moves-back ms = map-up (moveAt (logWords ms)) (fromColumns ms) (length ms) 0 (λ
     at i h = λ j. head j ∷ take 4 (picks j)
       where
         head : getD (logWords ms) (1 + i) 0 ≡ getD (map headOf ms) i 0
-        head = ap (λ (n : ℕ). getD (logWords ms) n 0) (one-add i) ∙ List·getD-append (map headOf ms) (allPicks ms) 0 i (let w = length-map ms headOf in omega arith)
+        head = ap (λ (n : ℕ). getD (logWords ms) n 0) (one-add i)
+            ∙ List·getD-append (map headOf ms) (allPicks ms) 0 i (let w = length-map ms headOf in omega arith)
 
         picks : drop (1 + length ms + 4 * i) (logWords ms) ≡ drop (4 * i) (allPicks ms)
         picks = ap (λ (n : ℕ). drop n (logWords ms)) number ∙ drop-append-add (map headOf ms) (allPicks ms) (4 * i)

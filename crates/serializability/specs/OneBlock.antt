@@ -34,7 +34,8 @@ use Rattle.serializability.specs.Blocks.{shares, end-member, same-block}
 module _ (t : Table) (G : Seen) where
   place-none : (ys : List Deed) (j : ℕ) (F : Seen) (k : ℕ) → LogRuns t j F ys G → k < j → count (λ a. eqb k (a .place)) ys ≡ 0
   place-none [] j F k r l = refl
-  place-none (y ∷ ys) j F k r l = let w = r .0 .step .place in rw (ne-eqb k (y .place) (λ q. omega arith), place-none ys (suc j) (astep t F y) k (r .1) (omega arith))
+  place-none (y ∷ ys) j F k r l = let w = r .0 .step .place in
+      rw (ne-eqb k (y .place) (λ q. omega arith), place-none ys (suc j) (astep t F y) k (r .1) (omega arith))
 
   place-once : (ys : List Deed) (j : ℕ) (F : Seen) (k : ℕ) → LogRuns t j F ys G → j ≤ k → k < j + length ys → count (λ a. eqb k (a .place)) ys ≡ 1
   place-once [] j F k r l h = absurd (omega arith)
@@ -57,7 +58,8 @@ module _ (t : Table) (sd : Shaped t) (G : Seen) where
   ended-before i F b zs ys x g r nx = is-false (endsMemberOf (actOf x) (actOf b)) (λ h.
       let en = and-left (isEnd (b .move)) (belongsTo (actOf b) (actOf x)) h in
       let sh = and-right (isInner (actOf x)) (shares x b) (and-right (isEnd (b .move)) (belongsTo (actOf b) (actOf x)) h) in
-      go en (any-found (λ o. MarkAt (astep t (seenAfter t (astep t F b) zs) x .cell) o (least (x .touched))) (λ o. any (sameOrigin o) (b .members)) (x .members) sh
+      go en (any-found (λ o. MarkAt (astep t (seenAfter t (astep t F b) zs) x .cell) o (least (x .touched))) (λ o. any (sameOrigin o) (b .members))
+      (x .members) sh
       (rest .0 .marked nx .0)))
     where
       rest : LogRuns t (suc i + length zs) (seenAfter t (astep t F b) zs) (x ∷ ys) G

@@ -24,7 +24,8 @@ pub block-there : (xs ys : List Act) (a : Act) → isEnd (a .move) ≡ true
 block-there xs ys a h = (
   ordered [] xs,
   ordered (xs ++ a ∷ []) ys,
-  ordered-append [] xs (a ∷ ys) ∙ ap (λ (l : List Act). ordered [] xs ++ l) (ap (λ (l : List Act). l ++ ordered (xs ++ a ∷ []) ys) (block-outer xs a (end-outer a h))
+  ordered-append [] xs (a ∷ ys) ∙ ap (λ (l : List Act). ordered [] xs ++ l)
+      (ap (λ (l : List Act). l ++ ordered (xs ++ a ∷ []) ys) (block-outer xs a (end-outer a h))
       ∙ append-assoc (keep (belongsTo a) xs) (a ∷ []) (ordered (xs ++ a ∷ []) ys)),
 )
 

@@ -30,7 +30,8 @@ drop-over new old = drop-append-seam new (drop (length new) old)
 -- ---- the theorem
 
 module _ (T S L : List ℕ) (e : State) (h : Serializable lineCeiling T S L e) (target : List ℕ) (long : 1 + 5 * moveCount L ≤ length target) where
-  result : {b : Bool} → roomAlong lineCeiling T S L ≡ b → serialResult lineCeiling T S L target ≡ cond b (write (logWords (serialOf T S L))) (refuse SerialTooManyEntries)
+  result : {b : Bool} → roomAlong lineCeiling T S L ≡ b → serialResult lineCeiling T S L target ≡ cond b (write (logWords (serialOf T S L)))
+      (refuse SerialTooManyEntries)
   result f = h .answer target long ∙ rw f
 
   answered : {b : Bool} → roomAlong lineCeiling T S L ≡ b

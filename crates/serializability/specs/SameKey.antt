@@ -23,17 +23,18 @@ use Rattle.cells.specs.Simulation.{Mark, Good}
 use Rattle.cells.specs.Marks.{MarkAt, firstOf}
 use Rattle.cells.specs.Swap.{Swap}
 use Rattle.serializability.specs.Sort.{Swaps, Pairs}
-use Rattle.cells.specs.Steps.{NoneOpen, next-le, not-zero, touched-bound, old-mark, keeps-mark, new-mark, good-next, still, only}
+use Rattle.cells.specs.Steps.{NoneOpen, next-le, not-zero, touched-bound, old-mark, keeps-mark, mark-left, good-next, still, only}
 
 -- the members of a move that is no end: right after it their marks are in its transaction, and it has some if it touches some transaction
-abbrev pub Marked : Table → Seen → Deed → Type 0
-Marked t F a = isEnd (a .move) ≡ false → All (λ o. MarkAt (astep t F a .cell) o (least (a .touched))) (a .members) × (isEmpty (a .members) ≡ isEmpty (a .touched))
+abbrev pub MembersMarked : Table → Seen → Deed → Type 0
+MembersMarked t F a = isEnd (a .move) ≡ false → All (λ o. MarkAt (astep t F a .cell) o (least (a .touched))) (a .members)
+    × (isEmpty (a .members) ≡ isEmpty (a .touched))
 
 -- the move a of a log, at place i, before the moves xs
 pub record LogStep (t : Table) (i : ℕ) (F : Seen) (a : Deed) (xs : List Deed) : Type 0 where
   pub step : StepOk t i F a
   pub key : a .key ≡ keyOf (isEnd (a .move)) i (a .touched) xs
-  pub marked : Marked t F a
+  pub marked : MembersMarked t F a
   pub first : isBegin t (a .move) ≡ true → a .members ≡ firstOf (a .place) ∷ []
 
 abbrev pub LogRuns : Table → ℕ → Seen → List Deed → Seen → Type 0
@@ -56,7 +57,8 @@ module _ (t : Table) (sd : Shaped t) (G : Seen) where
   fate i F [] g r v nz lt = tt
   fate i F (a ∷ xs) g r v nz lt = (
     λ h. (old-mark t sd i F a g (r .0 .step) v lt h, r .0 .key ∙ key-in (isEnd (a .move)) i v (a .touched) xs h ∙ rw h),
-    All-map {P = λ x. isIn v (x .touched) ≡ true → Mark (astep t F a .cell) v × (x .key ≡ ender (suc i) xs v)} {Q = λ x. isIn v (x .touched) ≡ true → Mark (F .cell) v ×
+    All-map {P = λ x. isIn v (x .touched) ≡ true → Mark (astep t F a .cell) v × (x .key ≡ ender (suc i) xs v)} {Q = λ x. isIn v (x .touched) ≡ true
+        → Mark (F .cell) v ×
         (x .key ≡ ender i (a ∷ xs) v)}
         (λ x ih h. let q = ih h in let s = still t sd i F a g (r .0 .step) v nz lt (q .0) in (s .0, q .1 ∙ same-end (s .1)))
         xs (fate (suc i) (astep t F a) xs (next-good i F a xs g (r .0)) (r .1) v nz (let w = next-le t F a in omega arith)),
@@ -92,13 +94,13 @@ module _ (t : Table) (sd : Shaped t) (G : Seen) where
   All-forall Q P [] h = tt
   All-forall Q P (x ∷ xs) h = (λ v q. h v q .0, All-forall Q P xs (λ v q. h v q .1))
 
-  -- places and keys
-  pub places : (i : ℕ) (F : Seen) (xs : List Deed) → LogRuns t i F xs G → All (λ x. (i ≤ x .place) × (x .place ≤ x .key)) xs
-  places i F [] r = tt
-  places i F (a ∷ xs) r = (
+  -- a place is not above its key
+  pub places-below-keys : (i : ℕ) (F : Seen) (xs : List Deed) → LogRuns t i F xs G → All (λ x. (i ≤ x .place) × (x .place ≤ x .key)) xs
+  places-below-keys i F [] r = tt
+  places-below-keys i F (a ∷ xs) r = (
     (let w = r .0 .step .place in omega arith, ge (key-cases (isEnd (a .move)) i (a .touched) xs)),
     All-map {P = λ x. (suc i ≤ x .place) × (x .place ≤ x .key)} {Q = λ x. (i ≤ x .place) × (x .place ≤ x .key)} (λ x h. (let w = h .0 in omega arith, h .1)) xs
-        (places (suc i) (astep t F a) xs (r .1)),
+        (places-below-keys (suc i) (astep t F a) xs (r .1)),
   )
     where
       ge : KeyCases (isEnd (a .move)) i (a .touched) xs → a .place ≤ a .key
@@ -118,7 +120,7 @@ module _ (t : Table) (sd : Shaped t) (G : Seen) where
       lt (inr q) = let u = r .0 .key in let z = q .2 in
           let y = fate-bound (suc i) (astep t F a) xs (next-good i F a xs g (r .0)) (r .1) n (least (a .touched))
           (not-zero t sd i F a g (r .0 .step) (least (a .touched)) (q .1))
-          (new-mark t sd i F a g (r .0 .step) (least (a .touched)) (q .0) (q .1)) in omega arith
+          (mark-left t sd i F a g (r .0 .step) (least (a .touched)) (q .0) (q .1)) in omega arith
 
   -- a later move with a smaller key may go first
   pub pairs : (i : ℕ) (F : Seen) (xs : List Deed) → Good i F → LogRuns t i F xs G → Pairs t xs
@@ -138,16 +140,18 @@ module _ (t : Table) (sd : Shaped t) (G : Seen) where
 
       same-key : (x : Deed) → x .key < a .key → (v : ℕ) → isIn v (a .touched) ≡ true → Mark (astep t F a .cell) v → x .key ≡ ender (suc i) xs v
           → keyOf (isEnd (a .move)) i (a .touched) xs ≡ ender (suc i) xs (least (a .touched)) → ⊥
-      same-key x lt v y l e d = let c : ender (suc i) xs v ≡ ender (suc i) xs (least (a .touched)) = ap (ender (suc i) xs) (only t sd i F a g (r .0 .step) v y l) in
+      same-key x lt v y l e d = let c : ender (suc i) xs v ≡ ender (suc i) xs (least (a .touched)) = ap (ender (suc i) xs)
+          (only t sd i F a g (r .0 .step) v y l) in
           let u = r .0 .key in omega arith
 
       swaps : KeyCases (isEnd (a .move)) i (a .touched) xs → Swaps t a xs
-      swaps (inl q) = All-map {P = λ x. (suc i ≤ x .place) × (x .place ≤ x .key)} {Q = λ x. x .key < a .key → Swap t a x} (λ x h lt. let u = r .0 .key in let w = h .0 in
-          let y = h .1 in absurd (omega arith)) xs (places (suc i) (astep t F a) xs (r .1))
+      swaps (inl q) = All-map {P = λ x. (suc i ≤ x .place) × (x .place ≤ x .key)} {Q = λ x. x .key < a .key → Swap t a x}
+          (λ x h lt. let u = r .0 .key in let w = h .0 in
+          let y = h .1 in absurd (omega arith)) xs (places-below-keys (suc i) (astep t F a) xs (r .1))
       swaps (inr q) = All-two (λ x p h lt. record {
         reacts = q .0;
         some-touched = q .1;
         apart = λ v y z. same-key x lt v y (h v y z .0) (h v y z .1) (q .2);
         earlier = let w = p .0 in let u = r .0 .step .place in omega arith;
         back = back-of;
-      }) xs (places (suc i) (astep t F a) xs (r .1)) touches
+      }) xs (places-below-keys (suc i) (astep t F a) xs (r .1)) touches

@@ -67,7 +67,8 @@ module _ (t : Table) (s : State) (ms : List Move) where
   afterFirst c a = after t (suc (a .place)) c (again c (actOf a) (a .move))
 
   pub same-moves : (ds : List Deed) (c : State) → Agains t c ds → All (Placed t s ms) ds → (j : ℕ) → j < length ds
-      → SameMove (logState t s ms (getD (placesIn ds) j 0)) (stateBefore t (placesIn ds) c (againIn c ds) j) (moveIn ms (getD (placesIn ds) j 0)) (moveIn (againIn c ds) j)
+      → SameMove (logState t s ms (getD (placesIn ds) j 0)) (stateBefore t (placesIn ds) c (againIn c ds) j) (moveIn ms (getD (placesIn ds) j 0))
+      (moveIn (againIn c ds) j)
   unfolding replayed stateBefore
   same-moves [] c A P j h = absurd (not-suc-le-zero h)
   same-moves (a ∷ ds) c A P zero h =
@@ -88,7 +89,8 @@ module _ (t : Table) (s : State) (ms : List Move) where
   unfolding replayed stateBefore
   same-members [] c A P j h o = absurd (not-suc-le-zero h)
   same-members (a ∷ ds) c A P zero h o =
-      subst (λ (m : Move). isInO o (membersOf t (a .place) c (again c (actOf a) (a .move))) ≡ isInO o (membersOf t (a .place) (logState t s ms (a .place)) m)) (P .0 .move)
+      subst (λ (m : Move). isInO o (membersOf t (a .place) c (again c (actOf a) (a .move))) ≡ isInO o (membersOf t (a .place) (logState t s ms (a .place)) m))
+      (P .0 .move)
       (by-bool (isBegin t (a .move)) (λ b. ap (isInO o) (begun-member (a .place) (logState t s ms (a .place)) c (actOf a) (a .move) b))
       (λ b. A .1 .members b o ∙ ap (isInO o) (P .0 .members)))
   same-members (a ∷ ds) c A P (suc j) h o = same-members ds (afterFirst c a) (A .2) (P .1) j (omega arith) o

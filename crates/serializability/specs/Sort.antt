@@ -54,7 +54,8 @@ module _ (t : Table) (G : Seen) where
             (ok-m t F m x S (r .0) (r .1 .0), subst (λ (H : Seen). Runs t H xs G) (same t F m x S (r .0) (r .1 .0)) (r .1 .1)),
       )
 
-      go : ((F′ : Seen) → Runs t F′ (m ∷ xs) G → Runs t F′ (ins m xs) G) → (b : Bool) → leb (m .key) (x .key) ≡ b → Runs t F (cond b (m ∷ x ∷ xs) (x ∷ ins m xs)) G
+      go : ((F′ : Seen) → Runs t F′ (m ∷ xs) G → Runs t F′ (ins m xs) G) → (b : Bool) → leb (m .key) (x .key) ≡ b
+          → Runs t F (cond b (m ∷ x ∷ xs) (x ∷ ins m xs)) G
       go ih true e = r
       go ih false e = swapped ih (sw .0 (leb-false (m .key) (x .key) e))
 

@@ -70,7 +70,8 @@ after-same t i j s c m h = go (allowed t s m) (allowed t c m) (allowed-same s c 
     go Allowed (Denied r) q = absurd (let z : _≡_ {A = ℕ} 0 1 = cc in omega arith)
     go (Denied r) Allowed q = absurd (let z : _≡_ {A = ℕ} 0 1 = cc in omega arith)
 
-pub along-same : (t : Table) (ps : List ℕ) (ms : List Move) (i : ℕ) (s c d : State) → length ps ≡ length ms → bareState c ≡ bareState s → (j : ℕ) → j ≤ length ms
+pub along-same : (t : Table) (ps : List ℕ) (ms : List Move) (i : ℕ) (s c d : State) → length ps ≡ length ms → bareState c ≡ bareState s → (j : ℕ)
+    → j ≤ length ms
     → bareState (stateBefore t ps c ms j) ≡ bareState (getD (along t i s ms) j d)
 unfolding stateBefore along
 along-same t ps [] i s c d l h zero k = h

@@ -9,6 +9,7 @@ use Rattle.lists.specs.Lists.{over}
 use Rattle.lists.specs.Over.{Pasted, over-two, over-column}
 use Rattle.lists.specs.Rows.{rows, length-rows, rows-ext, rows-take, map-rows, tails-rows}
 use Rattle.lists.specs.Filled.{Filled}
+use Rattle.words.specs.Copy.{copied-length, copied-each}
 use Rattle.semantics.specs.Words.{itemKind, itemWord, portOf, valueOf}
 use Rattle.semantics.specs.State.{entryOf, entriesOf, entryCount, nextOf, ownersOf, itemsOf, stateOf, stateWords}
 use Rattle.wellformed.specs.States.{StateSized, columnEntry, entriesFrom, entries-tails}
@@ -23,9 +24,17 @@ from-place i o w h =
     let x : i % 1024 ≡ i = omega arith in
     rw (m, x)
 
+-- a column of the words copied
+pub copied-column : (from column after : List ℕ) (n : ℕ) → n ≤ length from → length column ≡ 1024 → n ≤ 1024 → after ≡ over (take n from) column
+    → Filled 0 (λ k. getD from k 0) 1024 n after
+copied-column from column after n h size few e = record {
+  size = rw e (copied-length from column n h (omega arith) ∙ size);
+  each = λ k l. rw e (copied-each from column n h k l);
+}
+
 -- columns that hold those of the words, and each origin its place
-pub loaded : {s os ws gs : List ℕ} {n : ℕ} → StateSized s → n ≡ entryCount s → Filled 0 (λ k. getD (ownersOf s) k 0) 1024 (length (ownersOf s)) os
-    → Filled 0 (λ k. getD (itemsOf s) k 0) 1024 (length (itemsOf s)) ws → Filled 0 (λ k. k) 1024 n gs → HoldsIn (held os ws gs (record { len = n; next = nextOf s })) (stateOf s)
+pub loaded : {s os ws gs : List ℕ} {n : ℕ} → StateSized s → n ≡ entryCount s → Filled 0 (λ k. getD (ownersOf s) k 0) 1024 n os
+    → Filled 0 (λ k. getD (itemsOf s) k 0) 1024 n ws → Filled 0 (λ k. k) 1024 n gs → HoldsIn (held os ws gs (record { len = n; next = nextOf s })) (stateOf s)
 unfolding stateOf entriesFrom
 loaded {s} {os} {ws} {gs} {n} q e o w g =
     let all : length (ownersOf s) ≡ n = omega arith in

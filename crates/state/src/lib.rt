@@ -9,12 +9,13 @@ pub use parts::owners_of;
 use semantics::Refusal;
 use semantics::Sizes;
 use semantics::Verdict;
+use words::copy::copy_words;
+use words::copy::copy_words_at;
 ghost use Prim.Native.Nat.{ℕ, _+_, _*_, _≤_};
 ghost use mathlib.Core.Path.{_≡_};
 ghost use mathlib.Core.Bool.{true};
 ghost use mathlib.Core.List.{List, []};
-ghost use lib.ListN.{length, getD};
-ghost use Rattle.lists.specs.Over.{Pasted};
+ghost use lib.ListN.{length};
 ghost use Rattle.lists.specs.Filled.{Filled};
 ghost use Rattle.semantics.specs.State.{stateSizesOk, stateOf};
 ghost use Rattle.semantics.specs.Answers.{stateOwnVerdict};
@@ -81,23 +82,12 @@ pub fn load(
     ensures { λ r. ⌜ HoldsIn (held (now (owners .exit)) (now (items .exit)) (now (origins .exit)) r) (stateOf (now (state .entry))) ⌝ }
 {
     let len = parts::entry_count(state);
-    fill_column(parts::owners_of(state), owners);
-    fill_column(parts::items_of(state), items);
+    copy_words(parts::owners_of(state), len, owners);
+    copy_words(parts::items_of(state), len, items);
     number_column(len, origins);
     Extent {
         len,
         next: state[1],
-    }
-}
-
-fn fill_column(words: &[u32], column: &mut [u32; 1024])
-    requires { ⌜ (length (now words) ≤ 1024) × (length (now column) ≡ 1024) ⌝ }
-    ensures { λ _. ⌜ Filled 0 (λ k. getD (now (words .entry)) k 0) 1024 (length (now (words .entry))) (now (column .exit)) ⌝ }
-{
-    let mut i = 0;
-    while i < words.len() {
-        column[i] = words[i];
-        i += 1;
     }
 }
 
@@ -127,19 +117,7 @@ pub fn store<'a>(
     let n = at.len;
     target[0] = n as u32;
     target[1] = at.next;
-    put_column(owners, n, target, 2);
-    put_column(items, n, target, 2 + n);
+    copy_words_at(owners, n, target, 2);
+    copy_words_at(items, n, target, 2 + n);
     (2 + 2 * n) as u32
-}
-
-// The first n of a column, from place at on.
-fn put_column(column: &[u32; 1024], n: usize, target: &mut [u32], at: usize)
-    requires { ⌜ (n ≤ 1024) × (length (now column) ≡ 1024) × (at + n ≤ length (now target)) ⌝ }
-    ensures { λ _. ⌜ Pasted (now (target .entry)) at (now (column .entry)) n (now (target .exit)) ⌝ }
-{
-    let mut i = 0;
-    while i < n {
-        target[at + i] = column[i];
-        i += 1;
-    }
 }

@@ -45,8 +45,8 @@ returns-5 c =
     let sizes = (sym (c .before .before .before .before .before .before .before .before .before .sizes-ok .ensures) ∙ not-false _ (c .before .before .before .before .before .before .before .before .if1 .left)) in
     serial-open (a .table .now) (a .state .now) (a .log .now) (a .target .now) ok sizes (omega (arith, c .before .before .before .before .before .before .before .count-of .ensures .0, c .before .before .before .before .before .before .if2 .left)) (sym (c .before .before .before .begins-emit .ensures) ∙ c .before .before .if3 .left) (sym (c .before .open-in .ensures) ∙ c .if4 .taken)
 
-roomed-requires : tie.Need-roomed-requires
-roomed-requires c κs =
+serialize-log-requires : tie.Need-serialize-log-requires
+serialize-log-requires c κs =
     let a = c .before .before .before .before .before .before .before .before .before .before .before .before .before .before .before .before .before .before .before .args in
     let ok = (sym (c .before .before .before .before .before .before .before .before .before .before .before .before .before .before .ready .ensures .verdict) ∙ c .before .before .before .before .before .before .before .before .before .before .before .before .enum-told .given .1) in
     let sizes = (sym (c .before .before .before .before .before .before .before .before .before .before .before .sizes-ok .ensures) ∙ not-false _ (c .before .before .before .before .before .before .before .before .before .before .if1 .left)) in
@@ -58,9 +58,9 @@ returns-6 c =
     let a = c .before .before .before .before .before .before .before .before .before .before .before .before .before .before .before .before .before .before .before .before .before .before .args in
     let ok = (sym (c .before .before .before .before .before .before .before .before .before .before .before .before .before .before .before .before .before .ready .ensures .verdict) ∙ c .before .before .before .before .before .before .before .before .before .before .before .before .before .before .before .enum-told .given .1) in
     let sizes = (sym (c .before .before .before .before .before .before .before .before .before .before .before .before .before .before .sizes-ok .ensures) ∙ not-false _ (c .before .before .before .before .before .before .before .before .before .before .before .before .before .if1 .left)) in
-    serial-done (a .table .now) (a .state .now) (a .log .now) (a .target .now) ok sizes (omega (arith, c .before .before .before .before .before .before .before .before .before .before .before .before .count-of .ensures .0, c .before .before .before .before .before .before .before .before .before .before .before .if2 .left)) (sym (c .before .before .before .before .before .before .before .before .begins-emit .ensures) ∙ c .before .before .before .before .before .before .before .if3 .left) (sym (c .before .before .before .before .before .before .open-in .ensures) ∙ c .before .before .before .before .before .if4 .left) (c .before .before .roomed .ensures)
+    serial-done (a .table .now) (a .state .now) (a .log .now) (a .target .now) ok sizes (omega (arith, c .before .before .before .before .before .before .before .before .before .before .before .before .count-of .ensures .0, c .before .before .before .before .before .before .before .before .before .before .before .if2 .left)) (sym (c .before .before .before .before .before .before .before .before .begins-emit .ensures) ∙ c .before .before .before .before .before .before .before .if3 .left) (sym (c .before .before .before .before .before .before .open-in .ensures) ∙ c .before .before .before .before .before .if4 .left) (c .before .before .serialize-log .ensures)
 
 pub serialize-spec : {M : Type 1} → statement M
 serialize-spec =
     tie.close
-    (tie.spec (λ c κs. search needs) (λ c. search needs) returns (λ c. search needs) (λ c κs. search needs) returns-2 (λ c κs. search needs) (λ c. search needs) (λ c. search needs) returns-3 begins-emit-requires returns-4 open-in-requires returns-5 roomed-requires (λ c. search needs) returns-6)
+    (tie.spec (λ c κs. search needs) (λ c. search needs) returns (λ c. search needs) (λ c κs. search needs) returns-2 (λ c κs. search needs) (λ c. search needs) (λ c. search needs) returns-3 begins-emit-requires returns-4 open-in-requires returns-5 serialize-log-requires (λ c. search needs) returns-6)

@@ -1,0 +1,5 @@
+pub mod Places
+pub mod Used
+pub mod WordsAgain
+pub mod Replaying
+pub mod Turns
