@@ -16,7 +16,7 @@ form-ok-requires : tie.Need-form-ok-requires
 form-ok-requires c κs =
     let told = c .before .before .before .before .before .before .before .before in
     let ok = sym (told .before .before .ready .ensures .verdict) ∙ told .enum-told .given .1 in
-    (state-given _ _ ok .0, told .before .before .ready .ensures .starts ok)
+    record { table = state-given _ _ ok .0; starts = told .before .before .ready .ensures .starts ok }
 
 returns-3 : tie.Need-returns-3
 returns-3 c =
