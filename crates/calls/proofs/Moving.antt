@@ -21,21 +21,22 @@ use Rattle.wellformed.specs.Verdicts.{unless-intro, unless-false, FaultAt}
 use Rattle.state.specs.declared.State.{State}
 use Rattle.state.specs.Working.{stateIn, Stored}
 use Rattle.state.specs.Arrays.{HoldsIn}
+use Rattle.step.specs.declared.make.Made.{Made}
 use Rattle.step.specs.Make.{MadeAs}
 use Rattle.calls.specs.Results.{ComesTo}
 use Rattle.calls.specs.Moves.{moveMade}
 use Rattle.calls.proofs.Results.{fault-gives, passed-gives, too-short, long-enough}
 
 -- the move made on the loaded state
-module _ (t S w before : List ℕ) {v : Verdict} {s s′ : State}
-    (loaded : HoldsIn s (stateOf S)) (made : MadeAs v lineCeiling (tableOf t) 1 w s s′) where
-  stepped : {u : Verdict} → v ≡ u → stepWords lineCeiling (tableOf t) 1 (stateOf S) w ≡ steppedBy u (stateIn s′)
+module _ (t S w before : List ℕ) {m : Made} {s s′ : State}
+    (loaded : HoldsIn s (stateOf S)) (made : MadeAs m lineCeiling (tableOf t) 1 w s s′) where
+  stepped : {u : Verdict} → m .verdict ≡ u → stepWords lineCeiling (tableOf t) 1 (stateOf S) w ≡ steppedBy u (stateIn s′)
   stepped e = ap (λ x. stepWords lineCeiling (tableOf t) 1 x w) (sym (loaded .holds .value)) ∙ made .step ∙ rw e
 
-  pub moved-refused : {q : Refusal} → v ≡ Denied q → ComesTo (moveMade t S w) before before (Refused q)
+  pub moved-refused : {q : Refusal} → m .verdict ≡ Denied q → ComesTo (moveMade t S w) before before (Refused q)
   moved-refused e = record { outcome = rw (stepped e); target = rw (stepped e) }
 
-  pub moved-written : {after : List ℕ} {n : ℕ} → v ≡ Allowed → Stored s′ before after n → ComesTo (moveMade t S w) before after (Written n)
+  pub moved-written : {after : List ℕ} {n : ℕ} → m .verdict ≡ Allowed → Stored s′ before after n → ComesTo (moveMade t S w) before after (Written n)
   moved-written e k = record { outcome = rw (stepped e, k .words); target = rw (stepped e) (k .target) }
 
 -- five words, one by one

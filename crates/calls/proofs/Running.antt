@@ -19,6 +19,7 @@ use Rattle.wellformed.specs.Verdicts.{FaultAt}
 use Rattle.state.specs.declared.State.{State}
 use Rattle.state.specs.Working.{stateIn, Stored}
 use Rattle.state.specs.Arrays.{HoldsIn}
+use Rattle.run.specs.declared.Ran.{Ran}
 use Rattle.run.specs.Runs.{RanAs, ranBy}
 use Rattle.run.specs.Whole.{ran-whole}
 use Rattle.calls.specs.Results.{ComesTo}
@@ -26,15 +27,15 @@ use Rattle.calls.specs.Logs.{runMade}
 use Rattle.calls.proofs.Results.{fault-gives, passed-gives, too-short, long-enough, log-denied, log-missized, log-allowed}
 
 -- the run from the loaded state
-module _ (t S l before : List ℕ) {v : Verdict} {place : ℕ} {s s′ : State}
-    (loaded : HoldsIn s (stateOf S)) (ran : RanAs v place lineCeiling (tableOf t) l s s′) where
-  run-by : {u : Verdict} → v ≡ u → runOf lineCeiling t S l ≡ ranBy u place (stateIn s′)
+module _ (t S l before : List ℕ) {r : Ran} {s s′ : State}
+    (loaded : HoldsIn s (stateOf S)) (ran : RanAs r lineCeiling (tableOf t) l s s′) where
+  run-by : {u : Verdict} → r .verdict ≡ u → runOf lineCeiling t S l ≡ ranBy u (r .place) (stateIn s′)
   run-by e = sym (ran-whole t S l loaded ran) ∙ rw e
 
-  pub finish-refused : {q : Refusal} → v ≡ Denied q → ComesTo (runMade t S l) before before (MoveRefused place q)
+  pub finish-refused : {q : Refusal} → r .verdict ≡ Denied q → ComesTo (runMade t S l) before before (MoveRefused (r .place) q)
   finish-refused e = record { outcome = rw (run-by e); target = rw (run-by e) }
 
-  pub finish-written : {after : List ℕ} {n : ℕ} → v ≡ Allowed → Stored s′ before after n → ComesTo (runMade t S l) before after (Written n)
+  pub finish-written : {after : List ℕ} {n : ℕ} → r .verdict ≡ Allowed → Stored s′ before after n → ComesTo (runMade t S l) before after (Written n)
   finish-written e k = record { outcome = rw (run-by e, k .words); target = rw (run-by e) (k .target) }
 
 -- what `run` says

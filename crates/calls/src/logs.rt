@@ -32,8 +32,7 @@ fn run_and_store<'a>(
         &mut owners,
         &mut items,
         &mut origins,
-        at.len,
-        at.next,
+        at,
         log,
         State::MAX_ENTRIES,
     );
@@ -41,7 +40,7 @@ fn run_and_store<'a>(
     if let Verdict::Denied(refusal) = verdict {
         return Outcome::MoveRefused(ran.place, refusal);
     }
-    Outcome::Written(state::store(&owners, &items, ran.len, ran.next, target))
+    Outcome::Written(state::store(&owners, &items, ran.left, target))
 }
 
 // A log's moves one after another: the words written, or 1 to 4, 13, 6, 16.

@@ -1,7 +1,7 @@
 // The single move.
-ghost use mathlib.Core.List.{_∷_};
 ghost use mathlib.Core.Path.{_≡_};
 ghost use Rattle.semantics.specs.Answers.{answerOf, makeMove, makeMoveTarget};
+ghost use Rattle.words.specs.Head.{wordsIn};
 ghost use Rattle.calls.specs.Moves.{Movable, moveMade};
 ghost use Rattle.calls.specs.Results.{ComesTo};
 use ready::ready;
@@ -11,18 +11,18 @@ use semantics::Verdict;
 use state::State;
 use step::form::form_ok;
 use step::make::make;
+use words::head::MoveWords;
 
 // A move in order, with a target that is long enough: 7 to 12.
 fn make_and_store<'a>(
     table: &'a [u32],
     starts: &'a [u32; 65],
     state: &'a [u32],
-    head: u32,
-    picks: [u32; 4],
+    mv: MoveWords,
     target: &mut [u32],
 ) -> Outcome
     requires { ⌜ Movable (now table) (now starts) (now state) (now target) ⌝ }
-    ensures { λ r. ⌜ ComesTo (moveMade (now (table .entry)) (now (state .entry)) (head ∷ picks)) (now (target .entry)) (now (target .exit)) r ⌝ }
+    ensures { λ r. ⌜ ComesTo (moveMade (now (table .entry)) (now (state .entry)) (wordsIn mv)) (now (target .entry)) (now (target .exit)) r ⌝ }
 {
     let s = State::empty();
     let mut owners = s.owners;
@@ -35,10 +35,8 @@ fn make_and_store<'a>(
         &mut owners,
         &mut items,
         &mut origins,
-        at.len,
-        at.next,
-        head,
-        picks,
+        at,
+        mv,
         1,
         State::MAX_ENTRIES,
     );
@@ -46,7 +44,7 @@ fn make_and_store<'a>(
     if let Verdict::Denied(refusal) = verdict {
         return Outcome::Refused(refusal);
     }
-    Outcome::Written(state::store(&owners, &items, made.len, made.next, target))
+    Outcome::Written(state::store(&owners, &items, made.left, target))
 }
 
 // One move: the words written, or 1 to 12.
@@ -68,12 +66,14 @@ pub fn make_move<'a>(
         return Outcome::Refused(Refusal::MoveForm);
     }
     let starts = checked.starts;
+    let head = mv[0];
     let picks = [mv[1], mv[2], mv[3], mv[4]];
-    if !form_ok(table, &starts, mv[0], picks) {
+    let words = MoveWords { head, picks };
+    if !form_ok(table, &starts, words) {
         return Outcome::Refused(Refusal::MoveForm);
     }
     if target.len() < State::MAX_WORDS {
         return Outcome::Refused(Refusal::TargetTooShort);
     }
-    make_and_store(table, &starts, state, mv[0], picks, target)
+    make_and_store(table, &starts, state, words, target)
 }

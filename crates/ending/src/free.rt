@@ -1,5 +1,5 @@
 // What the end of a transaction leaves.
-ghost use Prim.Native.Nat.{ℕ, _%_, _^_, _≤_};
+ghost use Prim.Native.Nat.{_%_, _^_, _≤_};
 ghost use mathlib.Core.Path.{_≡_};
 ghost use mathlib.Core.Bool.{not, cond, _||_};
 ghost use lib.Dec.{eqb};
@@ -9,6 +9,7 @@ ghost use Rattle.semantics.specs.Move.{ended};
 ghost use Rattle.state.specs.Working.{held, stateIn};
 ghost use Rattle.state.specs.Arrays.{Arrays, HoldsIn};
 ghost use Rattle.ending.specs.End.{NoneBefore};
+use state::Extent;
 use words::item;
 
 // The owner of an entry that stays.
@@ -46,13 +47,16 @@ pub fn end_transaction(
     items: &mut [u32; 1024],
     origins: &mut [u32; 1024],
     from: usize,
-    n: usize,
+    at: Extent,
     id: u32,
     kind: u32,
-) -> usize
-    requires { ⌜ Arrays (now owners) (now items) (now origins) × (n ≤ 1024) × NoneBefore (now owners) id n from ⌝ }
-    ensures { λ r. ⌜ ((next : ℕ) → HoldsIn (held (now (owners .exit)) (now (items .exit)) (now (origins .exit)) r next) (ended (λ e. eqb (e .kind) kind) id (stateIn (held (now (owners .entry)) (now (items .entry)) (now (origins .entry)) n next)))) ⌝ }
+) -> Extent
+    requires { ⌜ Arrays (now owners) (now items) (now origins) × (at .len ≤ 1024) × NoneBefore (now owners) id (at .len) from ⌝ }
+    ensures { λ r. ⌜ HoldsIn (held (now (owners .exit)) (now (items .exit)) (now (origins .exit)) r)
+        (ended (λ e. eqb (e .kind) kind) id (stateIn (held (now (owners .entry)) (now (items .entry)) (now (origins .entry)) at))) ⌝ }
 {
+    let n = at.len;
+    let next = at.next;
     let mut i = from;
     let mut w = from;
     while i < n {
@@ -65,5 +69,5 @@ pub fn end_transaction(
         w += stays(owner, item, id, kind);
         i += 1;
     }
-    w
+    Extent { len: w, next }
 }

@@ -5,6 +5,7 @@ ghost use mathlib.Core.List.{List};
 ghost use lib.ListN.{length};
 ghost use Rattle.state.specs.Lent.{stateFrom, Columns};
 ghost use Rattle.ending.specs.End.{NoneBefore, Surveyed};
+use state::Extent;
 use words::item;
 
 // What a transaction owns: anything, an abort mark (stop mark), a message that is on no global port.
@@ -33,13 +34,14 @@ pub fn surveyed<'a>(
     owners: &'a [u32; 1024],
     items: &'a [u32; 1024],
     from: usize,
-    n: usize,
+    at: Extent,
     id: u32,
     globals: u32,
 ) -> Survey
-    requires { ⌜ Columns (now owners) (now items) n × NoneBefore (now owners) id n from ⌝ }
-    ensures { λ r. ⌜ ((gs : List ℕ) (next : ℕ) → Surveyed r (stateFrom (now (owners .entry)) (now (items .entry)) gs n next) id globals) ⌝ }
+    requires { ⌜ Columns (now owners) (now items) (at .len) × NoneBefore (now owners) id (at .len) from ⌝ }
+    ensures { λ r. ⌜ ((gs : List ℕ) → Surveyed r (stateFrom (now (owners .entry)) (now (items .entry)) gs at) id globals) ⌝ }
 {
+    let n = at.len;
     let mut open = false;
     let mut aborting = false;
     let mut inside = false;

@@ -9,6 +9,7 @@ ghost use Rattle.ending.specs.End.{NoneBefore, endVerdict};
 use crate::survey::surveyed;
 use semantics::Refusal;
 use semantics::Verdict;
+use state::Extent;
 use words::head;
 
 // An abort mark, or a message inside, stops a commit (kind 1); an abort needs an abort mark.
@@ -27,15 +28,15 @@ pub fn end_verdict<'a>(
     owners: &'a [u32; 1024],
     items: &'a [u32; 1024],
     from: usize,
-    n: usize,
+    at: Extent,
     kind: u32,
     id: u32,
     globals: u32,
 ) -> Verdict
-    requires { ⌜ Columns (now owners) (now items) n × NoneBefore (now owners) id n from ⌝ }
-    ensures { λ r. ⌜ ((gs : List ℕ) (next : ℕ) → r ≡ endVerdict kind globals id (stateFrom (now (owners .entry)) (now (items .entry)) gs n next)) ⌝ }
+    requires { ⌜ Columns (now owners) (now items) (at .len) × NoneBefore (now owners) id (at .len) from ⌝ }
+    ensures { λ r. ⌜ ((gs : List ℕ) → r ≡ endVerdict kind globals id (stateFrom (now (owners .entry)) (now (items .entry)) gs at)) ⌝ }
 {
-    let found = surveyed(owners, items, from, n, id, globals);
+    let found = surveyed(owners, items, from, at, id, globals);
     if !((0 < id) & found.open) {
         return Verdict::Denied(Refusal::NoTransaction);
     }

@@ -3,8 +3,10 @@ ghost use Prim.Native.Nat.{ℕ, _+_, _*_, _<_};
 ghost use mathlib.Core.Path.{_≡_};
 ghost use mathlib.Core.Bool.{true};
 ghost use lib.ListN.{length, getD, take, drop};
-ghost use Rattle.semantics.specs.Log.{moveCount, logSizesOk};
+ghost use Rattle.semantics.specs.Log.{moveCount, moveAt, logSizesOk};
+ghost use Rattle.words.specs.Head.{wordsIn};
 ghost use Rattle.log.specs.Form.{Place};
+use words::head::MoveWords;
 
 // The most moves of a log.
 pub const MAX_MOVES: usize = 1024;
@@ -39,4 +41,14 @@ pub fn picks_at(log: &[u32], i: usize) -> [u32; 4]
 {
     let at = 1 + count_of(log) + 4 * i;
     [log[at], log[at + 1], log[at + 2], log[at + 3]]
+}
+
+// All five words of it.
+pub fn move_at(log: &[u32], i: usize) -> MoveWords
+    requires { ⌜ Place (now log) i ⌝ }
+    ensures { λ r. ⌜ wordsIn r ≡ moveAt (now (log .entry)) i ⌝ }
+{
+    let head = head_at(log, i);
+    let picks = picks_at(log, i);
+    MoveWords { head, picks }
 }

@@ -56,7 +56,7 @@ module _ (x : Rule) (next home maker : ℕ) (got : List ℕ) where
           ahead = ahead-next tails (m .ahead) h _ (λ atoms. rw (step, add-one q) (stored-before _ _ _ (at + q) o w (maker * 1024 + q) (m .arrays) low entry _));
         }
 
-    pub making-done : makingCount x ≤ q → (n : ℕ) → HoldsIn (held os ws gs (at + makingCount x) n) (record { next = n; entries = all })
+    pub making-done : makingCount x ≤ q → (n : ℕ) → HoldsIn (held os ws gs (record { len = at + makingCount x; next = n })) (record { next = n; entries = all })
     making-done h n =
         let e : q ≡ makingCount x = omega (arith, m .ahead .within) in
         let done : rows (rowOf os ws gs) 0 (at + q) ≡ all = sym (append-nil _) ∙ ahead-done tails (m .ahead) h in

@@ -18,6 +18,7 @@ use Rattle.semantics.specs.declared.Verdict.the-variants.{Allowed}
 use Rattle.wellformed.specs.Picks.{ReactGiven}
 use Rattle.rules.specs.declared.decode.Rule.{Rule}
 use Rattle.rules.specs.Decode.{Decodes}
+use Rattle.state.specs.declared.Extent.{Extent}
 use Rattle.state.specs.Working.{rowOf, held, stateIn}
 use Rattle.state.specs.Arrays.{HoldsIn}
 use Rattle.reaction.specs.Decoded.{ruleIn, makingAtoms, makingCount}
@@ -36,13 +37,19 @@ pub record Reactable (x : Rule) (picks : List ℕ) (n next : ℕ) : Type 0 where
   pub room : n - x .consumes + makingCount x ≤ 1024
   pub id : x .begins ≡ true → next < 65536
 
-module _ (x : Rule) (d : Decodes x (ruleIn x)) (picks : List ℕ) (four : length picks ≡ 4) (os ws gs : List ℕ) (n next : ℕ)
-    (v : reactVerdict 1024 (ruleIn x) (stateIn (held os ws gs n next)) (take (x .consumes) picks) ≡ Allowed) where
+module _ (x : Rule) (d : Decodes x (ruleIn x)) (picks : List ℕ) (four : length picks ≡ 4) (os ws gs : List ℕ) (at : Extent)
+    (v : reactVerdict 1024 (ruleIn x) (stateIn (held os ws gs at)) (take (x .consumes) picks) ≡ Allowed) where
   abbrev ps : List ℕ
   ps = take (x .consumes) picks
 
+  abbrev n : ℕ
+  n = at .len
+
+  abbrev next : ℕ
+  next = at .next
+
   abbrev σ : State
-  σ = stateFrom os ws gs n next
+  σ = stateFrom os ws gs at
 
   given : ReactGiven (ruleIn x) σ ps × (length (reacted (ruleIn x) 0 σ ps .entries) ≤ 1024)
   unfolding stateIn
@@ -53,9 +60,9 @@ module _ (x : Rule) (d : Decodes x (ruleIn x)) (picks : List ℕ) (four : length
       let (g, room) = given in
       record {
         different = g .different;
-        in-place = places x d picks four os ws gs n next (g .ports);
-        enough = picks-fit x d picks four os ws gs n next g;
-        room = omega (arith, count-left x d picks four os ws gs n next 0 g);
+        in-place = places x d picks four os ws gs at (g .ports);
+        enough = picks-fit x d picks four os ws gs at g;
+        room = omega (arith, count-left x d picks four os ws gs at 0 g);
         id = λ h. ltb-true next 65536 (given-holds (begins (ruleIn x)) (ltb next 65536) (g .ids) (sym (d .begins) ∙ h));
       }
 
@@ -73,14 +80,14 @@ module _ (x : Rule) (d : Decodes x (ruleIn x)) (picks : List ℕ) (four : length
   reacted-is : (i home : ℕ) {found received : List ℕ} {es : List Entry} → found ≡ fourAt os ps → received ≡ fourAt ws ps → home ≡ least (take (x .consumes) found)
       → es ≡ map (merged (take (x .consumes) found)) (without ps 0 (rows (rowOf os ws gs) 0 n))
       → _≡_ {A = State} (record { next = nextAfter (x .begins) next; entries = es ++ productsFrom (x .class) next home (map valueOf received) i 0 (makingAtoms x) })
-      (reacted (ruleIn x) i (stateIn (held os ws gs n next)) ps)
+      (reacted (ruleIn x) i (stateIn (held os ws gs at)) ps)
   unfolding stateIn reacted
   reacted-is i home {received = received} {es = es} ef er home-is left =
-      let at = places x d picks four os ws gs n next (given .0 .ports) in
-      let owners = owners-found x d picks four os ws gs n next ef at in
+      let placed = places x d picks four os ws gs at (given .0 .ports) in
+      let owners = owners-found x d picks four os ws gs at ef placed in
       let kept : es ≡ map (merged (ownersAt σ ps)) (without ps 0 (σ .entries)) = left ∙ ap (λ (fs : List ℕ). map (merged fs) (without ps 0 (σ .entries))) owners in
       let new : productsFrom (x .class) next home (map valueOf received) i 0 (makingAtoms x) ≡ products (ruleIn x) σ (picked σ ps) i 0 (productAtoms (ruleIn x)) =
-      products-found i home er at (home-is ∙ ap least owners) in
+      products-found i home er placed (home-is ∙ ap least owners) in
       λ j. record { next = nextAfter (d .begins j) next; entries = kept j ++ new j }
 
   -- the picks taken out (os₁ ws₁ gs₁), the owners merged (os₂), the products appended
@@ -88,7 +95,7 @@ module _ (x : Rule) (d : Decodes x (ruleIn x)) (picks : List ℕ) (four : length
       → rows (rowOf os₁ ws₁ gs₁) 0 (n - x .consumes) ≡ without ps 0 (rows (rowOf os ws gs) 0 n)
       → ((j : ℕ) → j < n - x .consumes → getD os₂ j 0 ≡ mergedOwner (take (x .consumes) found) home (getD os₁ j 0))
       → HoldsIn s (record { next = nextAfter (x .begins) next; entries = rows (rowOf os₂ ws₁ gs₁) 0 (n - x .consumes) ++ productsFrom (x .class) next home (map valueOf received) i 0 (makingAtoms x) })
-      → HoldsIn s (reacted (ruleIn x) i (stateIn (held os ws gs n next)) ps)
+      → HoldsIn s (reacted (ruleIn x) i (stateIn (held os ws gs at)) ps)
   reacted-holds i home {found} os₁ ws₁ gs₁ os₂ {s} ef er home-is out same h =
       let left = merged-rows os₁ os₂ ws₁ gs₁ (take (x .consumes) found) home (n - x .consumes) home-is same ∙ ap (map (merged (take (x .consumes) found))) out in
       subst (λ (τ : State). HoldsIn s τ) (reacted-is i home ef er home-is left) h

@@ -2,10 +2,11 @@
 use Prim.Native.Nat.{ℕ, suc}
 use mathlib.Core.Path.{_≡_, refl}
 use mathlib.Core.Bool.{Bool, _&&_, not, cond}
-use mathlib.Core.List.{List, [], _∷_, map}
+use mathlib.Core.List.{List, [], _∷_, _++_, map}
 use lib.Dec.{eqb}
 use lib.ListN.{getD}
 use Rattle.lists.specs.Lists.{isIn, least}
+use Rattle.lists.specs.Rows.{rows}
 use Rattle.semantics.specs.Words.{itemKind, portOf, valueOf}
 use Rattle.semantics.specs.State.{Origin, Entry, State}
 use Rattle.semantics.specs.Move.{valueIn, kindMade, products}
@@ -13,6 +14,10 @@ use Rattle.semantics.specs.declared.Atom.{Atom}
 use Rattle.semantics.specs.declared.AtomValue.{AtomValue}
 use Rattle.semantics.specs.declared.AtomValue.the-variants.{Constant, Received}
 use Rattle.semantics.specs.Table as semantics
+use Rattle.rules.specs.declared.decode.Rule.{Rule}
+use Rattle.state.specs.declared.State as columns
+use Rattle.state.specs.Working.{entryIn}
+use Rattle.reaction.specs.Decoded.{makingAtoms}
 
 abbrev pub mergedOwner : List ℕ → ℕ → ℕ → ℕ
 mergedOwner os home o = cond (isIn o os) home o
@@ -44,6 +49,13 @@ productFrom class next home got o a = record {
 abbrev pub productsFrom : ℕ → ℕ → ℕ → List ℕ → ℕ → ℕ → List Atom → List Entry
 productsFrom class next home got i q [] = []
 productsFrom class next home got i q (a ∷ rest) = productFrom class next home got (record { maker = i; index = q }) a ∷ productsFrom class next home got i (suc q) rest
+
+-- lent columns with the products appended
+abbrev pub appended : Rule → ℕ → List ℕ → ℕ → columns.State → State
+appended x home received maker s = record {
+  next = nextAfter (x .begins) (s .next);
+  entries = rows (entryIn s) 0 (s .len) ++ productsFrom (x .class) (s .next) home (map valueOf received) maker 0 (makingAtoms x);
+}
 
 pub products-from : (r : semantics.Rule) (s : State) (es : List Entry) (i q : ℕ) (atoms : List Atom)
     → products r s es i q atoms ≡ productsFrom (r .class) (s .next) (least (map (λ e. e .owner) es)) (map (λ e. e .value) es) i q atoms

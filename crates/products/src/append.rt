@@ -1,19 +1,19 @@
 // The products of a reaction, made and appended.
-ghost use Prim.Native.Nat.{_+_, _-_, _≤_, _<_};
+ghost use Prim.Native.Nat.{_+_, _≤_, _<_};
 ghost use mathlib.Core.Path.{_≡_};
 ghost use mathlib.Core.Bool.{true};
-ghost use mathlib.Core.List.{map, _++_};
-ghost use lib.ListN.{take, drop};
-ghost use Rattle.lists.specs.Rows.{rows};
+ghost use mathlib.Core.List.{map};
 ghost use Rattle.semantics.specs.Words.{valueOf};
 ghost use Rattle.semantics.specs.Move.{kindMade};
-ghost use Rattle.state.specs.Working.{rowOf, held};
+ghost use Rattle.state.specs.Working.{held};
 ghost use Rattle.state.specs.Arrays.{Arrays, HoldsIn};
+ghost use Rattle.reaction.specs.Decoded.{makingCount};
 ghost use Rattle.products.specs.Narrow.{narrowValue, Narrow, Ready};
-ghost use Rattle.products.specs.Products.{ownerOfRole, nextAfter, valueMade, ItemMade, productsFrom};
+ghost use Rattle.products.specs.Products.{ownerOfRole, nextAfter, valueMade, ItemMade, appended};
 use rules::decode::Rule;
 use semantics::Atom;
 use semantics::AtomValue;
+use state::Extent;
 use words::item::item_of;
 use words::item::value_of;
 use words::origin::origin_of;
@@ -75,28 +75,33 @@ fn owner_made(class: u32, role: u16, home: u32, next: u32) -> u32
     }
 }
 
-pub fn next_after(begins: bool, next: u32) -> u32
+fn next_after(begins: bool, next: u32) -> u32
     requires { ⌜ next ≤ 65536 ⌝ }
     ensures { λ r. ⌜ r ≡ nextAfter begins next ⌝ }
 {
     if begins { next + 1 } else { next }
 }
 
-// The products follow in atom order; home owns the emits of a global rule and all of another rule. Answers the new number of entries.
+// The products follow in atom order; home owns the emits of a global rule and all of another rule.
+// Answers the new extent.
 pub fn append_products(
     owners: &mut [u32; 1024],
     items: &mut [u32; 1024],
     origins: &mut [u32; 1024],
-    n: usize,
-    next: u32,
+    at: Extent,
     rule: Rule,
     received: [u32; 4],
     home: u32,
     maker: u32,
-) -> usize
-    requires { ⌜ Arrays (now owners) (now items) (now origins) × (n + (rule .count - rule .consumes) ≤ 1024) × Ready rule next maker × (rule .begins ≡ true → next < 65536) ⌝ }
-    ensures { λ r. ⌜ HoldsIn (held (now (owners .exit)) (now (items .exit)) (now (origins .exit)) r (nextAfter (rule .begins) next)) (record { next = nextAfter (rule .begins) next; entries = rows (rowOf (now (owners .entry)) (now (items .entry)) (now (origins .entry))) 0 n ++ productsFrom (rule .class) next home (map valueOf received) maker 0 (drop (rule .consumes) (take (rule .count) (rule .atoms))) }) ⌝ }
+) -> Extent
+    requires columns { ⌜ Arrays (now owners) (now items) (now origins) ⌝ }
+    requires room { ⌜ at .len + makingCount rule ≤ 1024 ⌝ }
+    requires rule { ⌜ Ready rule (at .next) maker × (rule .begins ≡ true → at .next < 65536) ⌝ }
+    ensures { λ r. ⌜ HoldsIn (held (now (owners .exit)) (now (items .exit)) (now (origins .exit)) r)
+        (appended rule home received maker (held (now (owners .entry)) (now (items .entry)) (now (origins .entry)) at)) ⌝ }
 {
+    let n = at.len;
+    let next = at.next;
     let class = rule.class;
     let from = rule.consumes;
     let made = rule.count - from;
@@ -109,5 +114,8 @@ pub fn append_products(
         origins[w] = origin_of(maker, q as u32);
         q += 1;
     }
-    n + made
+    Extent {
+        len: n + made,
+        next: next_after(rule.begins, next),
+    }
 }

@@ -21,6 +21,7 @@ use Rattle.state.specs.Working.{rowOf}
 use Rattle.reaction.specs.Decoded.{ruleIn}
 use Rattle.wellformed.specs.Picks.{picks-within}
 use Rattle.state.specs.declared.State.{State}
+use Rattle.state.specs.declared.Extent.{Extent}
 use Rattle.state.specs.Lent.{stateFrom}
 use Rattle.semantics.specs.State as semantics
 
@@ -73,9 +74,12 @@ module _ (x : Rule) (d : Decodes x (ruleIn x)) (picks : List ℕ) (four : length
   pub count-picks : length ps ≡ x .consumes
   count-picks = length-take-le (x .consumes) picks (omega (arith, d .legal .most))
 
-  module _ (os ws gs : List ℕ) (n next : ℕ) where
+  module _ (os ws gs : List ℕ) (at : Extent) where
+    abbrev n : ℕ
+    n = at .len
+
     abbrev σ : semantics.State
-    σ = stateFrom os ws gs n next
+    σ = stateFrom os ws gs at
 
     -- 7: the picks are places
     pub places : onPorts (consumed (ruleIn x)) (picked σ ps) ≡ true → Places n ps

@@ -20,6 +20,7 @@ use Rattle.wellformed.specs.Verdicts.{both-allowed, unless-allowed}
 use Rattle.wellformed.specs.Picks.{ReactGiven, react-given, left-length}
 use Rattle.wellformed.specs.Length.{length-reacted}
 use Rattle.reaction.specs.Decoded.{ruleIn, count-products, makingCount}
+use Rattle.state.specs.declared.Extent.{Extent}
 use Rattle.state.specs.Lent.{stateFrom}
 use Rattle.reaction.specs.Places.{count-picks}
 use Rattle.semantics.specs.Table as rules
@@ -47,9 +48,12 @@ module _ (x : Rule) (d : Decodes x (ruleIn x)) (picks : List ℕ) (four : length
   abbrev ps : List ℕ
   ps = take (x .consumes) picks
 
-  module _ (os ws gs : List ℕ) (n next : ℕ) where
+  module _ (os ws gs : List ℕ) (at : Extent) where
+    abbrev n : ℕ
+    n = at .len
+
     abbrev σ : State
-    σ = stateFrom os ws gs n next
+    σ = stateFrom os ws gs at
 
     -- 12: how many entries are left
     pub picks-fit : ReactGiven (ruleIn x) σ ps → x .consumes ≤ n

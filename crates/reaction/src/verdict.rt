@@ -19,6 +19,8 @@ use crate::picks::all_differ;
 use rules::decode::Rule;
 use semantics::Refusal;
 use semantics::Verdict;
+use state::Extent;
+use state::State;
 use words::item::MESSAGE;
 use words::item::kind_of;
 use words::item::port_of;
@@ -95,15 +97,16 @@ fn owners_fit(class: u32, owners: &[u32; 1024], picks: [u32; 4], k: usize) -> bo
 pub fn react_verdict<'a>(
     owners: &'a [u32; 1024],
     items: &'a [u32; 1024],
-    n: usize,
-    next: u32,
+    at: Extent,
     rule: Rule,
     picks: [u32; 4],
     ceiling: usize,
 ) -> Verdict
-    requires { ⌜ Columns (now owners) (now items) n × Decodes rule (ruleIn rule) ⌝ }
-    ensures { λ r. ⌜ ((gs : List ℕ) → r ≡ reactVerdict ceiling (ruleIn rule) (stateFrom (now (owners .entry)) (now (items .entry)) gs n next) (take (rule .consumes) picks)) ⌝ }
+    requires { ⌜ Columns (now owners) (now items) (at .len) × Decodes rule (ruleIn rule) ⌝ }
+    ensures { λ r. ⌜ ((gs : List ℕ)
+        → r ≡ reactVerdict ceiling (ruleIn rule) (stateFrom (now (owners .entry)) (now (items .entry)) gs at) (take (rule .consumes) picks)) ⌝ }
 {
+    let n = at.len;
     let k = rule.consumes;
     if !(all_differ(picks, k) & on_ports(items, n, consume_ports(rule), picks, k)) {
         return Verdict::Denied(Refusal::WrongPick);
@@ -111,7 +114,7 @@ pub fn react_verdict<'a>(
     if !owners_fit(rule.class, owners, picks, k) {
         return Verdict::Denied(Refusal::WrongOwner);
     }
-    if rule.begins & (65536 <= next) {
+    if rule.begins & (State::MAX_NEXT <= at.next) {
         return Verdict::Denied(Refusal::NoMoreIds);
     }
     let count = rule.count;

@@ -27,7 +27,9 @@ use Rattle.cells.specs.Shapes.{table-shaped}
 use Rattle.state.specs.declared.State.{State}
 use Rattle.words.specs.Origin.{originOf}
 use Rattle.state.specs.Working.{stateIn}
+use Rattle.step.specs.declared.make.Made.{Made}
 use Rattle.step.specs.Make.{MadeAs}
+use Rattle.run.specs.declared.Ran.{Ran}
 use Rattle.run.specs.Runs.{movesFrom, moves-tails, moves-whole, Reached, reached-start, reached-made, reached-refused, reached-end}
 use Rattle.serial_laws.specs.Acts.{Recorded, endsBegun, endAfter}
 use Rattle.recording.specs.Marks.{Lent, OneOf}
@@ -65,10 +67,6 @@ endAfter-more p e (x ∷ xs) a = endAfter-more p (cond (endsBegun p x) (x .place
 after-accepted : (ceiling : ℕ) (t : Table) (i : ℕ) (s : semantics.State) (w : List ℕ) (s′ : semantics.State) → stepWords ceiling t i s w ≡ to s′ → after t i s (moveOf t w) ≡ s′
 unfolding after step
 after-accepted ceiling t i s w s′ e = let a = accepted-move ceiling t i s w s′ e in rw (a .allows, a .result)
-
--- as the code reads them
-pub words-read : (l : List ℕ) (i : ℕ) {head : ℕ} {picks : List ℕ} → head ≡ getD l (1 + i) 0 → picks ≡ take 4 (drop (1 + moveCount l + 4 * i) l) → head ∷ picks ≡ moveAt l i
-words-read l i h p = rw (h, p)
 
 grown-length : (begun : List ℕ) (at w : ℕ) (c : Bool) → length (cond c begun (set begun at w)) ≡ length begun
 grown-length begun at w true = refl
@@ -131,26 +129,27 @@ module _ {T index l : List ℕ} {s₀ : State} {ceiling : ℕ} {before : List �
     recording-id more = (h .tracked .low, omega (arith, h .tracked .high, recording-place more))
 
     -- no move is left
-    pub recording-end : moveCount l ≤ i → RecordedAs Allowed i ceiling (tableOf T) l s₀ s origins members before ended
+    pub recording-end : moveCount l ≤ i → {ran : Ran} → ran .verdict ≡ Allowed → ran .place ≡ i
+        → RecordedAs ran ceiling (tableOf T) l s₀ s origins members before ended
     unfolding acts
-    recording-end q =
+    recording-end q said at =
         let all : h .made ≡ acts (tableOf T) 0 (stateIn s₀) (map (moveOf (tableOf T)) (movesOf l)) =
         sym (append-nil (h .made)) ∙ (rw (moves-tails l .none i q) at (h .so-far)) in
         record {
-          ran = reached-end (h .reached) q;
+          ran = reached-end (h .reached) q said at;
           recordings = λ v. rw (← all) (record { each = All-map (λ a d. d .recorded) (h .made) (h .each); ends = h .ends });
         }
 
     -- a move is noted, decided and made
     module _ (more : i < moveCount l) {head : ℕ} {picks : List ℕ} (words : head ∷ picks ≡ moveAt l i) (four : length picks ≡ 4)
         {origins′ members₁ ended′ : List ℕ} (noted : MoveNoted (s .owners) (s .items) (s .origins) (s .len) begun (s₀ .next) head picks i origins members ended origins′ members₁ ended′)
-        {v : Verdict} {s′ : State} (step : MadeAs v ceiling (tableOf T) (i + 1) (head ∷ picks) s s′)
+        {x : Made} {s′ : State} (step : MadeAs x ceiling (tableOf T) (i + 1) (head ∷ picks) s s′)
         {begun′ members′ : List ℕ} (marked : (begun′ ≡ ifGrown (s .next) (s′ .next) begun (s .next - s₀ .next) ((i + 1) * 1024)) × (members′ ≡ ifGrown (s .next) (s′ .next) members₁ i ((i + 1) * 1024)))
       where
         place-fits : i < 1024
         place-fits = recording-place more
 
-        of-log : MadeAs v ceiling (tableOf T) (i + 1) (moveAt l i) s s′
+        of-log : MadeAs x ceiling (tableOf T) (i + 1) (moveAt l i) s s′
         of-log = rw (← words) step
 
         members-are : members′ ≡ cond (eqb (s .next) (s′ .next)) (set members i (markBy begun (s₀ .next) (concernedBy (s .owners) head picks))) (set (set members i (markBy begun (s₀ .next) (concernedBy (s .owners) head picks))) i ((i + 1) * 1024))
@@ -167,13 +166,14 @@ module _ {T index l : List ℕ} {s₀ : State} {ceiling : ℕ} {before : List �
           begun = ap length (marked .0) ∙ grown-length begun (s .next - s₀ .next) ((i + 1) * 1024) (eqb (s .next) (s′ .next)) ∙ h .room .begun;
         }
 
-        pub recording-refused : {q : Refusal} → v ≡ Denied q → RecordedAs v i ceiling (tableOf T) l s₀ s′ origins′ members′ before ended′
-        recording-refused {q} e = record {
-          ran = reached-refused (h .reached) more of-log e;
-          recordings = λ a. absurd (denied≢allowed (sym e ∙ a));
+        pub recording-refused : {q : Refusal} → x .verdict ≡ Denied q → {ran : Ran} → ran .verdict ≡ x .verdict → ran .place ≡ i
+            → RecordedAs ran ceiling (tableOf T) l s₀ s′ origins′ members′ before ended′
+        recording-refused {q} e said at = record {
+          ran = reached-refused (h .reached) more of-log e said at;
+          recordings = λ a. absurd (denied≢allowed (sym e ∙ sym said ∙ a));
         }
 
-        module _ (ok : v ≡ Allowed) where
+        module _ (ok : x .verdict ≡ Allowed) where
           stepped : stepWords ceiling (tableOf T) (i + 1) (stateIn s) (head ∷ picks) ≡ to (stateIn s′)
           stepped = rw ok at (step .step)
 

@@ -14,12 +14,12 @@ use Rattle.semantics.specs.State.{Origin, Entry}
 use Rattle.semantics.specs.Move.{moveOf}
 use Rattle.semantics.specs.Log.{moveCount, movesOf}
 use Rattle.semantics.specs.Serial.{Act, beginsEmit, anyOpen, acts}
-use Rattle.semantics.specs.declared.Verdict.{Verdict}
 use Rattle.semantics.specs.declared.Verdict.the-variants.{Allowed}
 use Rattle.wellformed.specs.Held.{Held}
 use Rattle.state.specs.declared.State.{State}
 use Rattle.state.specs.Working.{rowOf, stateIn}
 use Rattle.step.specs.Make.{Workable}
+use Rattle.run.specs.declared.Ran.{Ran}
 use Rattle.run.specs.Runs.{Prepared, RanAs}
 use Rattle.serial_laws.specs.Acts.{Recorded, endAfter}
 use Rattle.recording.specs.Marks.{marksOf, NotedAt}
@@ -75,6 +75,6 @@ pub record Recordings (t : Table) (l : List ℕ) (all : List Act) (origins membe
   pub each : All (Recorded t l origins members) all
   pub ends : (p : ℕ) → p < 1024 → getD ended p 0 ≡ endAfter p (getD before p 0) all
 
-pub record RecordedAs (v : Verdict) (place ceiling : ℕ) (t : Table) (l : List ℕ) (s s′ : State) (origins members before ended : List ℕ) : Type 0 where
-  pub ran : RanAs v place ceiling t l s s′
-  pub recordings : v ≡ Allowed → Recordings t l (acts t 0 (stateIn s) (map (moveOf t) (movesOf l))) origins members before ended
+pub record RecordedAs (r : Ran) (ceiling : ℕ) (t : Table) (l : List ℕ) (s s′ : State) (origins members before ended : List ℕ) : Type 0 where
+  pub ran : RanAs r ceiling t l s s′
+  pub recordings : r .verdict ≡ Allowed → Recordings t l (acts t 0 (stateIn s) (map (moveOf t) (movesOf l))) origins members before ended

@@ -12,12 +12,13 @@ ghost use Rattle.recording.specs.Marks.{Lent};
 ghost use Rattle.recording.specs.Recordings.{wordsAt, concernedBy, markBy, MoveNoted, ifGrown, Recordable, RecordRoom, RecordedAs};
 use crate::ends::note_if_end;
 use log::count_of;
-use log::head_at;
-use log::picks_at;
+use log::move_at;
 use run::Ran;
 use semantics::Verdict;
+use state::Extent;
 use step::make::make;
 use words::head;
+use words::head::MoveWords;
 use words::origin;
 use words::picks::put_picks;
 
@@ -78,16 +79,19 @@ fn note_move<'a>(
     n: usize,
     begun: &'a [u32; 1024],
     first: u32,
-    head: u32,
-    picks: [u32; 4],
+    mv: MoveWords,
     i: usize,
     wanted: &mut [u32],
     members: &mut [u32; 1024],
     ended: &mut [u32; 1024],
 )
-    requires { ⌜ Lent (now owners) (now items) (now origins) n × (length (now begun) ≡ 1024) × (i < 1024) × (4 * i + 4 ≤ length (now wanted)) × (length (now members) ≡ 1024) × (length (now ended) ≡ 1024) ⌝ }
-    ensures { λ _. ⌜ MoveNoted (now (owners .entry)) (now (items .entry)) (now (origins .entry)) n (now (begun .entry)) first head picks i (now (wanted .entry)) (now (members .entry)) (now (ended .entry)) (now (wanted .exit)) (now (members .exit)) (now (ended .exit)) ⌝ }
+    requires { ⌜ Lent (now owners) (now items) (now origins) n × (length (now begun) ≡ 1024) × (i < 1024) × (4 * i + 4 ≤ length (now wanted))
+        × (length (now members) ≡ 1024) × (length (now ended) ≡ 1024) ⌝ }
+    ensures { λ _. ⌜ MoveNoted (now (owners .entry)) (now (items .entry)) (now (origins .entry)) n (now (begun .entry)) first (mv .head) (mv .picks) i
+        (now (wanted .entry)) (now (members .entry)) (now (ended .entry)) (now (wanted .exit)) (now (members .exit)) (now (ended .exit)) ⌝ }
 {
+    let head = mv.head;
+    let picks = mv.picks;
     note_picks(origins, picks, i, wanted);
     members[i] = mark_of(begun, first, concerned(owners, head, picks));
     note_if_end(owners, items, origins, n, head, i, ended);
@@ -121,8 +125,7 @@ pub fn record<'a>(
     owners: &mut [u32; 1024],
     items: &mut [u32; 1024],
     origins: &mut [u32; 1024],
-    mut n: usize,
-    mut next: u32,
+    start: Extent,
     log: &'a [u32],
     ceiling: usize,
     wanted: &mut [u32],
@@ -130,24 +133,28 @@ pub fn record<'a>(
     ended: &mut [u32; 1024],
     begun: &mut [u32; 1024],
 ) -> Ran
-    requires { ⌜ Recordable (now table) (now starts) (now log) (held (now owners) (now items) (now origins) n next) ceiling × RecordRoom (now log) (now wanted) (now members) (now ended) (now begun) ⌝ }
-    ensures { λ r. ⌜ RecordedAs (r .verdict) (r .place) ceiling (tableOf (now (table .entry))) (now (log .entry)) (held (now (owners .entry)) (now (items .entry)) (now (origins .entry)) n next) (held (now (owners .exit)) (now (items .exit)) (now (origins .exit)) (r .len) (r .next)) (now (wanted .exit)) (now (members .exit)) (now (ended .entry)) (now (ended .exit)) × RecordRoom (now (log .entry)) (now (wanted .exit)) (now (members .exit)) (now (ended .exit)) (now (begun .exit)) ⌝ }
+    requires log { ⌜ Recordable (now table) (now starts) (now log) (held (now owners) (now items) (now origins) start) ceiling ⌝ }
+    requires room { ⌜ RecordRoom (now log) (now wanted) (now members) (now ended) (now begun) ⌝ }
+    ensures ran { λ r. ⌜ RecordedAs r ceiling (tableOf (now (table .entry))) (now (log .entry))
+        (held (now (owners .entry)) (now (items .entry)) (now (origins .entry)) start)
+        (held (now (owners .exit)) (now (items .exit)) (now (origins .exit)) (r .left))
+        (now (wanted .exit)) (now (members .exit)) (now (ended .entry)) (now (ended .exit)) ⌝ }
+    ensures room { λ _. ⌜ RecordRoom (now (log .entry)) (now (wanted .exit)) (now (members .exit)) (now (ended .exit)) (now (begun .exit)) ⌝ }
 {
-    let first = next;
+    let first = start.next;
     let k = count_of(log);
+    let mut left = start;
     let mut i = 0;
     while i < k {
-        let head = head_at(log, i);
-        let picks = picks_at(log, i);
+        let mv = move_at(log, i);
         note_move(
             owners,
             items,
             origins,
-            n,
+            left.len,
             begun,
             first,
-            head,
-            picks,
+            mv,
             i,
             wanted,
             members,
@@ -159,32 +166,30 @@ pub fn record<'a>(
             owners,
             items,
             origins,
-            n,
-            next,
-            head,
-            picks,
+            left,
+            mv,
             (i + 1) as u32,
             ceiling,
         );
         let verdict = made.verdict;
-        let after = made.next;
-        n = made.len;
-        note_begin(begun, members, i, first, next, after);
-        next = after;
+        let before = left.next;
+        left = made.left;
+        note_begin(begun, members, i, first, before, left.next);
         if let Verdict::Denied(_) = verdict {
+            let place = i as u32;
             return Ran {
                 verdict,
-                place: i as u32,
-                len: n,
-                next,
+                place,
+                left,
             };
         }
         i += 1;
     }
+    let place = i as u32;
+    let verdict = Verdict::Allowed;
     Ran {
-        verdict: Verdict::Allowed,
-        place: i as u32,
-        len: n,
-        next,
+        verdict,
+        place,
+        left,
     }
 }

@@ -15,11 +15,11 @@ use Rattle.semantics.specs.Move.{picksUsed}
 use Rattle.semantics.specs.Log.{moveCount, logWords}
 use Rattle.semantics.specs.Serial.{Act, replayed}
 use Rattle.semantics.specs.declared.Refusal.{Refusal}
-use Rattle.semantics.specs.declared.Verdict.{Verdict}
 use Rattle.semantics.specs.declared.Verdict.the-variants.{Allowed, Denied}
 use Rattle.state.specs.declared.State.{State}
 use Rattle.state.specs.Working.{stateIn}
 use Rattle.state.specs.Arrays.{count-in}
+use Rattle.step.specs.declared.make.Made.{Made}
 use Rattle.step.specs.Make.{Workable, MadeAs}
 use Rattle.serial_laws.specs.Acts.{replayFits}
 use Rattle.replay.specs.Replay.{placeIn, Words, Replayable, Arranged, ReplayedAs}
@@ -60,7 +60,7 @@ module _ {T index : List ℕ} {start : State} {l order origins members : List �
     -- the words of this turn, written over `out`, and what they leave of s
     module _ (more : j < moveCount l) {head : ℕ} {picks : List ℕ} (w : Words (tableOf T) (stateIn s .entries) l origins members (getD order j 0) head picks)
         {new : List ℕ} (p : Pasted (set out (1 + j) head) (1 + moveCount l + 4 * j) picks 4 new)
-        {v : Verdict} {s′ : State} (made : MadeAs v ceiling (tableOf T) (getD order j 0 + 1) (head ∷ picks) s s′) where
+        {x : Made} {s′ : State} (made : MadeAs x ceiling (tableOf T) (getD order j 0 + 1) (head ∷ picks) s s′) where
       four : length picks ≡ 4
       four =
           let u = picksUsed (tableOf T) (getD l (1 + getD order j 0) 0) in
@@ -72,7 +72,7 @@ module _ {T index : List ℕ} {start : State} {l order origins members : List �
       size-new : length new ≡ length first
       size-new = p .size ∙ length-set out (1 + j) head ∙ g .size
 
-      pub going-denied : {q : Refusal} → v ≡ Denied q → {before : List ℕ} → first ≡ set before 0 (moveCount l)
+      pub going-denied : {q : Refusal} → x .verdict ≡ Denied q → {before : List ℕ} → first ≡ set before 0 (moveCount l)
           → ReplayedAs false ceiling (tableOf T) (stateIn start) l order origins members before new
       going-denied {q} denied {before} e = record {
         fits = λ xs h.
@@ -82,7 +82,7 @@ module _ {T index : List ℕ} {start : State} {l order origins members : List �
         size = size-new ∙ ap length e ∙ length-set before 0 (moveCount l);
       }
 
-      pub going-next : v ≡ Allowed → Going T index start l order origins members ceiling first (j + 1) s′ new
+      pub going-next : x .verdict ≡ Allowed → Going T index start l order origins members ceiling first (j + 1) s′ new
       unfolding row
       going-next ok =
           let e : new ≡ row out (moveCount l) j head picks more going-room four = p .value in

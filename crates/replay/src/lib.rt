@@ -17,17 +17,13 @@ ghost use Rattle.replay.specs.Replay.{placeIn, headAgain, Words, Readabl
 use log::head_at;
 use rules::decode::consumes_at;
 use semantics::Verdict;
+use state::Extent;
 use step::make::make;
 use table::parts::sizes_of;
 use words::head;
+use words::head::MoveWords;
 use words::picks::put_picks;
 use words::search::chunk_of;
-
-// The words of a move.
-struct Again {
-    head: u32,
-    picks: [u32; 4],
-}
 
 // The place of the first entry of that origin, n if there is none.
 fn place_of(origins: &[u32; 1024], n: usize, origin: u32) -> usize
@@ -131,7 +127,7 @@ fn again_at<'a>(
     wanted: &'a [u32],
     members: &'a [u32; 1024],
     p: usize,
-) -> Again
+) -> MoveWords
     requires { ⌜ Readable (now table) (now starts) (now log) (now wanted) (now members) × Columns (now owners) (now origins) n × (p < moveCount (now log)) ⌝ }
     ensures { λ r. ⌜ ((ws : List ℕ) → Words (tableOf (now (table .entry))) (rows (rowOf (now (owners .entry)) ws (now (origins .entry))) 0 n) (now (log .entry)) (now (wanted .entry)) (now (members .entry)) p (r .head) (r .picks)) ⌝ }
 {
@@ -140,15 +136,16 @@ fn again_at<'a>(
     let k = picks_used(table, starts, was);
     let picked = wanted_at(wanted, p);
     let picks = places_of(origins, n, picked, k);
-    Again { head, picks }
+    MoveWords { head, picks }
 }
 
 // The move at place j of a log of k moves.
-fn put_move(out: &mut [u32], k: usize, j: usize, head: u32, picks: [u32; 4])
+fn put_move(out: &mut [u32], k: usize, j: usize, mv: MoveWords)
     requires { ⌜ (j < k) × (k ≤ 1024) × (1 + 5 * k ≤ length (now out)) ⌝ }
-    ensures { λ _. ⌜ Pasted (set (now (out .entry)) (1 + j) head) (1 + k + 4 * j) picks 4 (now (out .exit)) ⌝ }
+    ensures { λ _. ⌜ Pasted (set (now (out .entry)) (1 + j) (mv .head)) (1 + k + 4 * j) (mv .picks) 4 (now (out .exit)) ⌝ }
 {
-    out[1 + j] = head;
+    let picks = mv.picks;
+    out[1 + j] = mv.head;
     put_picks(out, 1 + k + 4 * j, picks);
 }
 
@@ -160,8 +157,7 @@ pub fn replay<'a>(
     owners: &mut [u32; 1024],
     items: &mut [u32; 1024],
     origins: &mut [u32; 1024],
-    mut n: usize,
-    mut next: u32,
+    start: Extent,
     log: &'a [u32],
     order: &'a [u32; 1024],
     wanted: &'a [u32],
@@ -169,28 +165,37 @@ pub fn replay<'a>(
     ceiling: usize,
     out: &mut [u32],
 ) -> bool
-    requires { ⌜ Replayable (now table) (now starts) (held (now owners) (now items) (now origins) n next) (now log) (now order) (now wanted) (now members) ceiling (now out) ⌝ }
-    ensures { λ r. ⌜ ReplayedAs r ceiling (tableOf (now (table .entry))) (stateIn (held (now (owners .entry)) (now (items .entry)) (now (origins .entry)) n next)) (now (log .entry)) (now (order .entry)) (now (wanted .entry)) (now (members .entry)) (now (out .entry)) (now (out .exit)) ⌝ }
+    requires { ⌜ Replayable (now table) (now starts) (held (now owners) (now items) (now origins) start)
+        (now log) (now order) (now wanted) (now members) ceiling (now out) ⌝ }
+    ensures { λ r. ⌜ ReplayedAs r ceiling (tableOf (now (table .entry))) (stateIn (held (now (owners .entry)) (now (items .entry)) (now (origins .entry)) start))
+        (now (log .entry)) (now (order .entry)) (now (wanted .entry)) (now (members .entry)) (now (out .entry)) (now (out .exit)) ⌝ }
 {
     let k = log[0] as usize;
     out[0] = log[0];
+    let mut left = start;
     let mut j = 0;
     while j < k {
         let p = order[j] as usize;
-        let m = again_at(table, starts, owners, origins, n, log, wanted, members, p);
-        let head = m.head;
-        let picks = m.picks;
-        put_move(out, k, j, head, picks);
+        let mv = again_at(
+            table,
+            starts,
+            owners,
+            origins,
+            left.len,
+            log,
+            wanted,
+            members,
+            p,
+        );
+        put_move(out, k, j, mv);
         let made = make(
             table,
             starts,
             owners,
             items,
             origins,
-            n,
-            next,
-            head,
-            picks,
+            left,
+            mv,
             (p + 1) as u32,
             ceiling,
         );
@@ -198,8 +203,7 @@ pub fn replay<'a>(
         if let Verdict::Denied(_) = verdict {
             return false;
         }
-        n = made.len;
-        next = made.next;
+        left = made.left;
         j += 1;
     }
     true

@@ -58,8 +58,7 @@ fn of_parts<'a>(
         &mut owners,
         &mut items,
         &mut origins,
-        at.len,
-        at.next,
+        at,
         log,
         &mut lines,
     );

@@ -19,6 +19,7 @@ use Rattle.semantics.specs.declared.Verdict.the-variants.{Allowed, Denied}
 use Rattle.state.specs.declared.State.{State}
 use Rattle.state.specs.Working.{stateIn}
 use Rattle.state.specs.Arrays.{count-in}
+use Rattle.step.specs.declared.make.Made.{Made}
 use Rattle.step.specs.Make.{Workable, MadeAs}
 use Rattle.run.specs.Runs.{Prepared, movesFrom, moves-tails, moves-whole}
 
@@ -32,6 +33,10 @@ lineWords (x ∷ xs) = x .place ∷ x .answer ∷ x .entries ∷ x .next ∷ lin
 abbrev pub answerIn : Verdict → ℕ
 answerIn Allowed = 0
 answerIn (Denied q) = number q
+
+-- the program's lines of a log from the state in lent columns
+abbrev pub linesIn : Table → List ℕ → State → List Line
+linesIn t l s = linesFrom lineCeiling t 0 (stateIn s) (movesOf l)
 
 pub record Traceable (t index l : List ℕ) (s : State) (target : List ℕ) : Type 0 where
   pub prepared : Prepared t index l
@@ -72,18 +77,18 @@ abbrev ifMade : Verdict → List Line → List Line
 ifMade Allowed xs = xs
 ifMade (Denied q) xs = []
 
-made-lines : (v : Verdict) {ceiling : ℕ} {t : Table} {i : ℕ} {w : List ℕ} {s s′ : State} → MadeAs v ceiling t (i + 1) w s s′ → (rest : List (List ℕ))
+made-lines : (v : Verdict) {x : Made} {ceiling : ℕ} {t : Table} {i : ℕ} {w : List ℕ} {s s′ : State} → x .verdict ≡ v → MadeAs x ceiling t (i + 1) w s s′ → (rest : List (List ℕ))
     → linesFrom ceiling t i (stateIn s) (w ∷ rest) ≡ lineOf i (answerIn v) (stateIn s′) ∷ ifMade v (linesFrom ceiling t (i + 1) (stateIn s′) rest)
 unfolding linesFrom
-made-lines Allowed {i = i} m rest = rw (rw (add-one i) at (m .step), add-one i)
-made-lines (Denied q) {i = i} m rest = rw (rw (add-one i) at (m .step), m .same q refl)
+made-lines Allowed {i = i} e m rest = rw (rw (add-one i, e) at (m .step), add-one i)
+made-lines (Denied q) {i = i} e m rest = rw (rw (add-one i, e) at (m .step), m .same q e)
 
 -- ---- the loop: at place i the lines of the moves before it are written, and s is the state there
 
 pub record Tracing (t : Table) (l : List ℕ) (start : State) (before : List ℕ) (i : ℕ) (s : State) (after : List ℕ) : Type 0 where
   pub made : List Line
   pub count : length made ≡ i
-  pub ahead : Ahead (movesFrom l) (moveCount l) (λ ms. made ++ linesFrom lineCeiling t i (stateIn s) ms) i (linesFrom lineCeiling t 0 (stateIn start) (movesOf l))
+  pub ahead : Ahead (movesFrom l) (moveCount l) (λ ms. made ++ linesFrom lineCeiling t i (stateIn s) ms) i (linesIn t l start)
   pub target : after ≡ over (lineWords made) before
   pub size : length after ≡ length before
   pub workable : Workable s lineCeiling
@@ -100,52 +105,52 @@ tracing-start t l before w = record {
 
 module _ {t : Table} {l : List ℕ} {start : State} {before : List ℕ} {i : ℕ} {s : State} {after : List ℕ} (h : Tracing t l start before i s after) where
   -- all lines are written
-  traced : (xs : List Line) {new : List ℕ} {n : ℕ} → length xs ≡ n → new ≡ over (lineWords xs) before → xs ≡ linesFrom lineCeiling t 0 (stateIn start) (movesOf l)
-      → TracedAs (linesFrom lineCeiling t 0 (stateIn start) (movesOf l)) before new n
+  traced : (xs : List Line) {new : List ℕ} {n : ℕ} → length xs ≡ n → new ≡ over (lineWords xs) before → xs ≡ linesIn t l start
+      → TracedAs (linesIn t l start) before new n
   traced xs n e all = record { count = sym n ∙ ap length all; target = e ∙ ap (λ (xs : List Line). over (lineWords xs) before) all }
 
   -- no move is left
-  pub tracing-end : moveCount l ≤ i → TracedAs (linesFrom lineCeiling t 0 (stateIn start) (movesOf l)) before after i
+  pub tracing-end : moveCount l ≤ i → TracedAs (linesIn t l start) before after i
   unfolding linesFrom
   tracing-end e = traced (h .made) (h .count) (h .target) (sym (append-nil (h .made)) ∙ ahead-done (moves-tails l) (h .ahead) e)
 
-  module _ (more : i < moveCount l) (room : 4 * moveCount l ≤ length before) {v : Verdict} {s′ : State} (m : MadeAs v lineCeiling t (i + 1) (moveAt l i) s s′)
-      {new : List ℕ} (write : new ≡ sets after (4 * i) (i ∷ answerIn v ∷ s′ .len ∷ s′ .next ∷ [])) where
+  module _ (more : i < moveCount l) (room : 4 * moveCount l ≤ length before) {x : Made} {s′ : State} (m : MadeAs x lineCeiling t (i + 1) (moveAt l i) s s′)
+      {new : List ℕ} (write : new ≡ sets after (4 * i) (i ∷ answerIn (x .verdict) ∷ s′ .len ∷ s′ .next ∷ [])) where
     line : Line
-    line = lineOf i (answerIn v) (stateIn s′)
+    line = lineOf i (answerIn (x .verdict)) (stateIn s′)
 
     written : new ≡ over (lineWords (h .made ++ line ∷ [])) before
     unfolding line
     written =
         write
-        ∙ ap (sets after (4 * i)) (sym (line-words i (answerIn v) s′))
+        ∙ ap (sets after (4 * i)) (sym (line-words i (answerIn (x .verdict)) s′))
         ∙ ap (λ (ws : List ℕ). sets ws (4 * i) (lineWords (line ∷ []))) (h .target)
         ∙ over-line (h .made) line before i (h .count) (omega arith)
 
     count-new : length (h .made ++ line ∷ []) ≡ i + 1
     count-new = omega (arith, length-append (h .made) (line ∷ []), h .count)
 
-    lines-on : {u : Verdict} → v ≡ u → (ms : List (List ℕ))
+    lines-on : {u : Verdict} → x .verdict ≡ u → (ms : List (List ℕ))
         → h .made ++ linesFrom lineCeiling t i (stateIn s) (moveAt l i ∷ ms) ≡ (h .made ++ line ∷ []) ++ ifMade u (linesFrom lineCeiling t (i + 1) (stateIn s′) ms)
     unfolding line
     lines-on {u} e ms =
-        ap (λ (xs : List Line). h .made ++ xs) (made-lines v m ms)
-        ∙ sym (append-assoc (h .made) (line ∷ []) (ifMade v (linesFrom lineCeiling t (i + 1) (stateIn s′) ms)))
+        ap (λ (xs : List Line). h .made ++ xs) (made-lines (x .verdict) refl m ms)
+        ∙ sym (append-assoc (h .made) (line ∷ []) (ifMade (x .verdict) (linesFrom lineCeiling t (i + 1) (stateIn s′) ms)))
         ∙ ap (λ (u : Verdict). (h .made ++ line ∷ []) ++ ifMade u (linesFrom lineCeiling t (i + 1) (stateIn s′) ms)) e
 
     -- an accepted move
-    pub tracing-made : v ≡ Allowed → Tracing t l start before (i + 1) s′ new
+    pub tracing-made : x .verdict ≡ Allowed → Tracing t l start before (i + 1) s′ new
     tracing-made e = record {
       made = h .made ++ line ∷ [];
       count = count-new;
       ahead = ahead-next (moves-tails l) (h .ahead) more _ (lines-on e);
       target = written;
-      size = ap length write ∙ length-sets after (4 * i) (i ∷ answerIn v ∷ s′ .len ∷ s′ .next ∷ []) ∙ h .size;
+      size = ap length write ∙ length-sets after (4 * i) (i ∷ answerIn (x .verdict) ∷ s′ .len ∷ s′ .next ∷ []) ∙ h .size;
       workable = m .workable;
     }
 
     -- a refused move is the last line
-    pub tracing-refused : {q : Refusal} → v ≡ Denied q → TracedAs (linesFrom lineCeiling t 0 (stateIn start) (movesOf l)) before new (i + 1)
+    pub tracing-refused : {q : Refusal} → x .verdict ≡ Denied q → TracedAs (linesIn t l start) before new (i + 1)
     tracing-refused e =
         traced (h .made ++ line ∷ []) count-new written
         (ahead-here (moves-tails l) (h .ahead) more (h .made ++ line ∷ []) (λ ms. lines-on e ms ∙ append-nil (h .made ++ line ∷ [])))

@@ -19,7 +19,9 @@ use Rattle.semantics.specs.declared.Verdict.the-variants.{Allowed, Denied}
 use Rattle.state.specs.declared.State.{State}
 use Rattle.state.specs.Working.{stateIn}
 use Rattle.log.specs.Form.{LogSized}
+use Rattle.step.specs.declared.make.Made.{Made}
 use Rattle.step.specs.Make.{Indexed, Workable, MadeAs}
+use Rattle.run.specs.declared.Ran as code
 
 -- ---- contracts
 
@@ -37,10 +39,15 @@ abbrev pub ranBy : Verdict → ℕ → semantics.State → Ran
 ranBy Allowed i s = ended s
 ranBy (Denied q) i s = stopped i q
 
--- v, the place and s′ are the run of the log from s; the moves before the place lead to s′: a refused move changes nothing
-pub record RanAs (v : Verdict) (place ceiling : ℕ) (t : Table) (l : List ℕ) (s s′ : State) : Type 0 where
-  pub value : ranBy v place (stateIn s′) ≡ run ceiling t 0 (stateIn s) (movesOf l)
-  pub reached : run ceiling t 0 (stateIn s) (movesBefore l place) ≡ ended (stateIn s′)
+-- what a run asks
+pub record Runnable (t index l : List ℕ) (ceiling : ℕ) (s : State) : Type 0 where
+  pub prepared : Prepared t index l
+  pub workable : Workable s ceiling
+
+-- the answer and s′ are the run of the log from s; the moves before the place lead to s′: a refused move changes nothing
+pub record RanAs (ran : code.Ran) (ceiling : ℕ) (t : Table) (l : List ℕ) (s s′ : State) : Type 0 where
+  pub value : ranBy (ran .verdict) (ran .place) (stateIn s′) ≡ run ceiling t 0 (stateIn s) (movesOf l)
+  pub reached : run ceiling t 0 (stateIn s) (movesBefore l (ran .place)) ≡ ended (stateIn s′)
   pub workable : Workable s′ ceiling
 
 -- ---- parts of a log
@@ -114,15 +121,15 @@ module _ {ceiling : ℕ} {t : Table} {l : List ℕ} {start : State} {i : ℕ} {s
       let e : 0 + length (movesBefore l i) ≡ i = omega (arith, length-tabled (moveAt l) 0 i) in
       run-append ceiling t 0 (stateIn start) (movesBefore l i) ms (stateIn s) (r .so-far) ∙ ap (λ (n : ℕ). run ceiling t n (stateIn s) ms) e
 
-  module _ (more : i < moveCount l) {v : Verdict} {s′ : State} (made : MadeAs v ceiling t (i + 1) (moveAt l i) s s′) where
-    step-from : (ms : List (List ℕ)) → run ceiling t 0 (stateIn start) (movesBefore l i ++ moveAt l i ∷ ms) ≡ onward (steppedBy v (stateIn s′)) i (λ x. run ceiling t (suc i) x ms)
+  module _ (more : i < moveCount l) {x : Made} {s′ : State} (made : MadeAs x ceiling t (i + 1) (moveAt l i) s s′) where
+    step-from : (ms : List (List ℕ)) → run ceiling t 0 (stateIn start) (movesBefore l i ++ moveAt l i ∷ ms) ≡ onward (steppedBy (x .verdict) (stateIn s′)) i (λ x. run ceiling t (suc i) x ms)
     unfolding run
     step-from ms =
         let step = rw (add-one i) at (made .step) in
         onward-from (moveAt l i ∷ ms) ∙ ap (λ (x : Stepped). onward x i (λ x. run ceiling t (suc i) x ms)) step
 
     -- an accepted move
-    pub reached-made : v ≡ Allowed → Reached ceiling t l start (i + 1) s′
+    pub reached-made : x .verdict ≡ Allowed → Reached ceiling t l start (i + 1) s′
     unfolding run
     reached-made e = record {
       within = omega arith;
@@ -131,15 +138,15 @@ module _ {ceiling : ℕ} {t : Table} {l : List ℕ} {start : State} {i : ℕ} {s
     }
 
     -- a refused one
-    pub reached-refused : {q : Refusal} → v ≡ Denied q → RanAs v i ceiling t l start s′
-    reached-refused {q} e = record {
-      value = sym (ap (run ceiling t 0 (stateIn start)) (moves-split l i (r .within) ∙ rw (moves-tails l .more i more)) ∙ step-from (movesFrom l (i + 1)) ∙ rw e);
-      reached = rw (made .same q e) (r .so-far);
+    pub reached-refused : {q : Refusal} → x .verdict ≡ Denied q → {ran : code.Ran} → ran .verdict ≡ x .verdict → ran .place ≡ i → RanAs ran ceiling t l start s′
+    reached-refused {q} e v p = record {
+      value = sym (ap (run ceiling t 0 (stateIn start)) (moves-split l i (r .within) ∙ rw (moves-tails l .more i more)) ∙ step-from (movesFrom l (i + 1)) ∙ rw (v, p, e));
+      reached = rw (made .same q e, p) (r .so-far);
       workable = made .workable;
     }
 
   -- no move is left
-  pub reached-end : moveCount l ≤ i → RanAs Allowed i ceiling t l start s
-  reached-end h =
+  pub reached-end : moveCount l ≤ i → {ran : code.Ran} → ran .verdict ≡ Allowed → ran .place ≡ i → RanAs ran ceiling t l start s
+  reached-end h v p =
       let e : i ≡ moveCount l = omega (arith, r .within) in
-      record { value = sym (rw e at (r .so-far)); reached = r .so-far; workable = r .workable }
+      record { value = rw v (sym (rw e at (r .so-far))); reached = rw p (r .so-far); workable = r .workable }

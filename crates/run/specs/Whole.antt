@@ -10,7 +10,6 @@ use Rattle.semantics.specs.State.{stateOf, stateSizesOk}
 use Rattle.wellformed.specs.States as States
 use Rattle.semantics.specs.Log.{moveCount, logSizesOk}
 use Rattle.semantics.specs.Answers.{stateVerdict, lineCeiling, runOf}
-use Rattle.semantics.specs.declared.Verdict.{Verdict}
 use Rattle.semantics.specs.declared.Verdict.the-variants.{Allowed}
 use Rattle.wellformed.specs.States.{state-given}
 use Rattle.table.specs.Index.{Starts}
@@ -19,6 +18,7 @@ use Rattle.state.specs.Working.{stateIn}
 use Rattle.state.specs.Arrays.{HoldsIn, held-next}
 use Rattle.log.specs.Form.{log-sized}
 use Rattle.step.specs.Make.{Workable, Indexed}
+use Rattle.run.specs.declared.Ran.{Ran}
 use Rattle.run.specs.Runs.{Prepared, RanAs, ranBy}
 use Rattle.run.specs.Lines.{Traceable}
 
@@ -45,6 +45,6 @@ module _ (S : List ℕ) (z : stateSizesOk S ≡ true) {s : State} (h : HoldsIn s
 
 -- ---- what a run gives
 
-module _ (T S L : List ℕ) {s : State} (h : HoldsIn s (stateOf S)) {ceiling : ℕ} {v : Verdict} {place : ℕ} {s′ : State} (ran : RanAs v place ceiling (tableOf T) L s s′) where
-  pub ran-whole : ranBy v place (stateIn s′) ≡ runOf ceiling T S L
+module _ (T S L : List ℕ) {s : State} (h : HoldsIn s (stateOf S)) {ceiling : ℕ} {r : Ran} {s′ : State} (ran : RanAs r ceiling (tableOf T) L s s′) where
+  pub ran-whole : ranBy (r .verdict) (r .place) (stateIn s′) ≡ runOf ceiling T S L
   ran-whole = ran .value ∙ rw (h .holds .value)

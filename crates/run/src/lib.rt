@@ -6,21 +6,20 @@ ghost use Rattle.semantics.specs.Table.{tableOf};
 ghost use Rattle.semantics.specs.Log.{moveCount, moveAt};
 ghost use Rattle.state.specs.Working.{held};
 ghost use Rattle.step.specs.Make.{Workable, MadeAs};
-ghost use Rattle.run.specs.Runs.{Prepared, RanAs};
+ghost use Rattle.run.specs.Runs.{Prepared, Runnable, RanAs};
 use log::count_of;
-use log::head_at;
-use log::picks_at;
+use log::move_at;
 use semantics::Verdict;
+use state::Extent;
 use step::make::Made;
 use step::make::make;
 
-// How far a run came: the place of the first move not made, why it is refused, and the figures of
-// the state there.
+// How far a run came: why the first move not made is refused, its place, and the extent of the state
+// there.
 pub struct Ran {
     pub verdict: Verdict,
     pub place: u32,
-    pub len: usize,
-    pub next: u32,
+    pub left: Extent,
 }
 
 // The move at place i of a log, decided and made. Its maker is i + 1: the maker 0 is the start.
@@ -30,25 +29,26 @@ pub fn make_at<'a>(
     owners: &mut [u32; 1024],
     items: &mut [u32; 1024],
     origins: &mut [u32; 1024],
-    n: usize,
-    next: u32,
+    at: Extent,
     log: &'a [u32],
     i: usize,
     ceiling: usize,
 ) -> Made
-    requires { ⌜ Prepared (now table) (now starts) (now log) × (i < moveCount (now log)) × Workable (held (now owners) (now items) (now origins) n next) ceiling ⌝ }
-    ensures { λ r. ⌜ MadeAs (r .verdict) ceiling (tableOf (now (table .entry))) (i + 1) (moveAt (now (log .entry)) i) (held (now (owners .entry)) (now (items .entry)) (now (origins .entry)) n next) (held (now (owners .exit)) (now (items .exit)) (now (origins .exit)) (r .len) (r .next)) ⌝ }
+    requires place { ⌜ Prepared (now table) (now starts) (now log) × (i < moveCount (now log)) ⌝ }
+    requires able { ⌜ Workable (held (now owners) (now items) (now origins) at) ceiling ⌝ }
+    ensures { λ r. ⌜ MadeAs r ceiling (tableOf (now (table .entry))) (i + 1) (moveAt (now (log .entry)) i)
+        (held (now (owners .entry)) (now (items .entry)) (now (origins .entry)) at)
+        (held (now (owners .exit)) (now (items .exit)) (now (origins .exit)) (r .left)) ⌝ }
 {
+    let mv = move_at(log, i);
     make(
         table,
         starts,
         owners,
         items,
         origins,
-        n,
-        next,
-        head_at(log, i),
-        picks_at(log, i),
+        at,
+        mv,
         (i + 1) as u32,
         ceiling,
     )
@@ -61,46 +61,37 @@ pub fn run_log<'a>(
     owners: &mut [u32; 1024],
     items: &mut [u32; 1024],
     origins: &mut [u32; 1024],
-    mut n: usize,
-    mut next: u32,
+    start: Extent,
     log: &'a [u32],
     ceiling: usize,
 ) -> Ran
-    requires { ⌜ Prepared (now table) (now starts) (now log) × Workable (held (now owners) (now items) (now origins) n next) ceiling ⌝ }
-    ensures { λ r. ⌜ RanAs (r .verdict) (r .place) ceiling (tableOf (now (table .entry))) (now (log .entry)) (held (now (owners .entry)) (now (items .entry)) (now (origins .entry)) n next) (held (now (owners .exit)) (now (items .exit)) (now (origins .exit)) (r .len) (r .next)) ⌝ }
+    requires { ⌜ Runnable (now table) (now starts) (now log) ceiling (held (now owners) (now items) (now origins) start) ⌝ }
+    ensures { λ r. ⌜ RanAs r ceiling (tableOf (now (table .entry))) (now (log .entry))
+        (held (now (owners .entry)) (now (items .entry)) (now (origins .entry)) start)
+        (held (now (owners .exit)) (now (items .exit)) (now (origins .exit)) (r .left)) ⌝ }
 {
     let moves = count_of(log);
+    let mut left = start;
     let mut i = 0;
     while i < moves {
-        let made = make_at(
-            table,
-            starts,
-            owners,
-            items,
-            origins,
-            n,
-            next,
-            log,
-            i,
-            ceiling,
-        );
+        let made = make_at(table, starts, owners, items, origins, left, log, i, ceiling);
         let verdict = made.verdict;
-        n = made.len;
-        next = made.next;
+        left = made.left;
         if let Verdict::Denied(_) = verdict {
+            let place = i as u32;
             return Ran {
                 verdict,
-                place: i as u32,
-                len: n,
-                next,
+                place,
+                left,
             };
         }
         i += 1;
     }
+    let place = i as u32;
+    let verdict = Verdict::Allowed;
     Ran {
-        verdict: Verdict::Allowed,
-        place: i as u32,
-        len: n,
-        next,
+        verdict,
+        place,
+        left,
     }
 }

@@ -5,15 +5,13 @@ ghost use mathlib.Core.List.{_∷_, []};
 ghost use lib.ListN.{length};
 ghost use lib.Seq.{sets};
 ghost use Rattle.semantics.specs.Table.{tableOf};
-ghost use Rattle.semantics.specs.Log.{movesOf};
-ghost use Rattle.semantics.specs.Answers.{lineCeiling};
-ghost use Rattle.semantics.specs.Program.{linesFrom};
-ghost use Rattle.state.specs.Working.{stateIn, held};
-ghost use Rattle.run.specs.Lines.{answerIn, Traceable, TracedAs};
+ghost use Rattle.state.specs.Working.{held};
+ghost use Rattle.run.specs.Lines.{answerIn, linesIn, Traceable, TracedAs};
 use crate::make_at;
 use answers::number_of;
 use log::count_of;
 use semantics::Verdict;
+use state::Extent;
 use state::State;
 
 fn answer_in(verdict: Verdict) -> u32
@@ -26,15 +24,15 @@ fn answer_in(verdict: Verdict) -> u32
 }
 
 // Line i is the four words from 4 i on: place, answer, entries, next.
-fn put_line(lines: &mut [u32], i: usize, answer: u32, entries: usize, next: u32)
-    requires { ⌜ (4 * i + 4 ≤ length (now lines)) × (i ≤ 1024) × (entries ≤ 1024) ⌝ }
-    ensures { λ _. ⌜ now (lines .exit) ≡ sets (now (lines .entry)) (4 * i) (i ∷ answer ∷ entries ∷ next ∷ []) ⌝ }
+fn put_line(lines: &mut [u32], i: usize, answer: u32, left: Extent)
+    requires { ⌜ (4 * i + 4 ≤ length (now lines)) × (i ≤ 1024) × (left .len ≤ 1024) ⌝ }
+    ensures { λ _. ⌜ now (lines .exit) ≡ sets (now (lines .entry)) (4 * i) (i ∷ answer ∷ left .len ∷ left .next ∷ []) ⌝ }
 {
     let at = 4 * i;
     lines[at] = i as u32;
     lines[at + 1] = answer;
-    lines[at + 2] = entries as u32;
-    lines[at + 3] = next;
+    lines[at + 2] = left.len as u32;
+    lines[at + 3] = left.next;
 }
 
 // One line for each move, a refused one last; answers how many lines.
@@ -44,15 +42,16 @@ pub fn trace<'a>(
     owners: &mut [u32; 1024],
     items: &mut [u32; 1024],
     origins: &mut [u32; 1024],
-    mut n: usize,
-    mut next: u32,
+    start: Extent,
     log: &'a [u32],
     lines: &mut [u32],
 ) -> usize
-    requires { ⌜ Traceable (now table) (now starts) (now log) (held (now owners) (now items) (now origins) n next) (now lines) ⌝ }
-    ensures { λ r. ⌜ TracedAs (linesFrom lineCeiling (tableOf (now (table .entry))) 0 (stateIn (held (now (owners .entry)) (now (items .entry)) (now (origins .entry)) n next)) (movesOf (now (log .entry)))) (now (lines .entry)) (now (lines .exit)) r ⌝ }
+    requires { ⌜ Traceable (now table) (now starts) (now log) (held (now owners) (now items) (now origins) start) (now lines) ⌝ }
+    ensures { λ r. ⌜ TracedAs (linesIn (tableOf (now (table .entry))) (now (log .entry)) (held (now (owners .entry)) (now (items .entry)) (now (origins .entry)) start))
+        (now (lines .entry)) (now (lines .exit)) r ⌝ }
 {
     let moves = count_of(log);
+    let mut left = start;
     let mut i = 0;
     while i < moves {
         let made = make_at(
@@ -61,16 +60,14 @@ pub fn trace<'a>(
             owners,
             items,
             origins,
-            n,
-            next,
+            left,
             log,
             i,
             State::MAX_ENTRIES,
         );
         let verdict = made.verdict;
-        n = made.len;
-        next = made.next;
-        put_line(lines, i, answer_in(verdict), n, next);
+        left = made.left;
+        put_line(lines, i, answer_in(verdict), left);
         i += 1;
         if let Verdict::Denied(_) = verdict {
             return i;

@@ -23,6 +23,7 @@ use Rattle.state.specs.declared.State.{State}
 use Rattle.state.specs.Working.{stateIn}
 use Rattle.state.specs.Arrays.{HoldsIn}
 use Rattle.state.specs.Owners.{someOwned, open-held}
+use Rattle.run.specs.declared.Ran.{Ran}
 use Rattle.run.specs.Runs.{ranBy}
 use Rattle.run.specs.Whole.{words-prepared, loaded-workable, ran-whole}
 use Rattle.recording.specs.Recordings.{Recordable, RecordRoom, RecordedAs}
@@ -49,21 +50,21 @@ module _ (t index s l target : List ℕ) (k : Tested t index s l target) {x : St
         workable = loaded-workable s (state-given s t (k .state) .1) loaded;
       }
 
-  module _ {v : Verdict} {place : ℕ} {x′ : State} {origins members before ends : List ℕ}
-      (done : RecordedAs v place lineCeiling (tableOf t) l x x′ origins members before ends) where
-    run-by : {u : Verdict} → v ≡ u → runOf lineCeiling t s l ≡ ranBy u place (stateIn x′)
+  module _ {r : Ran} {x′ : State} {origins members before ends : List ℕ}
+      (done : RecordedAs r lineCeiling (tableOf t) l x x′ origins members before ends) where
+    run-by : {u : Verdict} → r .verdict ≡ u → runOf lineCeiling t s l ≡ ranBy u (r .place) (stateIn x′)
     run-by e = sym (ran-whole t s l loaded (done .ran)) ∙ rw e
 
-    pub ran-refused : {q : Refusal} → v ≡ Denied q → SerializedAs t s l target target (MoveRefused place q)
+    pub ran-refused : {q : Refusal} → r .verdict ≡ Denied q → SerializedAs t s l target target (MoveRefused (r .place) q)
     ran-refused e = record { outcome = rw (run-by e); target = rw (run-by e) }
 
     -- as the code finds out
     open-is : {b : Bool} → b ≡ someOwned (take (x′ .len) (x′ .owners)) → anyOpen (stateIn x′) ≡ b
     open-is e =
         let w = done .ran .workable in
-        sym (open-held (x′ .owners) (x′ .items) (x′ .origins) (x′ .len) (x′ .next) (omega (arith, w .bounds .fits, w .arrays .owners))) ∙ sym e
+        sym (open-held (x′ .owners) (x′ .items) (x′ .origins) (record { len = x′ .len; next = x′ .next }) (omega (arith, w .bounds .fits, w .arrays .owners))) ∙ sym e
 
-    module _ (e : v ≡ Allowed) {b : Bool} (told : b ≡ someOwned (take (x′ .len) (x′ .owners))) where
+    module _ (e : r .verdict ≡ Allowed) {b : Bool} (told : b ≡ someOwned (take (x′ .len) (x′ .owners))) where
       pub ran-open : b ≡ true → SerializedAs t s l target target (Refused TransactionOpen)
       ran-open h =
           let o : anyOpen (stateIn x′) ≡ true = open-is told ∙ h in

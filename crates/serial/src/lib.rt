@@ -77,8 +77,7 @@ fn reordered<'a>(
         owners,
         items,
         origins,
-        at.len,
-        at.next,
+        at,
         log,
         &order,
         wanted,
@@ -116,8 +115,7 @@ fn serialized<'a>(
         &mut owners,
         &mut items,
         &mut origins,
-        at.len,
-        at.next,
+        at,
         log,
         State::MAX_ENTRIES,
         wanted,
@@ -129,7 +127,7 @@ fn serialized<'a>(
     if let Verdict::Denied(refusal) = verdict {
         return Outcome::MoveRefused(ran.place, refusal);
     }
-    if any_open(&owners, ran.len) {
+    if any_open(&owners, ran.left.len) {
         return Outcome::Refused(Refusal::TransactionOpen);
     }
     reordered(

@@ -5,11 +5,12 @@ use mathlib.Core.List.{List}
 use lib.ListN.{length}
 use Rattle.lists.specs.Rows.{rows}
 use Rattle.semantics.specs.State.{State}
+use Rattle.state.specs.declared.Extent.{Extent}
 use Rattle.state.specs.Working.{rowOf}
 
--- the state in lent columns
-abbrev pub stateFrom : List ℕ → List ℕ → List ℕ → ℕ → ℕ → State
-stateFrom os ws gs n next = record { next = next; entries = rows (rowOf os ws gs) 0 n }
+-- the value of `held`
+abbrev pub stateFrom : List ℕ → List ℕ → List ℕ → Extent → State
+stateFrom os ws gs at = record { next = at .next; entries = rows (rowOf os ws gs) 0 (at .len) }
 
 -- two columns of which the first n places are in use
 pub record Columns (os ws : List ℕ) (n : ℕ) : Type 0 where

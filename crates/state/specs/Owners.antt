@@ -15,6 +15,7 @@ use Rattle.semantics.specs.State.{Entry, entryCount, ownersOf, itemsOf, stateSi
 use Rattle.wellformed.specs.States.{state-sized}
 use Rattle.semantics.specs.Serial.{anyOpen}
 use Rattle.wellformed.specs.RoundTrip.{owners-entriesOf}
+use Rattle.state.specs.declared.Extent.{Extent}
 use Rattle.state.specs.Working.{rowOf, stateIn, held}
 
 -- one of the owners is a transaction
@@ -24,11 +25,11 @@ someOwned os = any (λ o. not (eqb o 0)) os
 by-owners : (s : semantics.State) (os : List ℕ) → map (λ e. e .owner) (s .entries) ≡ os → someOwned os ≡ anyOpen s
 by-owners s os e = ap someOwned (sym e) ∙ any-map (λ e. e .owner) (λ o. not (eqb o 0)) (s .entries)
 
-pub open-held : (os ws gs : List ℕ) (n next : ℕ) → n ≤ length os → someOwned (take n os) ≡ anyOpen (stateIn (held os ws gs n next))
+pub open-held : (os ws gs : List ℕ) (at : Extent) → at .len ≤ length os → someOwned (take (at .len) os) ≡ anyOpen (stateIn (held os ws gs at))
 unfolding stateIn
-open-held os ws gs n next h =
-    by-owners (stateIn (held os ws gs n next)) (take n os)
-    (map-rows (λ (e : Entry). e .owner) (rowOf os ws gs) 0 n ∙ rows-take 0 os n h)
+open-held os ws gs at h =
+    by-owners (stateIn (held os ws gs at)) (take (at .len) os)
+    (map-rows (λ (e : Entry). e .owner) (rowOf os ws gs) 0 (at .len) ∙ rows-take 0 os (at .len) h)
 
 pub open-words : (s : List ℕ) → stateSizesOk s ≡ true → {n : ℕ} → n ≡ entryCount s → someOwned (take n (ownersOf s)) ≡ anyOpen (stateOf s)
 unfolding stateOf

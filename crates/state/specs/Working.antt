@@ -10,6 +10,7 @@ use Rattle.semantics.specs.State as semantics
 use Rattle.semantics.specs.State.{Entry}
 use Rattle.words.specs.Origin.{originOf}
 use Rattle.state.specs.declared.State.{State}
+use Rattle.state.specs.declared.Extent.{Extent}
 
 -- the entry of an owner, an item and an origin
 abbrev pub entryFrom : ℕ → ℕ → ℕ → Entry
@@ -26,8 +27,8 @@ unfoldable pub stateIn : State → semantics.State
 stateIn s = record { next = s .next; entries = rows (entryIn s) 0 (s .len) }
 
 -- the state in lent columns
-abbrev pub held : List ℕ → List ℕ → List ℕ → ℕ → ℕ → State
-held os ws gs n next = record { owners = os; items = ws; origins = gs; len = n; next = next }
+abbrev pub held : List ℕ → List ℕ → List ℕ → Extent → State
+held os ws gs at = record { owners = os; items = ws; origins = gs; len = at .len; next = at .next }
 
 -- s holds σ, and is within its limit
 pub record Holds (s : State) (σ : semantics.State) : Type 0 where

@@ -18,6 +18,7 @@ ghost use Rattle.lists.specs.Filled.{Filled};
 ghost use Rattle.semantics.specs.State.{stateSizesOk, stateOf};
 ghost use Rattle.state.specs.Working.{Holds, Stored, held};
 ghost use Rattle.state.specs.Arrays.{Arrays, HoldsIn};
+ghost use Rattle.state.specs.Lent.{Columns};
 
 // The entries in use are the first len of each column. Items are as 01 lays them out; an origin is
 // maker × 1024 + index, and next is 01's next ticket N.
@@ -50,8 +51,8 @@ impl State {
     }
 }
 
-// How many entries were loaded, and N.
-pub struct Loaded {
+// What columns do not say themselves: how many entries are in use, and N.
+pub struct Extent {
     pub len: usize,
     pub next: u32,
 }
@@ -63,15 +64,15 @@ pub fn load(
     owners: &mut [u32; State::MAX_ENTRIES],
     items: &mut [u32; State::MAX_ENTRIES],
     origins: &mut [u32; State::MAX_ENTRIES],
-) -> Loaded
+) -> Extent
     requires { ⌜ (stateSizesOk (now state) ≡ true) × Arrays (now owners) (now items) (now origins) ⌝ }
-    ensures { λ r. ⌜ HoldsIn (held (now (owners .exit)) (now (items .exit)) (now (origins .exit)) (r .len) (r .next)) (stateOf (now (state .entry))) ⌝ }
+    ensures { λ r. ⌜ HoldsIn (held (now (owners .exit)) (now (items .exit)) (now (origins .exit)) r) (stateOf (now (state .entry))) ⌝ }
 {
     let len = parts::entry_count(state);
     copy_words(parts::owners_of(state), len, owners);
     copy_words(parts::items_of(state), len, items);
     number_column(len, origins);
-    Loaded {
+    Extent {
         len,
         next: state[1],
     }
@@ -89,19 +90,20 @@ fn number_column(n: usize, column: &mut [u32; State::MAX_ENTRIES])
     }
 }
 
-// The words of n entries over the target's beginning; answers how many.
+// The words of the entries over the target's beginning; answers how many.
 pub fn store<'a>(
     owners: &'a [u32; State::MAX_ENTRIES],
     items: &'a [u32; State::MAX_ENTRIES],
-    n: usize,
-    next: u32,
+    at: Extent,
     target: &mut [u32],
 ) -> u32
-    requires { ⌜ (n ≤ 1024) × (length (now owners) ≡ 1024) × (length (now items) ≡ 1024) × (2 + 2 * n ≤ length (now target)) ⌝ }
-    ensures { λ r. ⌜ ((gs : List ℕ) → Stored (held (now (owners .entry)) (now (items .entry)) gs n next) (now (target .entry)) (now (target .exit)) r) ⌝ }
+    requires { ⌜ Columns (now owners) (now items) (at .len) × (2 + 2 * at .len ≤ length (now target)) ⌝ }
+    ensures { λ r. ⌜ ((gs : List ℕ)
+        → Stored (held (now (owners .entry)) (now (items .entry)) gs at) (now (target .entry)) (now (target .exit)) r) ⌝ }
 {
+    let n = at.len;
     target[0] = n as u32;
-    target[1] = next;
+    target[1] = at.next;
     copy_words_at(owners, n, target, 2);
     copy_words_at(items, n, target, 2 + n);
     (2 + 2 * n) as u32

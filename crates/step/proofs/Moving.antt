@@ -20,14 +20,17 @@ use Rattle.semantics.specs.declared.Verdict.the-variants.{Allowed, Denied}
 use Rattle.rules.specs.declared.decode.Rule.{Rule}
 use Rattle.rules.specs.Decode.{Decodes}
 use Rattle.state.specs.declared.State.{State}
+use Rattle.state.specs.declared.Extent.{Extent}
 use Rattle.state.specs.Working.{stateIn, held, rowOf}
-use Rattle.state.specs.Arrays.{Arrays, HoldsIn}
+use Rattle.state.specs.Arrays.{HoldsIn}
 use Rattle.reaction.specs.Decoded.{ruleIn}
 use Rattle.state.specs.Lent.{stateFrom}
 use Rattle.reaction.specs.Verdict.{reactVerdict}
 use Rattle.ending.specs.End.{endVerdict}
-use Rattle.products.specs.Narrow.{Ready, rule-ready}
-use Rattle.step.specs.Moves.{IsMove, form-end, form-rule, verdict-react, verdict-end, applied-react, applied-end}
+use Rattle.products.specs.Narrow.{rule-ready}
+use Rattle.products.specs.React.{Permitted}
+use Rattle.step.specs.declared.make.Made.{Made}
+use Rattle.step.specs.Moves.{IsMove, endForm, form-end, form-rule, verdict-react, verdict-end, applied-react, applied-end}
 use Rattle.step.specs.Bounds.{verdict-higher}
 use Rattle.step.specs.Make.{Workable, MadeAs, made-refused, made-allowed}
 
@@ -50,29 +53,29 @@ module _ {T : List ℕ} {x : Rule} {head : ℕ} {picks : List ℕ} (g : Chosen T
     is-move : IsMove (tableOf T) x head picks
     is-move = record { form = form; rule = λ k. g .rule }
 
-    module _ {ceiling n next : ℕ} {os ws gs : List ℕ} (w : Workable (held os ws gs n next) ceiling) {r : Verdict}
-        (e : r ≡ reactVerdict ceiling (ruleIn x) (stateFrom os ws gs n next) (take (x .consumes) picks)) where
-      verdict-is : r ≡ moveVerdict ceiling (tableOf T) (stateIn (held os ws gs n next)) (moveOf (tableOf T) (head ∷ picks))
+    module _ {ceiling : ℕ} {os ws gs : List ℕ} {at : Extent} (w : Workable (held os ws gs at) ceiling) {r : Verdict}
+        (e : r ≡ reactVerdict ceiling (ruleIn x) (stateFrom os ws gs at) (take (x .consumes) picks)) where
+      verdict-is : r ≡ moveVerdict ceiling (tableOf T) (stateIn (held os ws gs at)) (moveOf (tableOf T) (head ∷ picks))
       unfolding stateIn
-      verdict-is = e ∙ verdict-react ceiling is-move (stateFrom os ws gs n next) (g .kind)
+      verdict-is = e ∙ verdict-react ceiling is-move (stateFrom os ws gs at) (g .kind)
 
-      pub reaction-refused : (i : ℕ) {q : Refusal} → r ≡ Denied q → MadeAs (Denied q) ceiling (tableOf T) i (head ∷ picks) (held os ws gs n next) (held os ws gs n next)
-      reaction-refused i h = made-refused w form (sym verdict-is ∙ h)
+      pub reaction-refused : (i : ℕ) {made : Made} {q : Refusal} → made .verdict ≡ Denied q → r ≡ Denied q
+          → MadeAs made ceiling (tableOf T) i (head ∷ picks) (held os ws gs at) (held os ws gs at)
+      reaction-refused i v h = made-refused w form v (sym verdict-is ∙ h)
 
       module _ (h : r ≡ Allowed) where
-        pub reaction-asked : {maker : ℕ} → maker ≤ 1024
-            → Arrays os ws gs × (n ≤ 1024) × Ready x next maker × (reactVerdict 1024 (ruleIn x) (stateIn (held os ws gs n next)) (take (x .consumes) picks) ≡ Allowed)
-        reaction-asked {maker} l = (
-          w .arrays,
-          omega (arith, w .bounds .fits, w .limit),
-          rule-ready T (g .table) (headNumber head) (g .below) x (g .rule) next maker (w .bounds .next) l,
-          verdict-react 1024 is-move (stateIn (held os ws gs n next)) (g .kind)
-              ∙ verdict-higher ceiling (tableOf T) (stateIn (held os ws gs n next)) (moveOf (tableOf T) (head ∷ picks)) (sym verdict-is ∙ h) 1024 (w .limit),
-        )
+        pub reaction-asked : {maker : ℕ} → maker ≤ 1024 → Permitted x picks maker (held os ws gs at)
+        reaction-asked {maker} l = record {
+          arrays = w .arrays;
+          fits = omega (arith, w .bounds .fits, w .limit);
+          ready = rule-ready T (g .table) (headNumber head) (g .below) x (g .rule) (at .next) maker (w .bounds .next) l;
+          verdict = verdict-react 1024 is-move (stateIn (held os ws gs at)) (g .kind)
+              ∙ verdict-higher ceiling (tableOf T) (stateIn (held os ws gs at)) (moveOf (tableOf T) (head ∷ picks)) (sym verdict-is ∙ h) 1024 (w .limit);
+        }
 
-        pub reaction-made : (i : ℕ) {s′ : State} → HoldsIn s′ (reacted (ruleIn x) i (stateIn (held os ws gs n next)) (take (x .consumes) picks))
-            → MadeAs Allowed ceiling (tableOf T) i (head ∷ picks) (held os ws gs n next) s′
-        reaction-made i m = made-allowed w form (sym verdict-is ∙ h) (rw (applied-react is-move i (stateIn (held os ws gs n next)) (g .kind)) m)
+        pub reaction-made : (i : ℕ) {made : Made} → made .verdict ≡ r → {s′ : State} → HoldsIn s′ (reacted (ruleIn x) i (stateIn (held os ws gs at)) (take (x .consumes) picks))
+            → MadeAs made ceiling (tableOf T) i (head ∷ picks) (held os ws gs at) s′
+        reaction-made i v m = made-allowed w form (v ∙ h) (sym verdict-is ∙ h) (rw (applied-react is-move i (stateIn (held os ws gs at)) (g .kind)) m)
 
 -- ---- an end
 
@@ -84,7 +87,7 @@ pub record Ending (t : Table) (head : ℕ) (picks : List ℕ) : Type 0 where
 
 -- 5: the test of its form
 pub end-formed : (t : Table) (head : ℕ) (picks : List ℕ) → length picks ≡ 4 → (headKind head ≡ 0 → ⊥) → {b : Bool}
-    → b ≡ leb (headKind head) 2 && leb 1 (headNumber head) && leb (headNumber head) 65535 && all isZero (drop 0 picks) → b ≡ true → Ending t head picks
+    → b ≡ endForm head picks → b ≡ true → Ending t head picks
 end-formed t head picks four k e h =
     let form = sym e ∙ h in
     let range = and-left (leb (headKind head) 2 && leb 1 (headNumber head) && leb (headNumber head) 65535) (all isZero (drop 0 picks)) form in
@@ -94,15 +97,22 @@ end-formed t head picks four k e h =
       form = sym (form-end t head picks four k) ∙ form;
     }
 
-module _ {t : Table} {head : ℕ} {picks : List ℕ} (g : Ending t head picks) {ceiling n next : ℕ} {os ws gs : List ℕ} (w : Workable (held os ws gs n next) ceiling) {globals : ℕ} (same : globals ≡ t .sizes .globals)
-    {r : Verdict} (e : r ≡ endVerdict (headKind head) globals (headNumber head) (stateFrom os ws gs n next)) where
-  end-verdict-is : r ≡ moveVerdict ceiling t (stateIn (held os ws gs n next)) (moveOf t (head ∷ picks))
+-- with its kind and its id as they were read
+module _ {t : Table} {head : ℕ} {picks : List ℕ} (g : Ending t head picks) {ceiling : ℕ} {os ws gs : List ℕ} {at : Extent} (w : Workable (held os ws gs at) ceiling)
+    {globals kind id : ℕ} (same : globals ≡ t .sizes .globals) (k : kind ≡ headKind head) (n : id ≡ headNumber head)
+    {r : Verdict} (e : r ≡ endVerdict kind globals id (stateFrom os ws gs at)) where
+  end-verdict-is : r ≡ moveVerdict ceiling t (stateIn (held os ws gs at)) (moveOf t (head ∷ picks))
   unfolding stateIn
-  end-verdict-is = rw same at e ∙ verdict-end ceiling t (stateFrom os ws gs n next) (omega (arith, w .bounds .fits, length-rows (rowOf os ws gs) 0 n)) head picks (g .kind)
+  end-verdict-is =
+      rw (same, k, n) at e
+      ∙ verdict-end ceiling t (stateFrom os ws gs at) (omega (arith, w .bounds .fits, length-rows (rowOf os ws gs) 0 (at .len))) head picks (g .kind)
 
-  pub end-refused : (i : ℕ) {q : Refusal} → r ≡ Denied q → MadeAs (Denied q) ceiling t i (head ∷ picks) (held os ws gs n next) (held os ws gs n next)
-  end-refused i h = made-refused w (g .form) (sym end-verdict-is ∙ h)
+  pub end-refused : (i : ℕ) {made : Made} {q : Refusal} → made .verdict ≡ Denied q → r ≡ Denied q
+      → MadeAs made ceiling t i (head ∷ picks) (held os ws gs at) (held os ws gs at)
+  end-refused i v h = made-refused w (g .form) v (sym end-verdict-is ∙ h)
 
-  pub end-made : (i : ℕ) → r ≡ Allowed → {s′ : State} → HoldsIn s′ (ended (λ e. eqb (e .kind) (headKind head - 1)) (headNumber head) (stateIn (held os ws gs n next)))
-      → MadeAs Allowed ceiling t i (head ∷ picks) (held os ws gs n next) s′
-  end-made i h m = made-allowed w (g .form) (sym end-verdict-is ∙ h) (rw (applied-end t head picks i (stateIn (held os ws gs n next)) (g .kind) (g .small)) m)
+  pub end-made : (i : ℕ) {made : Made} → made .verdict ≡ r → r ≡ Allowed → {s′ : State}
+      → HoldsIn s′ (ended (λ e. eqb (e .kind) (kind - 1)) id (stateIn (held os ws gs at))) → MadeAs made ceiling t i (head ∷ picks) (held os ws gs at) s′
+  end-made i v h m =
+      made-allowed w (g .form) (v ∙ h) (sym end-verdict-is ∙ h)
+      (rw (applied-end t head picks i (stateIn (held os ws gs at)) (g .kind) (g .small)) (rw (k, n) at m))

@@ -16,6 +16,7 @@ use Rattle.table.specs.Index.{Starts}
 use Rattle.state.specs.declared.State.{State}
 use Rattle.state.specs.Working.{stateIn}
 use Rattle.state.specs.Arrays.{Arrays, HoldsIn}
+use Rattle.step.specs.declared.make.Made.{Made}
 use Rattle.step.specs.Bounds.{Bounded, applied-bounded}
 use Rattle.semantics.specs.State as semantics
 
@@ -30,10 +31,16 @@ pub record Workable (s : State) (ceiling : ℕ) : Type 0 where
   pub bounds : Bounded s ceiling
   pub limit : ceiling ≤ 1024
 
--- s′ is what the move w, of this maker, leaves of s; v says why it is refused, and then s is as it was
-pub record MadeAs (v : Verdict) (ceiling : ℕ) (t : Table) (maker : ℕ) (w : List ℕ) (s s′ : State) : Type 0 where
-  pub step : stepWords ceiling t maker (stateIn s) w ≡ steppedBy v (stateIn s′)
-  pub same : (q : Refusal) → v ≡ Denied q → s′ ≡ s
+-- what a move asks: its table, its maker, and the columns lent to it
+pub record Makeable (t index : List ℕ) (maker ceiling : ℕ) (s : State) : Type 0 where
+  pub indexed : Indexed t index
+  pub maker-fits : maker ≤ 1024
+  pub workable : Workable s ceiling
+
+-- s′ is what the move w, of this maker, leaves of s; the verdict says why it is refused, and then s is as it was
+pub record MadeAs (made : Made) (ceiling : ℕ) (t : Table) (maker : ℕ) (w : List ℕ) (s s′ : State) : Type 0 where
+  pub step : stepWords ceiling t maker (stateIn s) w ≡ steppedBy (made .verdict) (stateIn s′)
+  pub same : (q : Refusal) → made .verdict ≡ Denied q → s′ ≡ s
   pub workable : Workable s′ ceiling
 
 -- ---- from the tests to the step
@@ -45,21 +52,22 @@ module _ (ceiling : ℕ) (t : Table) (i : ℕ) (s : semantics.State) (w : List �
   step-formed : moveOk t w ≡ true → stepWords ceiling t i s w ≡ steppedBy (moveVerdict ceiling t s (moveOf t w)) (applied t i s (moveOf t w))
   step-formed h = stepWords-verdict ceiling t i s w ∙ rw h
 
-module _ {ceiling : ℕ} {t : Table} {i : ℕ} {w : List ℕ} {s : State} (k : Workable s ceiling) where
+module _ {ceiling : ℕ} {t : Table} {i : ℕ} {w : List ℕ} {s : State} (k : Workable s ceiling) {made : Made} where
   -- 5
-  pub made-malformed : moveOk t w ≡ false → MadeAs (Denied MoveForm) ceiling t i w s s
-  made-malformed h = record { step = step-malformed ceiling t i (stateIn s) w h; same = λ q e. refl; workable = k }
+  pub made-malformed : made .verdict ≡ Denied MoveForm → moveOk t w ≡ false → MadeAs made ceiling t i w s s
+  made-malformed v h = record { step = step-malformed ceiling t i (stateIn s) w h ∙ rw v; same = λ q e. refl; workable = k }
 
   module _ (form : moveOk t w ≡ true) where
     -- 7 to 12
-    pub made-refused : {q : Refusal} → moveVerdict ceiling t (stateIn s) (moveOf t w) ≡ Denied q → MadeAs (Denied q) ceiling t i w s s
-    made-refused h = record { step = step-formed ceiling t i (stateIn s) w form ∙ rw h; same = λ q e. refl; workable = k }
+    pub made-refused : {q : Refusal} → made .verdict ≡ Denied q → moveVerdict ceiling t (stateIn s) (moveOf t w) ≡ Denied q → MadeAs made ceiling t i w s s
+    made-refused v h = record { step = step-formed ceiling t i (stateIn s) w form ∙ rw (h, v); same = λ q e. refl; workable = k }
 
-    pub made-allowed : moveVerdict ceiling t (stateIn s) (moveOf t w) ≡ Allowed → {s′ : State} → HoldsIn s′ (applied t i (stateIn s) (moveOf t w)) → MadeAs Allowed ceiling t i w s s′
+    pub made-allowed : made .verdict ≡ Allowed → moveVerdict ceiling t (stateIn s) (moveOf t w) ≡ Allowed
+        → {s′ : State} → HoldsIn s′ (applied t i (stateIn s) (moveOf t w)) → MadeAs made ceiling t i w s s′
     unfolding stateIn
-    made-allowed h {s′} held = record {
-      step = step-formed ceiling t i (stateIn s) w form ∙ rw (h, held .holds .value);
-      same = λ q e. absurd (denied≢allowed (sym e));
+    made-allowed v h {s′} held = record {
+      step = step-formed ceiling t i (stateIn s) w form ∙ rw (h, v, held .holds .value);
+      same = λ q e. absurd (denied≢allowed (sym e ∙ v));
       workable = record {
         arrays = held .arrays;
         bounds = applied-bounded ceiling t (stateIn s) (moveOf t w) h (k .bounds .next) i (held .holds);

@@ -37,10 +37,14 @@ pub record IsMove (t : Table) (x : Rule) (head : ℕ) (picks : List ℕ) : Type 
 
 -- ---- form
 
+-- of an end: kind and id within their ranges, no pick
+abbrev pub endForm : ℕ → List ℕ → Bool
+endForm head picks = leb (headKind head) 2 && leb 1 (headNumber head) && leb (headNumber head) 65535 && all isZero (drop 0 picks)
+
 module _ (t : Table) (head : ℕ) (picks : List ℕ) where
   module _ (four : length picks ≡ 4) where
     pub form-end : (headKind head ≡ 0 → ⊥)
-        → leb (headKind head) 2 && leb 1 (headNumber head) && leb (headNumber head) 65535 && all isZero (drop 0 picks) ≡ moveOk t (head ∷ picks)
+        → endForm head picks ≡ moveOk t (head ∷ picks)
     unfolding moveOk
     form-end h = rw (four, ne-eqb (headKind head) 0 h)
 

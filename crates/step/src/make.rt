@@ -1,42 +1,41 @@
 // A move in words, decided and made in lent columns.
-ghost use Prim.Native.Nat.{ℕ, _≤_};
+ghost use Prim.Native.Nat.{ℕ};
 ghost use mathlib.Core.Path.{_≡_};
-ghost use mathlib.Core.List.{_∷_};
 ghost use Rattle.semantics.specs.Words.{headKind};
 ghost use Rattle.semantics.specs.Table.{tableOf};
 ghost use Rattle.semantics.specs.Answers.{tableVerdict};
 ghost use Rattle.semantics.specs.declared.Verdict.the-variants.{Allowed, Denied};
+ghost use Rattle.words.specs.Head.{wordsIn};
 ghost use Rattle.state.specs.Working.{held};
-ghost use Rattle.step.specs.Make.{Indexed, Workable, MadeAs};
+ghost use Rattle.step.specs.Make.{Makeable, Workable, MadeAs};
 use crate::form::end_form;
 use crate::form::unused_zero;
 use ending::free::end_transaction;
 use ending::survey::first_owned;
 use ending::verdict::end_verdict;
-use products::append::next_after;
 use products::react::react;
 use reaction::verdict::react_verdict;
 use rules::decode::rule_at;
 use semantics::Refusal;
 use semantics::Verdict;
+use state::Extent;
 use table::parts::sizes_of;
 use words::head;
+use words::head::MoveWords;
 
-// Why a move is refused, and the figures of the state that it leaves.
+// Why a move is refused, and the extent of the state that it leaves.
 pub struct Made {
     pub verdict: Verdict,
-    pub len: usize,
-    pub next: u32,
+    pub left: Extent,
 }
 
 // Nothing is changed.
-fn refused(refusal: Refusal, len: usize, next: u32) -> Made
-    ensures { λ r. ⌜ r ≡ record { verdict = Denied refusal; len = len; next = next } ⌝ }
+fn refused(refusal: Refusal, left: Extent) -> Made
+    ensures { λ r. ⌜ r ≡ record { verdict = Denied refusal; left = left } ⌝ }
 {
     Made {
         verdict: Verdict::Denied(refusal),
-        len,
-        next,
+        left,
     }
 }
 
@@ -47,35 +46,33 @@ fn make_reaction<'a>(
     owners: &mut [u32; 1024],
     items: &mut [u32; 1024],
     origins: &mut [u32; 1024],
-    n: usize,
-    next: u32,
-    head: u32,
-    picks: [u32; 4],
+    at: Extent,
+    mv: MoveWords,
     maker: u32,
     ceiling: usize,
 ) -> Made
-    requires { ⌜ Indexed (now table) (now starts) × Workable (held (now owners) (now items) (now origins) n next) ceiling × (maker ≤ 1024) × (headKind head ≡ 0) ⌝ }
-    ensures { λ r. ⌜ MadeAs (r .verdict) ceiling (tableOf (now (table .entry))) maker (head ∷ picks) (held (now (owners .entry)) (now (items .entry)) (now (origins .entry)) n next) (held (now (owners .exit)) (now (items .exit)) (now (origins .exit)) (r .len) (r .next)) ⌝ }
+    requires able { ⌜ Makeable (now table) (now starts) maker ceiling (held (now owners) (now items) (now origins) at) ⌝ }
+    requires kind { ⌜ headKind (mv .head) ≡ 0 ⌝ }
+    ensures { λ r. ⌜ MadeAs r ceiling (tableOf (now (table .entry))) maker (wordsIn mv)
+        (held (now (owners .entry)) (now (items .entry)) (now (origins .entry)) at)
+        (held (now (owners .exit)) (now (items .exit)) (now (origins .exit)) (r .left)) ⌝ }
 {
-    let number = head::number_of(head);
+    let picks = mv.picks;
+    let number = head::number_of(mv.head);
     let sizes = sizes_of(table);
     if sizes.rules <= number {
-        return refused(Refusal::MoveForm, n, next);
+        return refused(Refusal::MoveForm, at);
     }
     let rule = rule_at(table, starts, number);
     if !unused_zero(picks, rule.consumes) {
-        return refused(Refusal::MoveForm, n, next);
+        return refused(Refusal::MoveForm, at);
     }
-    let verdict = react_verdict(owners, items, n, next, rule, picks, ceiling);
+    let verdict = react_verdict(owners, items, at, rule, picks, ceiling);
     if let Verdict::Denied(refusal) = verdict {
-        return refused(refusal, n, next);
+        return refused(refusal, at);
     }
-    let len = react(owners, items, origins, n, next, rule, picks, maker);
-    Made {
-        verdict: Verdict::Allowed,
-        len,
-        next: next_after(rule.begins, next),
-    }
+    let left = react(owners, items, origins, at, rule, picks, maker);
+    Made { verdict, left }
 }
 
 // A commit (kind 1) frees the transaction's messages (0), an abort (kind 2) its compensations (1).
@@ -84,31 +81,30 @@ fn make_end(
     owners: &mut [u32; 1024],
     items: &mut [u32; 1024],
     origins: &mut [u32; 1024],
-    n: usize,
-    next: u32,
-    head: u32,
-    picks: [u32; 4],
+    at: Extent,
+    mv: MoveWords,
     ceiling: usize,
 ) -> Made
-    requires { ⌜ (tableVerdict (now table) ≡ Allowed) × Workable (held (now owners) (now items) (now origins) n next) ceiling × (headKind head ≡ 0 → ⊥) ⌝ }
-    ensures { λ r. ⌜ ((maker : ℕ) → MadeAs (r .verdict) ceiling (tableOf (now (table .entry))) maker (head ∷ picks) (held (now (owners .entry)) (now (items .entry)) (now (origins .entry)) n next) (held (now (owners .exit)) (now (items .exit)) (now (origins .exit)) (r .len) (r .next))) ⌝ }
+    requires table { ⌜ tableVerdict (now table) ≡ Allowed ⌝ }
+    requires able { ⌜ Workable (held (now owners) (now items) (now origins) at) ceiling ⌝ }
+    requires kind { ⌜ (headKind (mv .head) ≡ 0 → ⊥) ⌝ }
+    ensures { λ r. ⌜ ((maker : ℕ) → MadeAs r ceiling (tableOf (now (table .entry))) maker (wordsIn mv)
+        (held (now (owners .entry)) (now (items .entry)) (now (origins .entry)) at)
+        (held (now (owners .exit)) (now (items .exit)) (now (origins .exit)) (r .left))) ⌝ }
 {
-    if !end_form(head, picks) {
-        return refused(Refusal::MoveForm, n, next);
+    if !end_form(mv) {
+        return refused(Refusal::MoveForm, at);
     }
-    let kind = head::kind_of(head);
-    let id = head::number_of(head);
+    let kind = head::kind_of(mv.head);
+    let id = head::number_of(mv.head);
     let sizes = sizes_of(table);
-    let from = first_owned(owners, n, id);
-    let verdict = end_verdict(owners, items, from, n, kind, id, sizes.globals);
+    let from = first_owned(owners, at.len, id);
+    let verdict = end_verdict(owners, items, from, at, kind, id, sizes.globals);
     if let Verdict::Denied(refusal) = verdict {
-        return refused(refusal, n, next);
+        return refused(refusal, at);
     }
-    Made {
-        verdict: Verdict::Allowed,
-        len: end_transaction(owners, items, origins, from, n, id, kind - 1),
-        next,
-    }
+    let left = end_transaction(owners, items, origins, from, at, id, kind - 1);
+    Made { verdict, left }
 }
 
 // One move in words on lent columns: decided (5, 7 to 12) and, where it is allowed, made.
@@ -118,30 +114,28 @@ pub fn make<'a>(
     owners: &mut [u32; 1024],
     items: &mut [u32; 1024],
     origins: &mut [u32; 1024],
-    n: usize,
-    next: u32,
-    head: u32,
-    picks: [u32; 4],
+    at: Extent,
+    mv: MoveWords,
     maker: u32,
     ceiling: usize,
 ) -> Made
-    requires { ⌜ Indexed (now table) (now starts) × Workable (held (now owners) (now items) (now origins) n next) ceiling × (maker ≤ 1024) ⌝ }
-    ensures { λ r. ⌜ MadeAs (r .verdict) ceiling (tableOf (now (table .entry))) maker (head ∷ picks) (held (now (owners .entry)) (now (items .entry)) (now (origins .entry)) n next) (held (now (owners .exit)) (now (items .exit)) (now (origins .exit)) (r .len) (r .next)) ⌝ }
+    requires { ⌜ Makeable (now table) (now starts) maker ceiling (held (now owners) (now items) (now origins) at) ⌝ }
+    ensures { λ r. ⌜ MadeAs r ceiling (tableOf (now (table .entry))) maker (wordsIn mv)
+        (held (now (owners .entry)) (now (items .entry)) (now (origins .entry)) at)
+        (held (now (owners .exit)) (now (items .exit)) (now (origins .exit)) (r .left)) ⌝ }
 {
-    if head::kind_of(head) == head::REACT {
+    if head::kind_of(mv.head) == head::REACT {
         return make_reaction(
             table,
             starts,
             owners,
             items,
             origins,
-            n,
-            next,
-            head,
-            picks,
+            at,
+            mv,
             maker,
             ceiling,
         );
     }
-    make_end(table, owners, items, origins, n, next, head, picks, ceiling)
+    make_end(table, owners, items, origins, at, mv, ceiling)
 }

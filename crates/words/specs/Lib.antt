@@ -1,3 +1,4 @@
 pub mod Copy
+pub mod Head
 pub mod Origin
 pub mod Search

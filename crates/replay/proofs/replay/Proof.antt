@@ -10,11 +10,11 @@ use Rattle.replay.proofs.replay.Statement.{statement}
 use Rattle.replay.proofs.replay.Tie as tie
 
 abbrev Inv : tie.InvT-loop
-Inv table starts owners₀ items₀ origins₀ n₀ next₀ log order wanted members ceiling out₀ k j₀ owners items origins n next out j =
-    Going table starts (held owners₀ items₀ origins₀ n₀ next₀) log order wanted members ceiling out₀ j (held owners items origins n next) out
+Inv table starts owners₀ items₀ origins₀ log order wanted members ceiling out₀ k left₀ j₀ owners items origins out left j =
+    Going table starts (held owners₀ items₀ origins₀ left₀) log order wanted members ceiling out₀ j (held owners items origins left) out
 
 abbrev μ : tie.MeasureT-loop
-μ table starts owners₀ items₀ origins₀ n₀ next₀ log order wanted members ceiling out₀ k j₀ owners items origins n next out j = k - j
+μ table starts owners₀ items₀ origins₀ log order wanted members ceiling out₀ k left₀ j₀ owners items origins out left j = k - j
 
 -- the place read in a turn is one of the log
 place-small : (c : tie.In-loop Inv μ) → getD (c .before .before .before .before .before .before .before .before .args .order .now) (c .before .loop .j) 0 < 1024
@@ -22,7 +22,7 @@ place-small c = let g = c .before .loop .inv .given in omega (arith, g .places _
 
 -- the turn in which a move is made
 abbrev turn-of : tie.After-make-arg3 Inv μ → tie.In-loop Inv μ
-turn-of c = c .before .before .before .before .before .before .before .before .before .before .before .before
+turn-of c = c .before .before .before .before .before .before .before .before .before .before .before
 
 again-at-requires : tie.Need-again-at-requires Inv μ
 again-at-requires c κs =
@@ -33,7 +33,7 @@ again-at-requires c κs =
 
 put-move-requires : tie.Need-put-move-requires Inv μ
 put-move-requires c κs =
-    let turn = c .before .before .before .before .before .before in
+    let turn = c .before .before .before .before .before in
     let g = turn .before .loop .inv in
     (turn .loop-test .taken, g .given .read .log .few, going-room g)
 
@@ -41,12 +41,12 @@ make-requires : tie.Need-make-requires Inv μ
 make-requires c κs =
     let turn = turn-of c in
     let g = turn .before .loop .inv in
-    (g .given .read .indexed, g .workable, omega (arith, place-small turn))
+    record { indexed = g .given .read .indexed; maker-fits = omega (arith, place-small turn); workable = g .workable }
 
 same-length : tie.Need-same-length Inv μ
 same-length c =
     let put = c .before .before .before .before .before .before .before .before in
-    let l = put .before .before .before .before .before .before .before .before .loop in
+    let l = put .before .before .before .before .before .before .before .loop in
     put .put-move .ensures .size ∙ length-set (l .out) _ _ ∙ simp length-set at (l .inv .size)
 
 returns : tie.Need-returns Inv μ
@@ -54,7 +54,7 @@ unfolding stateIn
 returns c =
     let m = c .before .before in
     let put = m .before .before .before .before .before .before in
-    let read = put .before .before .before in
+    let read = put .before .before in
     let turn = read .before .before .before .before in
     let l = turn .before .loop in
     going-denied (l .inv) (turn .loop-test .taken) (read .again-at .ensures (l .items)) (put .put-move .ensures) (m .make .ensures) (c .enum-told .given .1) refl
@@ -62,12 +62,12 @@ returns c =
 loop-again : tie.Need-loop-again Inv μ
 unfolding stateIn
 loop-again c =
-    let m = c .before .before in
+    let m = c .before .before .before in
     let put = m .before .before .before .before .before .before in
-    let read = put .before .before .before in
+    let read = put .before .before in
     let turn = read .before .before .before .before in
     let l = turn .before .loop in
-    going-next (l .inv) (turn .loop-test .taken) (read .again-at .ensures (l .items)) (put .put-move .ensures) (m .make .ensures) (c .enum-told2 .given .1)
+    going-next (l .inv) (turn .loop-test .taken) (read .again-at .ensures (l .items)) (put .put-move .ensures) (m .make .ensures) (c .before .enum-told2 .given .1)
 
 returns-2 : tie.Need-returns-2 Inv μ
 returns-2 c = going-end (c .before .loop .inv) (c .loop-test .left) refl
@@ -80,5 +80,5 @@ replay-spec =
     (λ c. search needs) (λ c. search needs) (λ c. omega (arith, place-small (c .before))) again-at-requires put-move-requires
     (λ c. omega (arith, place-small (turn-of c))) (λ c. omega (arith, place-small (turn-of c))) make-requires
     (λ c. search needs) same-length returns (λ c. search needs)
-    (λ c. omega (arith, turn-of (c .before .before .before) .loop-test .taken, turn-of (c .before .before .before) .before .loop .inv .given .read .log .few))
-    (λ c. omega (arith, turn-of (c .before .before .before) .loop-test .taken)) loop-again (λ c. simp length-set at (c .before .loop .inv .size)) returns-2)
+    (λ c. omega (arith, turn-of (c .before .before .before .before) .loop-test .taken, turn-of (c .before .before .before .before) .before .loop .inv .given .read .log .few))
+    (λ c. omega (arith, turn-of (c .before .before .before .before) .loop-test .taken)) loop-again (λ c. simp length-set at (c .before .loop .inv .size)) returns-2)

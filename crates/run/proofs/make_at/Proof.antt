@@ -4,23 +4,23 @@ use borrow.Author.Needs.{needs}
 use Rattle.run.proofs.make_at.Statement.{statement}
 use Rattle.run.proofs.make_at.Tie as tie
 
-head-at-requires : tie.Need-head-at-requires
-head-at-requires c κs =
-    let p = c .before .before .before .before .before .pre in
+move-at-requires : tie.Need-move-at-requires
+move-at-requires c κs =
+    let p = c .before .before .pre .0 in
     record { sizes = p .0 .log; within = p .1 }
 
 cast-make : tie.Need-cast-make
 cast-make c =
-    let p = c .before .before .before .before .before .before .before .pre in
+    let p = c .before .before .before .before .before .before .pre .0 in
     omega (arith, p .1, p .0 .log .few)
 
 make-requires : tie.Need-make-requires
 make-requires c κs =
-    let p = c .before .before .before .before .before .before .before .pre in
-    (p .0 .indexed, p .2, omega (arith, p .1, p .0 .log .few))
+    let p = c .before .before .before .before .before .before .pre in
+    record { indexed = p .0 .0 .indexed; maker-fits = omega (arith, p .0 .1, p .0 .0 .log .few); workable = p .1 }
 
 returns : tie.Need-returns
-returns c = rw (c .before .picks-at .ensures, c .before .before .head-at .ensures) at (c .make .ensures)
+returns c = rw (c .before .before .before .before .move-at .ensures) at (c .make .ensures)
 
 pub make-at-spec : {M : Type 1} → statement M
-make-at-spec = tie.close (tie.spec head-at-requires (λ c κs. head-at-requires (c .before) κs) (λ c. search needs) cast-make make-requires returns)
+make-at-spec = tie.close (tie.spec move-at-requires (λ c. search needs) cast-make make-requires returns)

@@ -16,7 +16,7 @@ run-log-requires : tie.Need-run-log-requires
 run-log-requires c κs =
     let p = c .before .before .before .before .before .before .before .before .before .before .before .before .before .before .before .pre in
     let loaded = c .before .before .before .load .ensures in
-    (words-prepared _ _ (p .ready .accepted) (p .ready .starts) (p .sizes), loaded-workable _ (ready-sizes (p .ready)) loaded)
+    record { prepared = words-prepared _ _ (p .ready .accepted) (p .ready .starts) (p .sizes); workable = loaded-workable _ (ready-sizes (p .ready)) loaded }
 
 returns : tie.Need-returns
 returns c =
@@ -28,7 +28,7 @@ store-requires c κs =
     let ran = c .before .before .before .before .before in
     let w = ran .run-log .ensures .workable in
     let p = ran .before .before .before .before .before .before .before .before .before .before .before .before .before .before .before .before .pre in
-    (w .bounds .fits, w .arrays .owners, w .arrays .items, omega (arith, w .bounds .fits, p .room))
+    (record { owners = w .arrays .owners; items = w .arrays .items; fits = w .bounds .fits }, omega (arith, w .bounds .fits, p .room))
 
 returns-2 : tie.Need-returns-2
 returns-2 c =

@@ -16,7 +16,11 @@ make-requires : tie.Need-make-requires
 make-requires c κs =
     let p = c .before .before .before .before .before .before .before .before .before .before .before .before .before .before .pre in
     let loaded = c .before .before .before .load .ensures in
-    (words-indexed _ _ (p .ready .accepted) (p .ready .starts), loaded-workable _ (ready-sizes (p .ready)) loaded, omega arith)
+    record {
+      indexed = words-indexed _ _ (p .ready .accepted) (p .ready .starts);
+      maker-fits = omega arith;
+      workable = loaded-workable _ (ready-sizes (p .ready)) loaded;
+    }
 
 returns : tie.Need-returns
 returns c =
@@ -28,7 +32,7 @@ store-requires c κs =
     let made = c .before .before .before .before .before in
     let w = made .make .ensures .workable in
     let p = made .before .before .before .before .before .before .before .before .before .before .before .before .before .before .before .pre in
-    (w .bounds .fits, w .arrays .owners, w .arrays .items, omega (arith, w .bounds .fits, p .room))
+    (record { owners = w .arrays .owners; items = w .arrays .items; fits = w .bounds .fits }, omega (arith, w .bounds .fits, p .room))
 
 returns-2 : tie.Need-returns-2
 returns-2 c =

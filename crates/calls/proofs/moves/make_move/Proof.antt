@@ -19,7 +19,7 @@ form-ok-requires c κs =
     let told = c .before .before .before .before .before .before .before .before in
     let said = told .before .before .ready .ensures in
     let r = said .ready (sym (said .verdict) ∙ told .enum-told .given .1) in
-    (ready-table r, r .starts)
+    record { table = ready-table r; starts = r .starts }
 
 returns-3 : tie.Need-returns-3
 returns-3 c =

@@ -17,20 +17,19 @@ use Rattle.ending.proofs.Freeing.{freed-entry, stays-as-is}
 use Rattle.ending.proofs.free.end_transaction.Statement.{statement}
 use Rattle.ending.proofs.free.end_transaction.Tie as tie
 
--- the next id is in no column
 abbrev Inv : tie.InvT-loop
-Inv owners₀ items₀ origins₀ from n id kind i₀ w₀ owners items origins i w =
-    Compacting (λ p e. not (owned id e) || eqb (e .kind) kind) (freed (λ e. eqb (e .kind) kind) id) (held owners items origins n 0) n i w
-    (ended (λ e. eqb (e .kind) kind) id (stateIn (held owners₀ items₀ origins₀ n 0)))
+Inv owners₀ items₀ origins₀ from id kind n next i₀ w₀ owners items origins i w =
+    Compacting (λ p e. not (owned id e) || eqb (e .kind) kind) (freed (λ e. eqb (e .kind) kind) id) (held owners items origins (record { len = n; next = next })) n i w
+    (ended (λ e. eqb (e .kind) kind) id (stateIn (held owners₀ items₀ origins₀ (record { len = n; next = next }))))
 
 abbrev μ : tie.MeasureT-loop
-μ owners₀ items₀ origins₀ from n id kind i₀ w₀ owners items origins i w = n - i
+μ owners₀ items₀ origins₀ from id kind n next i₀ w₀ owners items origins i w = n - i
 
 loop-holds : tie.Need-loop-holds Inv μ
 unfolding ended stateIn
 loop-holds c =
     let a = c .args in
-    let s = held (a .owners .now) (a .items .now) (a .origins .now) (a .n) 0 in
+    let s = held (a .owners .now) (a .items .now) (a .origins .now) (a .at) in
     compacting-from _ _ s _
     (sift-keep (λ e. not (owned (a .id) e) || eqb (e .kind) (a .kind)) (freed (λ e. eqb (e .kind) (a .kind)) (a .id)) 0 (stateIn s .entries)) (c .pre .0) (c .pre .1) (a .from) (c .pre .2 .within)
     (λ k l. stays-as-is (a .id) (a .kind) _ (below-each _ (a .from) k (c .pre .2 .none) l))
@@ -45,10 +44,10 @@ loop-again c =
 
 returns : tie.Need-returns Inv μ
 unfolding ended stateIn
-returns c next =
+returns c =
     let l = c .before .loop in
     let done = compacting-done _ _ (l .inv) (c .loop-test .left) in
-    record { arrays = l .inv .arrays; holds = holds-of _ refl refl (done .fits) (ap (λ (x : semantics.State). x .entries) (done .value)) }
+    record { arrays = l .inv .arrays; holds = done }
 
 pub end-transaction-spec : {M : Type 1} → statement M
 end-transaction-spec =

@@ -11,13 +11,13 @@ use Rattle.products.proofs.react.react.Tie as tie
 four : (c : tie.Start) → length (c .args .picks) ≡ 4
 four c = search needs
 
-facts : (c : tie.Start) → Reactable (c .args .rule) (c .args .picks) (c .args .n) (c .args .next)
+facts : (c : tie.Start) → Reactable (c .args .rule) (c .args .picks) (c .args .at .len) (c .args .at .next)
 facts c =
     let a = c .args in
-    reactable (a .rule) (c .pre .2 .rule) (a .picks) (four c) (a .owners .now) (a .items .now) (a .origins .now) (a .n) (a .next) (c .pre .3)
+    reactable (a .rule) (c .pre .ready .rule) (a .picks) (four c) (a .owners .now) (a .items .now) (a .origins .now) (a .at) (c .pre .verdict)
 
 in-place : (c : tie.Start) → Places 1024 (take (c .args .rule .consumes) (c .args .picks))
-in-place c p m = let l = facts c .in-place p m in omega (arith, c .pre .1)
+in-place c p m = let l = facts c .in-place p m in omega (arith, c .pre .fits)
 
 at-picks-requires : tie.Need-at-picks-requires
 at-picks-requires c κs = (search needs, search needs, in-place (c .before))
@@ -29,31 +29,32 @@ remove-requires : tie.Need-remove-requires
 remove-requires c κs =
     let start = c .before .before .before .before .before .before .before .before in
     let f = facts start in
-    (start .pre .0, start .pre .1, search needs, search needs, f .different, f .in-place)
+    (start .pre .arrays, start .pre .fits, search needs, search needs, f .different, f .in-place)
 
 append-products-requires : tie.Need-append-products-requires
 append-products-requires c κs =
     let merged = c .before .before .before in
-    let removed = merged .before .before in
+    let removed = merged .before .before .before in
     let start = removed .before .before .before .before .before .before .before .before .before in
     let f = facts start in
     let a = removed .remove .ensures .0 in
-    (record { owners = merged .merge .ensures .0; items = a .items; origins = a .origins }, f .room, start .pre .2, f .id)
+    (record { owners = merged .merge .ensures .0; items = a .items; origins = a .origins }, (f .room, (start .pre .ready, f .id)))
 
 returns : tie.Need-returns
 returns c =
     let merged = c .before .before .before .before in
-    let removed = merged .before .before in
+    let removed = merged .before .before .before in
     let found = removed .before .before .before .before in
     let received = found .before in
     let start = received .before .before .before .before in
     let a = start .args in
     let l = removed .remove .last in
-    reacted-holds (a .rule) (start .pre .2 .rule) (a .picks) (four start) (a .owners .now) (a .items .now) (a .origins .now) (a .n) (a .next) (start .pre .3) (a .maker) (found .smallest .result)
+    reacted-holds (a .rule) (start .pre .ready .rule) (a .picks) (four start) (a .owners .now) (a .items .now) (a .origins .now) (a .at) (start .pre .verdict) (a .maker) (found .smallest .result)
     (l .0) (l .1 .0) (l .1 .1 .0) (merged .merge .last .0) (received .before .before .at-picks .ensures) (received .at-picks2 .ensures) (found .smallest .ensures)
     (removed .remove .ensures .1) (merged .merge .ensures .1) (c .append-products .ensures)
 
 pub react-spec : {M : Type 1} → statement M
 react-spec =
     tie.close
-    (tie.spec at-picks-requires at-picks-requires-2 (λ c κs. search needs) remove-requires (λ c. facts (c .before .before .before .before .before .before .before .before .before) .enough) (λ c κs. search needs) append-products-requires returns)
+    (tie.spec at-picks-requires at-picks-requires-2 (λ c κs. search needs) remove-requires
+    (λ c. facts (c .before .before .before .before .before .before .before .before .before .before) .enough) (λ c κs. search needs) append-products-requires returns)

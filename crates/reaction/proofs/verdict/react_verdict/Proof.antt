@@ -20,7 +20,7 @@ use Rattle.reaction.proofs.verdict.react_verdict.Tie as tie
 
 -- the state, whatever its origins, and the picks in use
 abbrev σ : tie.Start → List ℕ → State
-σ c gs = stateFrom (c .args .owners .now) (c .args .items .now) gs (c .args .n) (c .args .next)
+σ c gs = stateFrom (c .args .owners .now) (c .args .items .now) gs (c .args .at)
 
 abbrev ps : tie.Start → List ℕ
 ps c = take (c .args .rule .consumes) (c .args .picks)
@@ -33,7 +33,7 @@ abbrev placed : tie.After-owners-fit → tie.Start
 placed c = tested (c .before .before)
 
 abbrev allowed : tie.Else3 → tie.Start
-allowed c = placed (c .before .before .before)
+allowed c = placed (c .before .before .before .before)
 
 -- ---- what each test says
 
@@ -43,35 +43,35 @@ picks c gs = picks-found (ruleIn (tested c .args .rule)) (σ (tested c) gs) (ps 
 picks-pass : (c : tie.Else1) (gs : List ℕ) → picksOk (ruleIn (tested (c .before) .args .rule)) (σ (tested (c .before)) gs) (ps (tested (c .before))) ≡ true
 picks-pass c gs = sym (picks (c .before) gs) ∙ not-false _ (c .if1 .left)
 
-in-place : (c : tie.Else1) → Places (tested (c .before) .args .n) (ps (tested (c .before)))
+in-place : (c : tie.Else1) → Places (tested (c .before) .args .at .len) (ps (tested (c .before)))
 in-place c =
     let start = tested (c .before) in
     let a = start .args in
-    places (a .rule) (start .pre .1) (a .picks) (search needs) (a .owners .now) (a .items .now) [] (a .n) (a .next) (picks-parts (ruleIn (a .rule)) (σ start []) (ps start) (picks-pass c []) .1)
+    places (a .rule) (start .pre .1) (a .picks) (search needs) (a .owners .now) (a .items .now) [] (a .at) (picks-parts (ruleIn (a .rule)) (σ start []) (ps start) (picks-pass c []) .1)
 
 owners : (c : tie.After-owners-fit) (gs : List ℕ) → c .owners-fit .result ≡ ownersFit (placed c .args .rule .class) (ownersAt (σ (placed c) gs) (ps (placed c)))
 owners c gs =
     let a = placed c .args in
-    c .owners-fit .ensures ∙ ap (ownersFit (a .rule .class)) (sym (owners-at (a .owners .now) (a .items .now) gs (a .n) (ps (placed c)) (in-place (c .before))))
+    c .owners-fit .ensures ∙ ap (ownersFit (a .rule .class)) (sym (owners-at (a .owners .now) (a .items .now) gs (a .at .len) (ps (placed c)) (in-place (c .before))))
 
 given : (c : tie.Else3) (gs : List ℕ) → ReactGiven (ruleIn (allowed c .args .rule)) (σ (allowed c) gs) (ps (allowed c))
 given c gs =
     let start = allowed c in
-    let (a, b) = picks-parts (ruleIn (start .args .rule)) (σ start gs) (ps start) (picks-pass (c .before .before .before .before) gs) in
+    let (a, b) = picks-parts (ruleIn (start .args .rule)) (σ start gs) (ps start) (picks-pass (c .before .before .before .before .before) gs) in
     record {
       different = a;
       ports = b;
-      owners = sym (owners (c .before .before .before) gs) ∙ not-false _ (c .before .before .if2 .left);
+      owners = sym (owners (c .before .before .before .before) gs) ∙ not-false _ (c .before .before .before .if2 .left);
       ids = id-test (start .args .rule) (start .pre .1) (σ start gs) ∙ ap not (c .if3 .left);
     }
 
 left : (c : tie.Else3) (gs : List ℕ)
     → length (reacted (ruleIn (allowed c .args .rule)) 0 (σ (allowed c) gs) (ps (allowed c)) .entries)
-    ≡ allowed c .args .n - allowed c .args .rule .consumes + (allowed c .args .rule .count - allowed c .args .rule .consumes)
+    ≡ allowed c .args .at .len - allowed c .args .rule .consumes + (allowed c .args .rule .count - allowed c .args .rule .consumes)
 left c gs =
     let start = allowed c in
     let a = start .args in
-    count-left (a .rule) (start .pre .1) (a .picks) (search needs) (a .owners .now) (a .items .now) gs (a .n) (a .next) 0 (given c gs)
+    count-left (a .rule) (start .pre .1) (a .picks) (search needs) (a .owners .now) (a .items .now) gs (a .at) 0 (given c gs)
 
 -- ---- needs
 
@@ -86,15 +86,16 @@ returns-2 c = λ gs. wrong-owner _ _ _ _ (picks-pass (c .before .before) gs) (sy
 
 returns-3 : tie.Need-returns-3
 returns-3 c = λ gs.
-    let start = placed (c .before .before .before) in
-    no-more-ids _ _ _ _ (picks-pass (c .before .before .before .before) gs) (sym (owners (c .before .before .before) gs) ∙ not-false _ (c .before .before .if2 .left))
+    let start = placed (c .before .before .before .before) in
+    no-more-ids _ _ _ _ (picks-pass (c .before .before .before .before .before) gs) (sym (owners (c .before .before .before .before) gs)
+    ∙ not-false _ (c .before .before .before .if2 .left))
     (id-test (start .args .rule) (start .pre .1) (σ start gs) ∙ ap not (c .if3 .taken))
 
-fits : (c : tie.Else3) → allowed c .args .rule .consumes ≤ allowed c .args .n
+fits : (c : tie.Else3) → allowed c .args .rule .consumes ≤ allowed c .args .at .len
 fits c =
     let start = allowed c in
     let a = start .args in
-    picks-fit (a .rule) (start .pre .1) (a .picks) (search needs) (a .owners .now) (a .items .now) [] (a .n) (a .next) (given c [])
+    picks-fit (a .rule) (start .pre .1) (a .picks) (search needs) (a .owners .now) (a .items .now) [] (a .at) (given c [])
 
 sub-if4-2 : tie.Need-sub-if4-2
 sub-if4-2 c = let start = allowed c in omega (arith, consumes-within (start .args .rule) (start .pre .1))

@@ -10,7 +10,7 @@ returns c =
     let marked = c .before .before in
     let id = marked .before in
     let noted = id .before .before .before in
-    let a = noted .before .before .before .args in
+    let a = noted .before .before .before .before .args in
     record {
       picked = noted .note-picks .ensures;
       member = ap (set (a .members .now) (a .i)) (marked .mark-of .ensures ∙ ap (markBy (a .begun .now) (a .first)) (id .concerned .ensures));

@@ -18,8 +18,8 @@ four-stores l n a b c d =
 
 returns : tie.Need-returns
 returns c =
-    let a = c .args in
-    four-stores (a .lines .now) (4 * a .i) (a .i) (a .answer) (a .entries) (a .next)
+    let a = c .before .args in
+    four-stores (a .lines .now) (4 * a .i) (a .i) (a .answer) (a .left .len) (a .left .next)
 
 pub put-line-spec : {M : Type 1} → statement M
 put-line-spec =

@@ -11,13 +11,13 @@ use Rattle.run.proofs.trace.trace.Statement.{statement}
 use Rattle.run.proofs.trace.trace.Tie as tie
 
 abbrev Inv : tie.InvT-loop
-Inv table starts owners₀ items₀ origins₀ n₀ next₀ log lines₀ moves i₀ owners items origins n next lines i =
-    Traceable table starts log (held owners₀ items₀ origins₀ n₀ next₀) lines₀
+Inv table starts owners₀ items₀ origins₀ log lines₀ moves left₀ i₀ owners items origins lines left i =
+    Traceable table starts log (held owners₀ items₀ origins₀ left₀) lines₀
     × (moves ≡ moveCount log)
-    × Tracing (tableOf table) log (held owners₀ items₀ origins₀ n₀ next₀) lines₀ i (held owners items origins n next) lines
+    × Tracing (tableOf table) log (held owners₀ items₀ origins₀ left₀) lines₀ i (held owners items origins left) lines
 
 abbrev μ : tie.MeasureT-loop
-μ table starts owners₀ items₀ origins₀ n₀ next₀ log lines₀ moves i₀ owners items origins n next lines i = moves - i
+μ table starts owners₀ items₀ origins₀ log lines₀ moves left₀ i₀ owners items origins lines left i = moves - i
 
 loop-holds : tie.Need-loop-holds Inv μ
 loop-holds c =
@@ -31,18 +31,18 @@ make-at-requires : tie.Need-make-at-requires Inv μ
 make-at-requires c κs =
     let turn = c .before .before .before in
     let v = turn .before .loop .inv in
-    (v .0 .prepared, more turn, v .2 .workable)
+    ((v .0 .prepared, more turn), v .2 .workable)
 
 put-line-requires : tie.Need-put-line-requires Inv μ
 put-line-requires c κs =
-    let turn = c .before .before .before .before .before .before in
+    let turn = c .before .before .before .before .before .before .before in
     let v = turn .before .loop .inv in
-    (omega (arith, more turn, v .0 .room, v .2 .size), omega (arith, more turn, v .0 .prepared .log .few), c .before .before .make-at .ensures .workable .bounds .fits)
+    (omega (arith, more turn, v .0 .room, v .2 .size), omega (arith, more turn, v .0 .prepared .log .few), c .before .before .before .make-at .ensures .workable .bounds .fits)
 
 returns : tie.Need-returns Inv μ
 returns c =
     let wrote = c .before .before .before .before in
-    let made = wrote .before .before .before in
+    let made = wrote .before .before .before .before in
     let turn = made .before .before .before .before in
     let v = turn .before .loop .inv in
     tracing-refused (v .2) (more turn) (v .0 .room) (made .make-at .ensures)
@@ -51,7 +51,7 @@ returns c =
 loop-again : tie.Need-loop-again Inv μ
 loop-again c =
     let wrote = c .before .before .before .before in
-    let made = wrote .before .before .before in
+    let made = wrote .before .before .before .before in
     let turn = made .before .before .before .before in
     let v = turn .before .loop .inv in (
       v .0,

@@ -1,9 +1,10 @@
 -- `make_end` meets its contract: the form, the verdict and the step of `Moving`.
 use borrow.Author.Needs.{needs}
 use borrow.Author.Tests.{not-true, not-false}
-use mathlib.Core.Path.{_≡_, sym, ap, _∙_}
+use mathlib.Core.Path.{_≡_, refl, sym, ap, _∙_}
 use native.Mathlib.Omega.{arith}
 use lib.ListN.{length}
+use Rattle.semantics.specs.Words.{headKind, headNumber}
 use Rattle.semantics.specs.Table.{tableOf}
 use Rattle.wellformed.specs.Tables.{well-formed}
 use Rattle.semantics.specs.declared.Sizes.{Sizes}
@@ -13,66 +14,79 @@ use Rattle.step.proofs.Moving.{Ending, end-formed, end-refused, end-mad
 use Rattle.step.proofs.make.make_end.Statement.{statement}
 use Rattle.step.proofs.make.make_end.Tie as tie
 
-four : (c : tie.Start) → length (c .args .picks) ≡ 4
+four : (c : tie.Start) → length (c .args .mv .picks) ≡ 4
 four c = search needs
 
 returns : tie.Need-returns
 returns c maker =
     let start = c .before .before .before .before in
-    let a = start .args in
+    let m = start .args .mv in
     rw (c .refused .ensures)
-    (made-malformed (start .pre .1) (sym (form-end (tableOf (a .table .now)) (a .head) (a .picks) (four start) (start .pre .2)) ∙ sym (c .before .before .end-form .ensures) ∙ not-true _ (c .before .if1 .taken)))
+    (made-malformed (start .pre .1 .0) refl
+    (sym (form-end (tableOf (start .args .table .now)) (m .head) (m .picks) (four start) (start .pre .1 .1))
+    ∙ sym (c .before .before .end-form .ensures) ∙ not-true _ (c .before .if1 .taken)))
 
--- where a well-formed end began
+-- where a well-formed end began, and where its verdict was asked
 abbrev start : tie.Else1 → tie.Start
 start c = c .before .before .before
 
-formed : (c : tie.Else1) → Ending (tableOf (start c .args .table .now)) (start c .args .head) (start c .args .picks)
-formed c = end-formed _ (start c .args .head) (start c .args .picks) (four (start c)) (start c .pre .2) (c .before .end-form .ensures) (not-false _ (c .if1 .left))
+abbrev sizes-at : tie.After-end-verdict → tie.After-sizes-of
+sizes-at c = c .before .before .before .before .before
+
+abbrev formed-at : tie.After-end-verdict → tie.Else1
+formed-at c = sizes-at c .before .before .before
+
+formed : (c : tie.Else1) → Ending (tableOf (start c .args .table .now)) (start c .args .mv .head) (start c .args .mv .picks)
+formed c =
+    let m = start c .args .mv in
+    end-formed _ (m .head) (m .picks) (four (start c)) (start c .pre .1 .1) (c .before .end-form .ensures) (not-false _ (c .if1 .left))
 
 globals : (c : tie.After-sizes-of) → c .sizes-of .result .globals ≡ tableOf (start (c .before .before .before) .args .table .now) .sizes .globals
 unfolding tableOf
 globals c = ap (λ (z : Sizes). z .globals) (c .sizes-of .ensures)
 
+kind-is : (c : tie.After-end-verdict) → sizes-at c .before .before .kind-of .result ≡ headKind (start (formed-at c) .args .mv .head)
+kind-is c = sizes-at c .before .before .kind-of .ensures
+
+id-is : (c : tie.After-end-verdict) → sizes-at c .before .number-of .result ≡ headNumber (start (formed-at c) .args .mv .head)
+id-is c = sizes-at c .before .number-of .ensures
+
 end-verdict-requires : tie.Need-end-verdict-requires
 end-verdict-requires c κs =
-    let w = start (c .before .before .before .before .before .before .before) .pre .1 in
+    let w = start (c .before .before .before .before .before .before .before) .pre .1 .0 in
     (record { owners = w .arrays .owners; items = w .arrays .items; fits = omega (arith, w .bounds .fits, w .limit) }, c .before .before .first-owned .ensures)
 
 returns-2 : tie.Need-returns-2
 returns-2 c maker =
-    let sizes = c .before .before .before .before .before .before .before .before .before in
-    let form = sizes .before .before .before in
-    let kind = sizes .before .before .kind-of .ensures in
-    let id = sizes .before .number-of .ensures in
-    let a = start form .args in
+    let asked = c .before .before .before .before in
     rw (c .refused2 .ensures)
-    (end-refused (formed form) (start form .pre .1) (globals sizes) (rw (kind, id) at (c .before .before .before .before .end-verdict .ensures (a .origins .now) (a .next))) maker (c .before .before .verdict .given .1))
+    (end-refused (formed (formed-at asked)) (start (formed-at asked) .pre .1 .0) (globals (sizes-at asked)) (kind-is asked) (id-is asked)
+    (asked .end-verdict .ensures (start (formed-at asked) .args .origins .now)) maker refl (c .before .before .verdict .given .1))
 
 sub-kind : tie.Need-sub-end-transaction
 sub-kind c =
-    let kind = c .before .before .before .before .before .before .before .before .before .before .before .before in
-    omega (arith, kind .kind-of .ensures, start (kind .before) .pre .2)
+    let asked = c .before .before .before .before .before in
+    omega (arith, kind-is asked, start (formed-at asked) .pre .1 .1)
 
 end-transaction-requires : tie.Need-end-transaction-requires
 end-transaction-requires c κs =
-    let w = start (c .before .before .before .before .before .before .before .before .before .before .before .before .before) .pre .1 in
-    (w .arrays, omega (arith, w .bounds .fits, w .limit), c .before .before .before .before .before .before .before .before .first-owned .ensures)
+    let asked = c .before .before .before .before .before in
+    let w = start (formed-at asked) .pre .1 .0 in
+    (w .arrays, omega (arith, w .bounds .fits, w .limit), asked .before .before .before .first-owned .ensures)
 
 returns-3 : tie.Need-returns-3
 returns-3 c maker =
-    let sizes = c .before .before .before .before .before .before .before .before .before .before .before in
-    let form = sizes .before .before .before in
-    let kind = sizes .before .before .kind-of .ensures in
-    let id = sizes .before .number-of .ensures in
-    let a = start form .args in
-    end-made (formed form) (start form .pre .1) (globals sizes) (rw (kind, id) at (c .before .before .before .before .before .before .end-verdict .ensures (a .origins .now) (a .next))) maker
-    (c .before .before .before .before .enum-told .given .1) (rw (kind, id) at (c .end-transaction .ensures (a .next)))
+    let asked = c .before .before .before .before .before .before in
+    end-made (formed (formed-at asked)) (start (formed-at asked) .pre .1 .0) (globals (sizes-at asked)) (kind-is asked) (id-is asked)
+    (asked .end-verdict .ensures (start (formed-at asked) .args .origins .now)) maker refl
+    (c .before .before .before .before .enum-told .given .1) (c .end-transaction .ensures)
 
 pub make-end-spec : {M : Type 1} → statement M
 make-end-spec =
     tie.close
     (tie.spec
-    (λ c κs. search needs) (λ c κs. search needs) returns (λ c κs. search needs) (λ c κs. search needs) (λ c κs. well-formed _ (c .before .before .before .before .before .pre .0) .sizes .long)
-    (λ c κs. let w = start (c .before .before .before .before) .pre .1 in (omega (arith, w .bounds .fits, w .limit), w .arrays .owners)) end-verdict-requires (λ c. search needs) (λ c κs. search needs) returns-2
+    (λ c κs. search needs) (λ c κs. search needs) returns (λ c κs. search needs) (λ c κs. search needs)
+    (λ c κs. well-formed _ (c .before .before .before .before .before .pre .0) .sizes .long)
+    (λ c κs. let w = start (c .before .before .before .before) .pre .1 .0 in (omega (arith, w .bounds .fits, w .limit), w .arrays .owners))
+    end-verdict-requires (λ c. search needs) (λ c κs. search needs) returns-2
     (λ c. search needs) sub-kind end-transaction-requires returns-3)
