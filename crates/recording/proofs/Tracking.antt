@@ -156,11 +156,11 @@ module _ {first : ℕ} {begun : List ℕ} {i : ℕ} {s : State} (h : Tracked fir
       let (low, high, is) = h .marks mark k kind in
       let mine : isMarkOf (e .owner) mark ≡ true = and-intro (eq-eqb (mark .kind) 3 kind) (or-true false (eq-eqb (mark .owner) (e .owner) owner)) in
       let there : Among (mark .origin) (marksOf (e .owner) (s .entries)) = map-among (λ e. e .origin) (keep (isMarkOf (e .owner)) (s .entries)) mark
-          (keep-among (isMarkOf (e .owner)) (s .entries) mark k mine) in
+      (keep-among (isMarkOf (e .owner)) (s .entries) mark k mine) in
       let word : markBy begun first (e .owner) ≡ getD begun (mark .value - first) 0 = rw (le-leb first (e .owner) (omega arith), value) in
       let same : sameOrigin (originOf (markBy begun first (e .owner))) (mark .origin) ≡ true =
       and-intro (eq-eqb _ (mark .origin .maker) (ap (λ (o : Origin). o .maker) (ap originOf word ∙ is)))
-          (eq-eqb _ (mark .origin .index) (ap (λ (o : Origin). o .index) (ap originOf word ∙ is))) in (
+      (eq-eqb _ (mark .origin .index) (ap (λ (o : Origin). o .index) (ap originOf word ∙ is))) in (
         mark .origin,
         there,
         record {
