@@ -1,12 +1,12 @@
 -- A loop that reads place i of an array and writes place w of it, w ≤ i: what stays is changed by f and keeps its order.
 use Prim.Native.Nat.{ℕ, zero, suc, _+_, _≤_, _<_}
 use mathlib.Core.Path.{_≡_, refl, sym, ap, _∙_}
-use mathlib.Core.Bool.{Bool, true, false, not}
+use mathlib.Core.Bool.{Bool, true, false}
 use mathlib.Core.List.{List, [], _∷_, _++_, map, append-assoc, append-nil}
 use native.Mathlib.Nat.{add-zero, zero-add}
 use native.Mathlib.Numerals.{add-one}
 use native.Mathlib.Omega.{arith}
-use Rattle.lists.specs.Lists.{keepIf, keep, oneIf, isIn, without}
+use Rattle.lists.specs.Lists.{keepIf, keep, oneIf}
 use Rattle.lists.specs.Rows.{rows, rowsFrom, rows-none, rows-ext, rows-more, rows-tails, rows-whole}
 
 module _ {A : Type 0} where

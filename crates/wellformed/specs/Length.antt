@@ -9,10 +9,8 @@ use Rattle.lists.specs.Lists.{keep, without}
 use Rattle.lists.specs.Counting.{length-keep, count-le}
 use Rattle.semantics.specs.Table.{Table, Rule, ruleAt, productAtoms}
 use Rattle.semantics.specs.State.{Entry, State, isMessage, isCompensation}
-use Rattle.semantics.specs.Move.{Move, react, commit, abort, picked, ownersAt, merged, products, reacted, freed, ended, allowed, applied}
+use Rattle.semantics.specs.Move.{Move, react, commit, abort, picked, ownersAt, merged, products, reacted, freed, ended, applied}
 use Rattle.semantics.specs.declared.Atom.{Atom}
-use Rattle.semantics.specs.declared.Verdict.the-variants.{Allowed}
-use Rattle.wellformed.specs.Picks.{react-given, left-length}
 use Rattle.wellformed.specs.Ends.{stays}
 
 pub length-products : (R : Rule) (s : State) (es : List Entry) (i q : ℕ) (atoms : List Atom) → length (products R s es i q atoms) ≡ length atoms
