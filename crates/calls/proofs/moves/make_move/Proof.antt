@@ -41,14 +41,14 @@ returns-4 c =
 
 make-and-store-requires : tie.Need-make-and-store-requires
 make-and-store-requires c κs =
-    let roomy = c .before .before .before in
+    let roomy = c .before .before in
     let told = roomy .before .before .before .before .before .before .before .before .before .before .before in
     let said = told .before .before .ready .ensures in
     record { ready = said .ready (sym (said .verdict) ∙ told .enum-told .given .1); room = roomy .if3 .left }
 
 returns-5 : tie.Need-returns-5
 returns-5 c =
-    let roomy = c .before .before .before .before .before .before in
+    let roomy = c .before .before .before .before .before in
     let formed = roomy .before in
     let sized = formed .before .before .before .before .before .before .before .before .before in
     let told = sized .before in
@@ -74,7 +74,6 @@ make-move-spec =
     form-ok-requires
     returns-3
     returns-4
-    (λ c. search needs)
     make-and-store-requires
     (λ c. search needs)
     returns-5)
