@@ -22,14 +22,14 @@ any-open-requires c κs =
     omega (arith, w .bounds .fits, w .arrays .owners)
 
 returns-2 : tie.Need-returns-2
-returns-2 c = ran-open _ _ _ _ _ (c .before .before .before .before .before .before .before .before .before .before .before .before .before .before .before .before .before .before .before .before .before .before .before .before .before .before .before .before .before .pre .0) (c .before .before .before .before .before .before .before .before .before .before .before .before .before .before .before .load .ensures) (c .before .before .before .before .before .before .before .«record» .ensures .0) (c .before .before .before .enum-told .given .1) (sym (open-held _ _ _ _ _ (omega (arith, c .before .before .before .before .before .before .before .«record» .ensures .0 .ran .workable .bounds .fits, c .before .before .before .before .before .before .before .«record» .ensures .0 .ran .workable .arrays .owners))) ∙ sym (c .before .any-open .ensures) ∙ c .if1 .taken)
+returns-2 c = ran-open _ _ _ _ _ (c .before .before .before .before .before .before .before .before .before .before .before .before .before .before .before .before .before .before .before .before .before .before .before .before .before .before .before .before .before .pre .0) (c .before .before .before .before .before .before .before .before .before .before .before .before .before .before .before .load .ensures) (c .before .before .before .before .before .before .before .«record» .ensures .0) (c .before .before .before .enum-told .given .1) (sym (open-held _ _ _ _ (omega (arith, c .before .before .before .before .before .before .before .«record» .ensures .0 .ran .workable .bounds .fits, c .before .before .before .before .before .before .before .«record» .ensures .0 .ran .workable .arrays .owners))) ∙ sym (c .before .any-open .ensures) ∙ c .if1 .taken)
 
 reordered-requires : tie.Need-reordered-requires
 reordered-requires c κs =
-    (reorder-asked _ _ _ _ _ (c .before .before .before .before .before .before .before .before .before .before .before .before .before .before .before .before .before .before .before .before .before .before .before .before .before .before .before .before .before .before .before .before .before .before .before .before .before .pre .0) (c .before .before .before .before .before .before .before .before .before .before .before .before .before .before .before .before .before .before .before .before .before .before .before .load .ensures) (c .before .before .before .before .before .before .before .before .before .before .before .before .before .before .before .«record» .ensures .0) (c .before .before .before .before .before .before .before .before .before .before .before .enum-told .given .1) (sym (open-held _ _ _ _ _ (omega (arith, c .before .before .before .before .before .before .before .before .before .before .before .before .before .before .before .«record» .ensures .0 .ran .workable .bounds .fits, c .before .before .before .before .before .before .before .before .before .before .before .before .before .before .before .«record» .ensures .0 .ran .workable .arrays .owners))) ∙ sym (c .before .before .before .before .before .before .before .before .before .any-open .ensures) ∙ c .before .before .before .before .before .before .before .before .if1 .left) refl (c .before .before .before .before .before .before .before .before .before .before .before .before .before .before .before .«record» .ensures .1), c .before .before .before .before .before .before .before .before .before .before .before .before .before .before .before .«record» .ensures .0 .ran .workable .arrays, c .before .before .before .before .before .before .before .before .before .before .before .before .before .before .before .before .before .before .before .before .before .before .before .before .before .before .before .before .before .before .before .before .before .before .before .before .before .pre .1 .words)
+    (reorder-asked _ _ _ _ _ (c .before .before .before .before .before .before .before .before .before .before .before .before .before .before .before .before .before .before .before .before .before .before .before .before .before .before .before .before .before .before .before .before .before .before .before .before .before .pre .0) (c .before .before .before .before .before .before .before .before .before .before .before .before .before .before .before .before .before .before .before .before .before .before .before .load .ensures) (c .before .before .before .before .before .before .before .before .before .before .before .before .before .before .before .«record» .ensures .0) (c .before .before .before .before .before .before .before .before .before .before .before .enum-told .given .1) (sym (open-held _ _ _ _ (omega (arith, c .before .before .before .before .before .before .before .before .before .before .before .before .before .before .before .«record» .ensures .0 .ran .workable .bounds .fits, c .before .before .before .before .before .before .before .before .before .before .before .before .before .before .before .«record» .ensures .0 .ran .workable .arrays .owners))) ∙ sym (c .before .before .before .before .before .before .before .before .before .any-open .ensures) ∙ c .before .before .before .before .before .before .before .before .if1 .left) refl (c .before .before .before .before .before .before .before .before .before .before .before .before .before .before .before .«record» .ensures .1), c .before .before .before .before .before .before .before .before .before .before .before .before .before .before .before .«record» .ensures .0 .ran .workable .arrays, c .before .before .before .before .before .before .before .before .before .before .before .before .before .before .before .before .before .before .before .before .before .before .before .before .before .before .before .before .before .before .before .before .before .before .before .before .before .pre .1 .words)
 
 returns-3 : tie.Need-returns-3
-returns-3 c = ran-closed _ _ _ _ _ (c .before .before .before .before .before .before .before .before .before .before .before .before .before .before .before .before .before .before .before .before .before .before .before .before .before .before .before .before .before .before .before .before .before .before .before .before .before .before .before .before .before .before .pre .0) (c .before .before .before .before .before .before .before .before .before .before .before .before .before .before .before .before .before .before .before .before .before .before .before .before .before .before .before .before .load .ensures) (c .before .before .before .before .before .before .before .before .before .before .before .before .before .before .before .before .before .before .before .before .«record» .ensures .0) (c .before .before .before .before .before .before .before .before .before .before .before .before .before .before .before .before .enum-told .given .1) (sym (open-held _ _ _ _ _ (omega (arith, c .before .before .before .before .before .before .before .before .before .before .before .before .before .before .before .before .before .before .before .before .«record» .ensures .0 .ran .workable .bounds .fits, c .before .before .before .before .before .before .before .before .before .before .before .before .before .before .before .before .before .before .before .before .«record» .ensures .0 .ran .workable .arrays .owners))) ∙ sym (c .before .before .before .before .before .before .before .before .before .before .before .before .before .before .any-open .ensures) ∙ c .before .before .before .before .before .before .before .before .before .before .before .before .before .if1 .left) (c .before .before .before .before .reordered .ensures)
+returns-3 c = ran-closed _ _ _ _ _ (c .before .before .before .before .before .before .before .before .before .before .before .before .before .before .before .before .before .before .before .before .before .before .before .before .before .before .before .before .before .before .before .before .before .before .before .before .before .before .before .before .before .before .pre .0) (c .before .before .before .before .before .before .before .before .before .before .before .before .before .before .before .before .before .before .before .before .before .before .before .before .before .before .before .before .load .ensures) (c .before .before .before .before .before .before .before .before .before .before .before .before .before .before .before .before .before .before .before .before .«record» .ensures .0) (c .before .before .before .before .before .before .before .before .before .before .before .before .before .before .before .before .enum-told .given .1) (sym (open-held _ _ _ _ (omega (arith, c .before .before .before .before .before .before .before .before .before .before .before .before .before .before .before .before .before .before .before .before .«record» .ensures .0 .ran .workable .bounds .fits, c .before .before .before .before .before .before .before .before .before .before .before .before .before .before .before .before .before .before .before .before .«record» .ensures .0 .ran .workable .arrays .owners))) ∙ sym (c .before .before .before .before .before .before .before .before .before .before .before .before .before .before .any-open .ensures) ∙ c .before .before .before .before .before .before .before .before .before .before .before .before .before .if1 .left) (c .before .before .before .before .reordered .ensures)
 
 pub serialized-spec : {M : Type 1} → statement M
 serialized-spec =
