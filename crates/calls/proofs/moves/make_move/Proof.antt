@@ -34,21 +34,22 @@ returns-4 c =
 
 moved-requires : tie.Need-moved-requires
 moved-requires c κs =
-    let told = c .before .before .before .before .before .before .before .before .before .before .before .before .before .before in
+    let told = c .before .before .before .before .before .before .before .before .before .before .before .before .before in
     let ok = sym (told .before .before .ready .ensures .verdict) ∙ told .enum-told .given .1 in
-    record { state = ok; starts = told .before .before .ready .ensures .starts ok; room = c .before .before .before .if3 .left }
+    record { state = ok; starts = told .before .before .ready .ensures .starts ok; room = c .before .before .if3 .left }
 
 returns-5 : tie.Need-returns-5
 returns-5 c =
-    let told = c .before .before .before .before .before .before .before .before .before .before .before .before .before .before .before .before .before in
+    let room = c .before .before .before .before .before in
+    let sized = room .before .before .before .before .before .before .before .before .before .before in
+    let told = sized .before in
     let a = told .before .before .before .before .before .before .before .args in
-    let long = c .before .before .before .before .before .before .before .before .before .before .before .before .before .before .before .before .if1 .left in
     make-done _ _ _ _ (sym (told .before .before .ready .ensures .verdict) ∙ told .enum-told .given .1)
-    (form-read (a .table .now) (a .mv .now) long (c .before .before .before .before .before .before .before .before .form-ok .ensures) (not-false _ (c .before .before .before .before .before .before .before .if2 .left)))
-    (c .before .before .before .before .before .before .if3 .left) (rw (five (a .mv .now) long) at (c .before .before .moved .ensures))
+    (form-read (a .table .now) (a .mv .now) (sized .if1 .left) (room .before .before .form-ok .ensures) (not-false _ (room .before .if2 .left)))
+    (room .if3 .left) (rw (five (a .mv .now) (sized .if1 .left)) at (c .before .before .moved .ensures))
 
 pub make-move-spec : {M : Type 1} → statement M
 make-move-spec =
     tie.close
     (tie.spec (λ c κs. search needs) (λ c. search needs) returns (λ c. search needs) returns-2 (λ c. search needs) (λ c. search needs) (λ c. search needs) (λ c. search needs)
-    (λ c. search needs) form-ok-requires returns-3 returns-4 (λ c. search needs) moved-requires (λ c. search needs) returns-5)
+    (λ c. search needs) form-ok-requires returns-3 returns-4 moved-requires (λ c. search needs) returns-5)
