@@ -1,38 +1,42 @@
--- The single move, case by case.
+-- The single move: made on the loaded state, and its call case by case.
 use Prim.Native.Nat.{ℕ, _≤_, _<_}
 use mathlib.Core.Bool.{Bool, true, false}
 use mathlib.Core.List.{List, [], _∷_}
+use mathlib.Core.Logic.{inl, inr}
 use mathlib.Core.Path.{_≡_, refl, sym, ap, _∙_}
 use native.Mathlib.Omega.{arith}
 use lib.ListN.{length, getD}
 use borrow.Author.Tests.{ne-eqb}
 use Rattle.semantics.specs.Table.{tableOf}
 use Rattle.semantics.specs.State.{stateOf}
-use Rattle.semantics.specs.Move.{unless, moveOk, Stepped, to, steppedBy, stepWords}
-use Rattle.semantics.specs.Answers.{answerOf, steppedResult, lineCeiling, stateVerdict, moveResult, makeMove, makeMoveTarget}
+use Rattle.semantics.specs.Move.{moveOk, steppedBy, stepWords}
+use Rattle.semantics.specs.Answers.{answerOf, lineCeiling, stateRoom, stateVerdict, moveFaults, moveResult, makeMove, makeMoveTarget}
 use Rattle.semantics.specs.declared.Refusal.{Refusal}
 use Rattle.semantics.specs.declared.Refusal.the-variants.{MoveForm, TargetTooShort}
 use Rattle.semantics.specs.declared.Verdict.{Verdict}
 use Rattle.semantics.specs.declared.Verdict.the-variants.{Allowed, Denied}
 use Rattle.semantics.specs.declared.Outcome.{Outcome}
 use Rattle.semantics.specs.declared.Outcome.the-variants.{Written, Refused}
+use Rattle.wellformed.specs.Verdicts.{unless-intro, unless-false, FaultAt}
 use Rattle.state.specs.declared.State.{State}
 use Rattle.state.specs.Working.{stateIn, Stored}
 use Rattle.state.specs.Arrays.{HoldsIn}
 use Rattle.step.specs.declared.make.Made.{Made}
 use Rattle.step.specs.Make.{MadeAs}
-use Rattle.calls.specs.Moves.{MovedAs}
-use Rattle.calls.proofs.Results.{denied-gives, allowed-gives, both-first, both-second, unless-false, unless-true, too-short, long-enough}
+use Rattle.calls.specs.Results.{ComesTo}
+use Rattle.calls.specs.Moves.{moveMade}
+use Rattle.calls.proofs.Results.{fault-gives, passed-gives, too-short, long-enough}
 
 -- the move made on the loaded state
-module _ (t S w before : List ℕ) {m : Made} {s s′ : State} (loaded : HoldsIn s (stateOf S)) (made : MadeAs m lineCeiling (tableOf t) 1 w s s′) where
+module _ (t S w before : List ℕ) {m : Made} {s s′ : State}
+    (loaded : HoldsIn s (stateOf S)) (made : MadeAs m lineCeiling (tableOf t) 1 w s s′) where
   stepped : {u : Verdict} → m .verdict ≡ u → stepWords lineCeiling (tableOf t) 1 (stateOf S) w ≡ steppedBy u (stateIn s′)
   stepped e = ap (λ x. stepWords lineCeiling (tableOf t) 1 x w) (sym (loaded .holds .value)) ∙ made .step ∙ rw e
 
-  pub moved-refused : {q : Refusal} → m .verdict ≡ Denied q → MovedAs t S w before before (Refused q)
+  pub moved-refused : {q : Refusal} → m .verdict ≡ Denied q → ComesTo (moveMade t S w) before before (Refused q)
   moved-refused e = record { outcome = rw (stepped e); target = rw (stepped e) }
 
-  pub moved-written : {after : List ℕ} {n : ℕ} → m .verdict ≡ Allowed → Stored s′ before after n → MovedAs t S w before after (Written n)
+  pub moved-written : {after : List ℕ} {n : ℕ} → m .verdict ≡ Allowed → Stored s′ before after n → ComesTo (moveMade t S w) before after (Written n)
   moved-written e k = record { outcome = rw (stepped e, k .words); target = rw (stepped e) (k .target) }
 
 -- five words, one by one
@@ -45,40 +49,36 @@ five (a ∷ b ∷ c ∷ d ∷ []) h = absurd (omega arith)
 five (a ∷ b ∷ c ∷ d ∷ e ∷ []) h = refl
 five (a ∷ b ∷ c ∷ d ∷ e ∷ f ∷ m) h = absurd (omega arith)
 
--- their form, from what the code says of them
-pub form-read : (t m : List ℕ) → length m ≡ 5 → {b : Bool} → b ≡ moveOk (tableOf t) (getD m 0 0 ∷ getD m 1 0 ∷ getD m 2 0 ∷ getD m 3 0 ∷ getD m 4 0 ∷ []) → {u : Bool} → b ≡ u → moveOk (tableOf t) m ≡ u
-form-read t m long said e = ap (moveOk (tableOf t)) (sym (five m long)) ∙ sym said ∙ e
+-- their form, as the code says it
+pub form-read : (t m : List ℕ) → length m ≡ 5 → {b : Bool}
+    → b ≡ moveOk (tableOf t) (getD m 0 0 ∷ getD m 1 0 ∷ getD m 2 0 ∷ getD m 3 0 ∷ getD m 4 0 ∷ []) → moveOk (tableOf t) m ≡ b
+form-read t m long said = ap (moveOk (tableOf t)) (sym (five m long)) ∙ sym said
 
 -- what `make_move` says
-abbrev pub AnsweredMove : List ℕ → List ℕ → List ℕ → List ℕ → List ℕ → Outcome → Type 0
-AnsweredMove t s m before after o = (answerOf o ≡ makeMove t s m before) × (after ≡ makeMoveTarget t s m before)
+abbrev pub MoveAnswered : List ℕ → List ℕ → List ℕ → List ℕ → List ℕ → Outcome → Type 0
+MoveAnswered t s m before after o = (answerOf o ≡ makeMove t s m before) × (after ≡ makeMoveTarget t s m before)
 
 module _ (t s m before : List ℕ) where
-  pub make-denied : (q : Refusal) → stateVerdict t s ≡ Denied q → AnsweredMove t s m before before (Refused q)
+  pub move-fault : (q : Refusal) → FaultAt q (moveFaults t s m before) → MoveAnswered t s m before before (Refused q)
   unfolding makeMove makeMoveTarget moveResult
-  make-denied q e = denied-gives _ _ before q (both-first (stateVerdict t s) _ q e)
+  move-fault q h = fault-gives (moveFaults t s m before) _ before q h
 
-  module _ (ok : stateVerdict t s ≡ Allowed) where
-    pub make-malformed : moveOk (tableOf t) m ≡ false → AnsweredMove t s m before before (Refused MoveForm)
+  pub move-unsized : stateVerdict t s ≡ Allowed → (length m ≡ 5 → ⊥) → MoveAnswered t s m before before (Refused MoveForm)
+  unfolding moveOk
+  move-unsized ok h =
+      let e : moveOk (tableOf t) m ≡ false = rw (ne-eqb (length m) 5 h) in
+      move-fault MoveForm (inr (ok, inl (unless-false MoveForm e)))
+
+  module _ (ok : stateVerdict t s ≡ Allowed) {b : Bool} (form : moveOk (tableOf t) m ≡ b) where
+    pub move-malformed : b ≡ false → MoveAnswered t s m before before (Refused MoveForm)
+    move-malformed e = move-fault MoveForm (inr (ok, inl (unless-false MoveForm (form ∙ e))))
+
+    pub move-short : b ≡ true → length before < stateRoom → MoveAnswered t s m before before (Refused TargetTooShort)
+    move-short e h = move-fault TargetTooShort (inr (ok, inr (unless-intro MoveForm (form ∙ e), inl (too-short stateRoom before h))))
+
+    pub move-done : b ≡ true → stateRoom ≤ length before → {after : List ℕ} {o : Outcome} → ComesTo (moveMade t s m) before after o
+        → MoveAnswered t s m before after o
     unfolding makeMove makeMoveTarget moveResult
-    make-malformed e =
-        denied-gives _ _ before MoveForm
-        (both-second (stateVerdict t s) _ _ ok (both-first (unless (moveOk (tableOf t) m) MoveForm) _ MoveForm (unless-false (moveOk (tableOf t) m) MoveForm e)))
-
-    pub make-unsized : (length m ≡ 5 → ⊥) → AnsweredMove t s m before before (Refused MoveForm)
-    unfolding moveOk
-    make-unsized h = make-malformed (rw (ne-eqb (length m) 5 h))
-
-    module _ (form : moveOk (tableOf t) m ≡ true) where
-      pub make-short : length before < 2050 → AnsweredMove t s m before before (Refused TargetTooShort)
-      unfolding makeMove makeMoveTarget moveResult
-      make-short h =
-          denied-gives _ _ before TargetTooShort
-          (both-second (stateVerdict t s) _ _ ok (both-second (unless (moveOk (tableOf t) m) MoveForm) _ _ (unless-true (moveOk (tableOf t) m) MoveForm form) (too-short 2050 before h)))
-
-      pub make-done : 2050 ≤ length before → {after : List ℕ} {o : Outcome} → MovedAs t s m before after o → AnsweredMove t s m before after o
-      unfolding makeMove makeMoveTarget moveResult
-      make-done h f =
-          allowed-gives _ (steppedResult (stepWords lineCeiling (tableOf t) 1 (stateOf s) m)) before _ _
-          (both-second (stateVerdict t s) _ _ ok (both-second (unless (moveOk (tableOf t) m) MoveForm) _ _ (unless-true (moveOk (tableOf t) m) MoveForm form) (long-enough 2050 before h)))
-          (f .outcome) (f .target)
+    move-done e h made =
+        passed-gives (moveFaults t s m before) (moveMade t s m) before
+        (ok, (unless-intro MoveForm (form ∙ e), (long-enough stateRoom before h, tt))) made

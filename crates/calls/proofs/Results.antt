@@ -1,60 +1,55 @@
--- What a call with a target gives, by its result; and the verdicts that come before it.
+-- What a call with a target answers and leaves: its first fault, or what it comes to where there is none.
 use Prim.Native.Nat.{ℕ, _≤_, _<_}
-use mathlib.Core.Bool.{Bool, true, false}
-use mathlib.Core.List.{List}
-use mathlib.Core.Path.{_≡_, refl, sym, ap, _∙_}
+use mathlib.Core.Bool.{true, false}
+use mathlib.Core.List.{List, [], _∷_}
+use mathlib.Core.Logic.{inl, inr}
+use mathlib.Core.Path.{_≡_, refl, ap}
 use lib.ListN.{length}
 use borrow.Author.Tests.{le-leb, lt-leb}
-use Rattle.semantics.specs.Move.{unless, both}
+use Rattle.semantics.specs.Move.{unless, firstFault}
 use Rattle.semantics.specs.Log.{logSizesOk}
-use Rattle.semantics.specs.Answers.{answerOf, outcomeOf, targetAfter, Result, refuse, unlessDenied, stateVerdict, logVerdict, hasWords}
+use Rattle.semantics.specs.Answers.{answerOf, outcomeOf, targetAfter, Result, unlessDenied, stateVerdict, logVerdict, hasWords}
 use Rattle.semantics.specs.declared.Refusal.{Refusal}
 use Rattle.semantics.specs.declared.Refusal.the-variants.{LogSizes, TargetTooShort}
 use Rattle.semantics.specs.declared.Verdict.{Verdict}
 use Rattle.semantics.specs.declared.Verdict.the-variants.{Allowed, Denied}
 use Rattle.semantics.specs.declared.Outcome.{Outcome}
 use Rattle.semantics.specs.declared.Outcome.the-variants.{Refused}
+use Rattle.wellformed.specs.Verdicts.{unless-intro, unless-false, FaultAt, first-fault, Passed, no-fault}
+use Rattle.calls.specs.Results.{ComesTo}
 
--- the outcome o and the target afterwards are those of the result
 abbrev pub Gives : Result → List ℕ → List ℕ → Outcome → Type 0
 Gives x before after o = (answerOf o ≡ answerOf (outcomeOf x)) × (after ≡ targetAfter x before)
 
--- a first fault refuses and leaves the target
-pub denied-gives : (v : Verdict) (x : Result) (before : List ℕ) (q : Refusal) → v ≡ Denied q → Gives (unlessDenied v x) before before (Refused q)
-denied-gives v x before q e = rw e (refl, refl)
+-- a fault refuses and leaves the target
+pub fault-gives : (vs : List Verdict) (x : Result) (before : List ℕ) (q : Refusal) → FaultAt q vs
+    → Gives (unlessDenied (firstFault vs) x) before before (Refused q)
+fault-gives vs x before q h = rw (first-fault vs h) (refl, refl)
 
-pub allowed-gives : (v : Verdict) (x : Result) (before after : List ℕ) (o : Outcome) → v ≡ Allowed → o ≡ outcomeOf x → after ≡ targetAfter x before → Gives (unlessDenied v x) before after o
-allowed-gives v x before after o e f g = rw e (ap answerOf f, g)
+pub passed-gives : (vs : List Verdict) (x : Result) (before : List ℕ) {after : List ℕ} {o : Outcome} → Passed vs → ComesTo x before after o
+    → Gives (unlessDenied (firstFault vs) x) before after o
+passed-gives vs x before h made = rw (no-fault vs h) (ap answerOf (made .outcome), made .target)
 
--- ---- first faults
-
-pub both-first : (v w : Verdict) (q : Refusal) → v ≡ Denied q → both v w ≡ Denied q
-both-first v w q e = rw e
-
-pub both-second : (v w u : Verdict) → v ≡ Allowed → w ≡ u → both v w ≡ u
-both-second v w u e f = rw (e, f)
-
-pub unless-false : (b : Bool) (q : Refusal) → b ≡ false → unless b q ≡ Denied q
-unless-false b q e = rw e
-
-pub unless-true : (b : Bool) (q : Refusal) → b ≡ true → unless b q ≡ Allowed
-unless-true b q e = rw e
+-- ---- single tests
 
 pub too-short : (n : ℕ) (target : List ℕ) → length target < n → hasWords n target ≡ Denied TargetTooShort
-too-short n target h = unless-false _ TargetTooShort (lt-leb n (length target) h)
+too-short n target h = unless-false TargetTooShort (lt-leb n (length target) h)
 
 pub long-enough : (n : ℕ) (target : List ℕ) → n ≤ length target → hasWords n target ≡ Allowed
-long-enough n target h = unless-true _ TargetTooShort (le-leb n (length target) h)
+long-enough n target h = unless-intro TargetTooShort (le-leb n (length target) h)
 
 module _ (t s l : List ℕ) where
-  pub log-denied : (q : Refusal) → stateVerdict t s ≡ Denied q → logVerdict t s l ≡ Denied q
+  abbrev tests : List Verdict
+  tests = stateVerdict t s ∷ unless (logSizesOk l) LogSizes ∷ []
+
+  pub log-denied : {q : Refusal} → stateVerdict t s ≡ Denied q → logVerdict t s l ≡ Denied q
   unfolding logVerdict
-  log-denied q e = both-first (stateVerdict t s) _ q e
+  log-denied e = first-fault tests (inl e)
 
   pub log-missized : stateVerdict t s ≡ Allowed → logSizesOk l ≡ false → logVerdict t s l ≡ Denied LogSizes
   unfolding logVerdict
-  log-missized e f = both-second (stateVerdict t s) _ _ e (unless-false (logSizesOk l) LogSizes f)
+  log-missized e f = first-fault tests (inr (e, inl (unless-false LogSizes f)))
 
   pub log-allowed : stateVerdict t s ≡ Allowed → logSizesOk l ≡ true → logVerdict t s l ≡ Allowed
   unfolding logVerdict
-  log-allowed e f = both-second (stateVerdict t s) _ _ e (unless-true (logSizesOk l) LogSizes f)
+  log-allowed e f = no-fault tests (e, (unless-intro LogSizes f, tt))

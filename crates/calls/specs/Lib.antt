@@ -1,3 +1,3 @@
-pub mod Ready
+pub mod Results
 pub mod Logs
 pub mod Moves

@@ -1,10 +1,9 @@
-// The two checks, and what every other call asks of its table and state first.
+// The two checks.
 ghost use mathlib.Core.Path.{_≡_};
 ghost use Rattle.semantics.specs.Answers.{answerOf, outcomeOfCheck, checkTable, checkState};
-ghost use Rattle.calls.specs.Ready.{ReadyAs};
+use ready::ready;
 use semantics::Outcome;
 use semantics::Verdict;
-use table::Checked;
 
 fn outcome_of_check(verdict: Verdict) -> Outcome
     ensures { λ r. ⌜ r ≡ outcomeOfCheck verdict ⌝ }
@@ -22,20 +21,6 @@ pub fn check_table(table: &[u32]) -> Outcome
     let checked = table::check(table);
     let verdict = checked.verdict;
     outcome_of_check(verdict)
-}
-
-// The verdict on a table and a state, with the index of the table's rules: 1 to 4.
-pub fn ready(table: &[u32], state: &[u32]) -> Checked
-    ensures { λ r. ⌜ ReadyAs (now (table .entry)) (now (state .entry)) r ⌝ }
-{
-    let checked = table::check(table);
-    let of_table = checked.verdict;
-    if let Verdict::Denied(refusal) = of_table {
-        return checked;
-    }
-    let starts = checked.starts;
-    let verdict = state::check(table::sizes_of(table), state);
-    Checked { verdict, starts }
 }
 
 // Whether a state is well formed under its table: 0, or 1 to 4.

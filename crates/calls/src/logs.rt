@@ -1,8 +1,9 @@
 // The run of a log.
 ghost use mathlib.Core.Path.{_≡_};
 ghost use Rattle.semantics.specs.Answers.{answerOf, runLog, runLogTarget};
-ghost use Rattle.calls.specs.Logs.{Runnable, FinishedAs};
-use crate::checks::ready;
+ghost use Rattle.calls.specs.Logs.{Runnable, runMade};
+ghost use Rattle.calls.specs.Results.{ComesTo};
+use ready::ready;
 use run::run_log;
 use semantics::Outcome;
 use semantics::Refusal;
@@ -10,7 +11,7 @@ use semantics::Verdict;
 use state::State;
 
 // A log in order, with a target that is long enough: the words of the state reached, or 16.
-fn finished<'a>(
+fn run_and_store<'a>(
     table: &'a [u32],
     starts: &'a [u32; 65],
     state: &'a [u32],
@@ -18,7 +19,7 @@ fn finished<'a>(
     target: &mut [u32],
 ) -> Outcome
     requires { ⌜ Runnable (now table) (now starts) (now state) (now log) (now target) ⌝ }
-    ensures { λ r. ⌜ FinishedAs (now (table .entry)) (now (state .entry)) (now (log .entry)) (now (target .entry)) (now (target .exit)) r ⌝ }
+    ensures { λ r. ⌜ ComesTo (runMade (now (table .entry)) (now (state .entry)) (now (log .entry))) (now (target .entry)) (now (target .exit)) r ⌝ }
 {
     let s = State::empty();
     let mut owners = s.owners;
@@ -55,9 +56,9 @@ pub fn run<'a>(table: &'a [u32], state: &'a [u32], log: &'a [u32], target: &mut 
     if !log::sizes_ok(log) {
         return Outcome::Refused(Refusal::LogSizes);
     }
-    if target.len() < 2050 {
+    if target.len() < State::MAX_WORDS {
         return Outcome::Refused(Refusal::TargetTooShort);
     }
     let starts = checked.starts;
-    finished(table, &starts, state, log, target)
+    run_and_store(table, &starts, state, log, target)
 }

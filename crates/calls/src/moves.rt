@@ -2,8 +2,9 @@
 ghost use mathlib.Core.Path.{_≡_};
 ghost use Rattle.semantics.specs.Answers.{answerOf, makeMove, makeMoveTarget};
 ghost use Rattle.words.specs.Head.{wordsIn};
-ghost use Rattle.calls.specs.Moves.{Movable, MovedAs};
-use crate::checks::ready;
+ghost use Rattle.calls.specs.Moves.{Movable, moveMade};
+ghost use Rattle.calls.specs.Results.{ComesTo};
+use ready::ready;
 use semantics::Outcome;
 use semantics::Refusal;
 use semantics::Verdict;
@@ -13,7 +14,7 @@ use step::make::make;
 use words::head::MoveWords;
 
 // A move in order, with a target that is long enough: 7 to 12.
-fn moved<'a>(
+fn make_and_store<'a>(
     table: &'a [u32],
     starts: &'a [u32; 65],
     state: &'a [u32],
@@ -21,7 +22,7 @@ fn moved<'a>(
     target: &mut [u32],
 ) -> Outcome
     requires { ⌜ Movable (now table) (now starts) (now state) (now target) ⌝ }
-    ensures { λ r. ⌜ MovedAs (now (table .entry)) (now (state .entry)) (wordsIn mv) (now (target .entry)) (now (target .exit)) r ⌝ }
+    ensures { λ r. ⌜ ComesTo (moveMade (now (table .entry)) (now (state .entry)) (wordsIn mv)) (now (target .entry)) (now (target .exit)) r ⌝ }
 {
     let s = State::empty();
     let mut owners = s.owners;
@@ -71,8 +72,8 @@ pub fn make_move<'a>(
     if !form_ok(table, &starts, words) {
         return Outcome::Refused(Refusal::MoveForm);
     }
-    if target.len() < 2050 {
+    if target.len() < State::MAX_WORDS {
         return Outcome::Refused(Refusal::TargetTooShort);
     }
-    moved(table, &starts, state, words, target)
+    make_and_store(table, &starts, state, words, target)
 }

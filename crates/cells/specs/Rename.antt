@@ -11,7 +11,7 @@ use borrow.Author.Tests.{eqb-true, eq-eqb, ltb-true, lt-ltb}
 use lib.ListN.{length}
 use Rattle.lists.specs.Lists.{all, isIn, least}
 use Rattle.lists.specs.Choices.{and-left, and-right, and-intro}
-use Rattle.lists.specs.Numbers.{least-some, all-intro, all-use, isIn-unmap}
+use Rattle.lists.specs.Numbers.{least-some, all-isIn, all-use, isIn-unmap}
 use Rattle.lists.specs.Each.{All, head-eq, tail-eq}
 use Rattle.semantics.specs.State.{Origin, Entry, State, isMessage}
 use Rattle.semantics.specs.Move.{isZero, entryAt, onPorts, ownersFit, valueIn, kindMade}
@@ -65,9 +65,9 @@ fit-rename ρ k ns z nz = go (eqb k 0) (eqb k 1)
 
     go : (a b : Bool) → cond a (all isZero ns) (cond b (all (λ o. ltb 0 o && eqb o (least ns)) ns) (all (λ o. ltb 0 o) ns)) ≡ true
         → cond a (all isZero (map ρ ns)) (cond b (all (λ o. ltb 0 o && eqb o (least (map ρ ns))) (map ρ ns)) (all (λ o. ltb 0 o) (map ρ ns))) ≡ true
-    go true b h = all-intro isZero (map ρ ns) (λ w q. let r = isIn-unmap ρ w ns q in eq-eqb w 0 (sym (r .2) ∙ ap ρ (zeros ns h (r .0) (r .1)) ∙ z))
-    go false false h = all-intro (λ o. ltb 0 o) (map ρ ns) (λ w q. positive w (isIn-unmap ρ w ns q) (λ v k. all-use (λ o. ltb 0 o) ns v h k))
-    go false true h = all-intro (λ o. ltb 0 o && eqb o (least (map ρ ns))) (map ρ ns)
+    go true b h = all-isIn isZero (map ρ ns) (λ w q. let r = isIn-unmap ρ w ns q in eq-eqb w 0 (sym (r .2) ∙ ap ρ (zeros ns h (r .0) (r .1)) ∙ z))
+    go false false h = all-isIn (λ o. ltb 0 o) (map ρ ns) (λ w q. positive w (isIn-unmap ρ w ns q) (λ v k. all-use (λ o. ltb 0 o) ns v h k))
+    go false true h = all-isIn (λ o. ltb 0 o && eqb o (least (map ρ ns))) (map ρ ns)
         (λ w q. and-intro (positive w (isIn-unmap ρ w ns q) (λ v k. and-left (ltb 0 v) (eqb v (least ns)) (test v k)))
         (eq-eqb w (least (map ρ ns)) (alike w (isIn-unmap ρ w ns q)
         ∙ sym (alike (least (map ρ ns)) (isIn-unmap ρ (least (map ρ ns)) ns (least-some w (map ρ ns) q))))))

@@ -41,7 +41,8 @@ upd-at ρ b n = rw (eq-eqb b b refl)
 upd-off : (ρ : ℕ → ℕ) (b n v : ℕ) → (v ≡ b → ⊥) → upd ρ b n v ≡ ρ v
 upd-off ρ b n v h = rw (ne-eqb v b h)
 
-module _ (t : Table) (sd : Shaped t) (c : State) (F : Seen) (ρ : ℕ → ℕ) (rel : Rel c F ρ) (a : Deed) (r : ℕ) (ps : List ℕ) (K : Ok t F (withMove a (react r ps))) where
+module _ (t : Table) (sd : Shaped t) (c : State) (F : Seen) (ρ : ℕ → ℕ) (rel : Rel c F ρ) (a : Deed) (r : ℕ) (ps : List ℕ)
+    (K : Ok t F (withMove a (react r ps))) where
   abbrev pub es : List Entry
   es = K .es
 

@@ -8,7 +8,7 @@ use lib.Dec.{eqb, leb, ltb}
 use borrow.Author.Tests.{eqb-true, ne-eqb, leb-true}
 use Rattle.lists.specs.Lists.{all, isEmpty, isIn, count, least}
 use Rattle.lists.specs.Choices.{by-bool, clash, and-left, and-intro}
-use Rattle.lists.specs.Numbers.{isIn-one, least-in, all-use, all-intro, all-not}
+use Rattle.lists.specs.Numbers.{isIn-one, least-in, all-use, all-isIn, all-not}
 use Rattle.lists.specs.Each.{All, All-map, All-of}
 use Rattle.semantics.specs.Table.{Table, Rule, ruleAt, hasRole, consumed, productAtoms, begins}
 use Rattle.semantics.specs.State.{Origin, Entry, State}
@@ -53,7 +53,7 @@ pub inner-fit : (k : ℕ) (os : List ℕ) → eqb k 0 ≡ false → ownersFit k 
 inner-fit k os c h = go (eqb k 1) (rw c at h)
   where
     go : (b : Bool) → cond b (all (λ o. ltb 0 o && eqb o (least os)) os) (all (λ o. ltb 0 o) os) ≡ true → all (λ o. ltb 0 o) os ≡ true
-    go true w = all-intro (λ o. ltb 0 o) os (λ v k. and-left (ltb 0 v) (eqb v (least os)) (all-use (λ o. ltb 0 o && eqb o (least os)) os v w k))
+    go true w = all-isIn (λ o. ltb 0 o) os (λ v k. and-left (ltb 0 v) (eqb v (least os)) (all-use (λ o. ltb 0 o && eqb o (least os)) os v w k))
     go false w = w
 
 -- relabelling under an id that they all have changes nothing

@@ -138,7 +138,8 @@ cell-eq false none none g h p = refl
 cell-eq false none (some e) g h p = refl
 cell-eq false (some e) y g h p = ap {B = Option Entry} some (p e)
 
-module _ (t : Table) (sd : Shaped t) (i k : ℕ) (s : State) (r : ℕ) (ps : List ℕ) (u : Uniq (s .entries)) (g : Good i (view s)) (P : ReactGiven (ruleAt t r) s ps) where
+module _ (t : Table) (sd : Shaped t) (i k : ℕ) (s : State) (r : ℕ) (ps : List ℕ) (u : Uniq (s .entries)) (g : Good i (view s))
+    (P : ReactGiven (ruleAt t r) s ps) where
   abbrev pub R : Rule
   R = ruleAt t r
 

@@ -61,5 +61,5 @@ module _ (ws : List ℕ) (v : ℕ) (small : v < 65536) (sized : length ws ≡ 10
       rw (getD-set-other ws (v / 64) (u / 64) word 0 apart, ne-eqb u v (λ d. apart (ap (λ (x : ℕ). x / 64) d)))
 
   -- The store inserts v: what `insert` returns with.
-  pub stored : Inserted v ws (set ws (v / 64) word)
-  stored = record { size = length-set ws (v / 64) word ∙ sized; holds = λ u. has-stored u (eqb (u / 64) (v / 64)) refl }
+  pub store-inserts : Inserted v ws (set ws (v / 64) word)
+  store-inserts = record { size = length-set ws (v / 64) word ∙ sized; holds = λ u. has-stored u (eqb (u / 64) (v / 64)) refl }

@@ -42,9 +42,9 @@ wordAfter bytes zero = 0
 wordAfter bytes (suc i) = push (wordAfter bytes i) (getD bytes i 0)
 
 -- the target after i bytes
-abbrev pub targetAfter : List ℕ → List ℕ → ℕ → List ℕ
-targetAfter bytes target zero = target
-targetAfter bytes target (suc i) = set (targetAfter bytes target i) (i / 4) (wordAfter bytes (suc i))
+abbrev pub gatheredAfter : List ℕ → List ℕ → ℕ → List ℕ
+gatheredAfter bytes target zero = target
+gatheredAfter bytes target (suc i) = set (gatheredAfter bytes target i) (i / 4) (wordAfter bytes (suc i))
 
 module _ (bytes : List ℕ) (known : (i : ℕ) → Fits w8 (getD bytes i 0)) where
   small : (i : ℕ) → getD bytes i 0 < 256
@@ -63,7 +63,7 @@ module _ (bytes : List ℕ) (known : (i : ℕ) → Fits w8 (getD bytes i 0)) whe
 
   after-words :
       (target : List ℕ) (n : ℕ) → n ≤ length (wordsOf bytes) → n ≤ length target
-      → targetAfter bytes target (4 * n) ≡ over (take n (wordsOf bytes)) target
+      → gatheredAfter bytes target (4 * n) ≡ over (take n (wordsOf bytes)) target
   after-words target zero h k = refl
   after-words target (suc n) h k =
       let e : 4 * suc n ≡ suc (suc (suc (suc (4 * n)))) = omega arith in
@@ -77,7 +77,7 @@ module _ (bytes : List ℕ) (known : (i : ℕ) → Fits w8 (getD bytes i 0)) whe
   -- after all of the bytes that go into the target
   pub gathered :
       {target after : List ℕ} {n i : ℕ} → n ≡ min (length target) (length bytes / 4) → i ≡ 4 * n
-      → after ≡ targetAfter bytes target i → length after ≡ length target → Gathered bytes target after n
+      → after ≡ gatheredAfter bytes target i → length after ≡ length target → Gathered bytes target after n
   gathered {target} {after} {n} {i} least all e same =
       let count : n ≡ length (fitting bytes target) = rw (length-take, length-words) least in
       let few = length-take (length target) (wordsOf bytes) in

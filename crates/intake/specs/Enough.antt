@@ -10,11 +10,12 @@ use lib.Dec.{leb, eqb}
 use lib.ListN.{length, getD, take, drop, length-take}
 use lib.Seq.{getD-take, take-take, take-all, length-take-le}
 use Rattle.lists.specs.Tests.{and-both}
+use Rattle.lists.specs.Choices.{is-false}
 use Rattle.lists.specs.Beginning.{drop-take}
 use Rattle.semantics.specs.Table.{sizesOf, tableSizesOk}
-use Rattle.wellformed.specs.Tables as Tables
+use Rattle.wellformed.specs.Tables.{table-sized, well-formed}
 use Rattle.semantics.specs.State.{stateSizesOk}
-use Rattle.wellformed.specs.States as States
+use Rattle.wellformed.specs.States.{state-sized, state-given}
 use Rattle.semantics.specs.Log.{moveCount, logSizesOk}
 use Rattle.semantics.specs.Move.{unless, both}
 use Rattle.semantics.specs.Answers.{tableVerdict, stateOwnVerdict, stateVerdict, logVerdict}
@@ -23,12 +24,7 @@ use Rattle.semantics.specs.declared.Sizes.{Sizes}
 use Rattle.semantics.specs.declared.Refusal.the-variants.{TableSizes, StateSizes, LogSizes}
 use Rattle.semantics.specs.declared.Verdict.{Verdict}
 use Rattle.semantics.specs.declared.Verdict.the-variants.{Allowed, Denied}
-use Rattle.wellformed.specs.Verdicts.{both-allowed, unless-allowed}
 use Rattle.intake.specs.Split.{accepted-input}
-
-fails : (b : Bool) → (b ≡ true → ⊥) → b ≡ false
-fails true h = absurd (h refl)
-fails false h = refl
 
 -- ---- the words of the first bytes
 
@@ -51,13 +47,13 @@ module _ (ws : List ℕ) where
   unfolding tableVerdict
   table-over h =
       let same : getD (tablePart ws) 4 0 ≡ getD ws 4 0 = getD-take (5 + 2 * getD ws 4 0) ws 4 0 (omega arith) in
-      rw (fails (tableSizesOk (tablePart ws)) (λ yes. let z = Tables.table-sized (tablePart ws) yes in omega arith))
+      rw (is-false (tableSizesOk (tablePart ws)) (λ yes. let z = table-sized (tablePart ws) yes in omega arith))
 
   state-over : (z : Sizes) → 1024 < getD ws 0 0 → stateOwnVerdict z (statePart ws) ≡ Denied StateSizes
   unfolding stateOwnVerdict
   state-over z h =
       let same : getD (statePart ws) 0 0 ≡ getD ws 0 0 = getD-take (2 + 2 * getD ws 0 0) ws 0 0 (omega arith) in
-      rw (fails (stateSizesOk (statePart ws)) (λ yes. let z = States.state-sized (statePart ws) yes in omega arith))
+      rw (is-false (stateSizesOk (statePart ws)) (λ yes. let z = state-sized (statePart ws) yes in omega arith))
 
 state-enough : (m : ℕ) (z : Sizes) (ws : List ℕ) → 2050 ≤ m → stateOwnVerdict z (statePart (take m ws)) ≡ stateOwnVerdict z (statePart ws)
 state-enough m z ws h = go (leb (getD ws 0 0) 1024) refl
@@ -106,11 +102,10 @@ log-few l h =
     omega (arith, leb-true (moveCount l) 1024 b, eqb-true (length l) (1 + 5 * moveCount l) c)
 
 parts-few : (p : Parts) → stateVerdict (p .table) (p .state) ≡ Allowed → logSizesOk (p .log) ≡ true → partWords p ≤ 8200
-unfolding stateVerdict stateOwnVerdict
 parts-few p h l =
-    let (t, s) = both-allowed _ _ h in
-    let z = Tables.well-formed (p .table) t .sizes in
-    let n = States.state-sized (p .state) (unless-allowed (stateSizesOk (p .state)) StateSizes (both-allowed _ _ s .0)) in
+    let (t, s, _) = state-given (p .state) (p .table) h in
+    let z = well-formed (p .table) t .sizes in
+    let n = state-sized (p .state) s in
     omega (arith, log-few (p .log) l)
 
 long-verdict :
@@ -158,10 +153,9 @@ pub enough :
 enough bytes = read-enough bytes 8200 (omega arith)
 
 pub allowed-short : (ws : List ℕ) (bytes : ℕ) → inputVerdict ws bytes ≡ Allowed → bytes ≤ 32800
-unfolding stateVerdict
 allowed-short ws bytes h =
     let a = accepted-input h in
-    let few = parts-few (partsOf ws) (rw (a .table, a .state)) (a .log) in
+    let few = parts-few (partsOf ws) (a .state) (a .log) in
     omega arith
 
 -- an allowed input is read whole, ..

@@ -1,24 +1,20 @@
 -- Where the parts of the program's input lie, and what its check answers.
 use Prim.Native.Nat.{ℕ, _-_, _*_, _≤_}
-use mathlib.Core.Bool.{Bool, true, false}
+use mathlib.Core.Bool.{true}
 use mathlib.Core.List.{List}
-use mathlib.Core.Path.{_≡_, refl}
+use mathlib.Core.Path.{_≡_}
 use native.Mathlib.Omega.{arith}
 use borrow.Author.Tests.{eqb-true}
 use lib.Dec.{eqb}
 use lib.ListN.{length, take, drop, length-drop}
 use lib.Seq.{length-take-le}
-use Rattle.semantics.specs.Table.{sizesOf, numbersOf}
 use Rattle.semantics.specs.Log.{logSizesOk}
-use Rattle.semantics.specs.Move.{unless, both}
-use Rattle.semantics.specs.Answers.{tableVerdict, stateOwnVerdict, stateVerdict, logVerdict}
+use Rattle.semantics.specs.Answers.{stateVerdict, logVerdict}
 use Rattle.semantics.specs.Program.{partsOf, partWords, inputVerdict}
-use Rattle.semantics.specs.declared.Refusal.{Refusal}
 use Rattle.semantics.specs.declared.Refusal.the-variants.{LogSizes}
-use Rattle.semantics.specs.declared.Verdict.{Verdict}
-use Rattle.semantics.specs.declared.Verdict.the-variants.{Allowed, Denied}
+use Rattle.semantics.specs.declared.Verdict.the-variants.{Allowed}
 use Rattle.wellformed.specs.Verdicts.{both-allowed, unless-allowed}
-use Rattle.table.specs.Index.{Starts}
+use Rattle.ready.specs.Ready.{Ready}
 use Rattle.intake.specs.declared.parts.Parts.{Parts}
 
 -- the parts as slices
@@ -34,7 +30,7 @@ pub record CutAt (ws : List ℕ) (state-at log-at end : ℕ) : Type 0 where
 pub record SplitAs (ws : List ℕ) (bytes : ℕ) (p : Parts) : Type 0 where
   pub verdict : p .verdict ≡ inputVerdict ws bytes
   pub cut : CutAt ws (p .«state_at») (p .«log_at») (p .end)
-  pub starts : p .verdict ≡ Allowed → Starts (numbersOf (partsOf ws .table)) (sizesOf (partsOf ws .table) .rules) (p .starts)
+  pub ready : p .verdict ≡ Allowed → Ready (partsOf ws .table) (partsOf ws .state) (p .starts)
 
 -- the three parts are all the words up to the end
 pub cut-words : {ws : List ℕ} {a b e : ℕ} → CutAt ws a b e → partWords (partsOf ws) ≡ e
@@ -46,20 +42,17 @@ cut-words {ws} {a} {b} {e} c =
 
 -- what an accepted input is known to have
 pub record AcceptedInput (ws : List ℕ) (bytes : ℕ) : Type 0 where
-  pub table : tableVerdict (partsOf ws .table) ≡ Allowed
-  pub state : stateOwnVerdict (sizesOf (partsOf ws .table)) (partsOf ws .state) ≡ Allowed
+  pub state : stateVerdict (partsOf ws .table) (partsOf ws .state) ≡ Allowed
   pub log : logSizesOk (partsOf ws .log) ≡ true
   pub whole : bytes ≡ 4 * partWords (partsOf ws)
 
 pub accepted-input : {ws : List ℕ} {bytes : ℕ} → inputVerdict ws bytes ≡ Allowed → AcceptedInput ws bytes
-unfolding inputVerdict logVerdict stateVerdict
+unfolding inputVerdict logVerdict
 accepted-input {ws} {bytes} h =
     let p = partsOf ws in
-    let (h, whole) = both-allowed _ _ h in
-    let (h, log) = both-allowed _ _ h in
-    let (table, state) = both-allowed _ _ h in
+    let (logged, whole) = both-allowed _ _ h in
+    let (state, log) = both-allowed _ _ logged in
     record {
-      table = table;
       state = state;
       log = unless-allowed (logSizesOk (p .log)) LogSizes log;
       whole = eqb-true bytes (4 * partWords p) (unless-allowed (eqb bytes (4 * partWords p)) LogSizes whole);

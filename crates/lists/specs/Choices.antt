@@ -29,10 +29,6 @@ pub or-cases : (a b : Bool) → a || b ≡ true → (a ≡ true) ⊎ (b ≡ true
 or-cases true b h = inl refl
 or-cases false b h = inr h
 
-pub or-right : (a b : Bool) → b ≡ true → a || b ≡ true
-or-right true b h = refl
-or-right false b h = h
-
 -- where a holds and `given a b` does, b holds
 pub given-holds : (a b : Bool) → given a b ≡ true → a ≡ true → b ≡ true
 given-holds true b h e = h

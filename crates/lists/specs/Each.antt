@@ -115,4 +115,5 @@ module _ {A B : Type 0} (f : A → B) where
   map-split [] [] ys y h = absurd (nil≢cons h)
   map-split [] (x ∷ xs) ys y h = absurd (nil≢cons h)
   map-split (z ∷ zs) [] ys y h = ([], z, zs, refl, refl, head-eq h, tail-eq h)
-  map-split (z ∷ zs) (x ∷ xs) ys y h = let r = map-split zs xs ys y (tail-eq h) in (z ∷ r .0, r .1, r .2, (λ j. z ∷ r .3 j), (λ j. head-eq h j ∷ r .4 j), r .5, r .6)
+  map-split (z ∷ zs) (x ∷ xs) ys y h =
+      let r = map-split zs xs ys y (tail-eq h) in (z ∷ r .0, r .1, r .2, (λ j. z ∷ r .3 j), (λ j. head-eq h j ∷ r .4 j), r .5, r .6)

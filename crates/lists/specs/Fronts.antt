@@ -7,11 +7,6 @@ use lib.ListN.{length, take, drop}
 use lib.Seq.{take-take, take-nil}
 
 module _ {A : Type 0} where
-  pub take-le : (n : ℕ) (xs : List A) → length (take n xs) ≤ n
-  take-le zero xs = omega arith
-  take-le (suc n) [] = omega arith
-  take-le (suc n) (x ∷ xs) = omega (arith, take-le n xs)
-
   part-of-front : (a k n : ℕ) (xs : List A) → a + k ≤ n → take k (drop a (take n xs)) ≡ take k (drop a xs)
   part-of-front zero k n xs l = take-take k n xs (omega arith)
   part-of-front (suc a) k n [] l = rw (take-nil {A = A} n)

@@ -11,7 +11,8 @@ use lib.ListN.{length, getD, take, drop, set, length-append, length-drop, List·
 use lib.Seq.{length-take-le, getD-append-add, getD-take, getD-drop}
 use Rattle.lists.specs.Lists.{isIn, distinct, without}
 use Rattle.lists.specs.Tests.{and-both, or-false, or-true}
-use Rattle.lists.specs.Choices.{by-bool, clash, and-intro, or-right}
+use Rattle.lists.specs.Tests.{or-right-true}
+use Rattle.lists.specs.Choices.{by-bool, clash, and-intro}
 use Rattle.lists.specs.Members.{Among}
 use Rattle.lists.specs.Removed.{length-without, without-shorter}
 use Rattle.lists.specs.Rows.{rows, rows-none, length-rows, rows-ext, rows-append, rows-moved}
@@ -49,7 +50,7 @@ next-more {ps} {from} {n} {r} p x =
       low = x .low;
       high = x .high;
       none = λ j k v. or-false _ (ne-eqb j p (λ q. clash (and-intro (le-leb from p (omega arith)) (lt-ltb p r (omega arith))) e)) ∙ x .none j k v;
-      here = λ h. or-right (eqb r p) (isIn r ps) (x .here h);
+      here = λ h. or-right-true (eqb r p) (x .here h);
     }))
 
 -- ---- one list
@@ -92,7 +93,8 @@ module _ {A : Type 0} (z : A) where
       ap (λ (i : ℕ). getD (xs ++ ys) i z) (sym e) ∙ getD-append-add xs ys (j - n) z
 
   -- a part that was lent and lowered is put back
-  pub shifted : (w e d : ℕ) (xs ys : List A) → w ≤ e → e ≤ length xs → Lowered z d (take (e - w) (drop w xs)) ys → Shifted z w e d xs (take w xs ++ (ys ++ drop (e - w) (drop w xs)))
+  pub shifted : (w e d : ℕ) (xs ys : List A) → w ≤ e → e ≤ length xs → Lowered z d (take (e - w) (drop w xs)) ys
+      → Shifted z w e d xs (take w xs ++ (ys ++ drop (e - w) (drop w xs)))
   shifted w e d xs ys h l s =
       let behind = drop (e - w) (drop w xs) in
       let a : length (take w xs) ≡ w = length-take-le w xs (omega arith) in
@@ -118,7 +120,8 @@ module _ {A : Type 0} (ps : List ℕ) where
   without-same qs e i [] = refl
   without-same qs e i (x ∷ xs) = rw (e i, without-same qs e (suc i) xs)
 
-  without-pass : (f : ℕ → A) (i a b : ℕ) → ((j : ℕ) → i ≤ j → j < i + a → isIn j ps ≡ false) → without ps i (rows f i (a + b)) ≡ rows f i a ++ without ps (i + a) (rows f (i + a) b)
+  without-pass : (f : ℕ → A) (i a b : ℕ) → ((j : ℕ) → i ≤ j → j < i + a → isIn j ps ≡ false)
+      → without ps i (rows f i (a + b)) ≡ rows f i a ++ without ps (i + a) (rows f (i + a) b)
   unfolding rows
   without-pass f i zero b h = rw (zero-add b, add-zero i)
   without-pass f i (suc a) b h =
@@ -173,7 +176,8 @@ module _ {A : Type 0} {f : ℕ → A} {ps : List ℕ} {n i d : ℕ} {g : ℕ →
         low = omega (arith, c .low);
         high = x .high;
         here = x .here;
-        parts = rw (s, rows-append h 0 w m, zero-add w, a, b, r) (append-assoc (rows g 0 w) _ _ ∙ ap (λ (t : List A). rows g 0 w ++ t) (sym (without-next ps g n i e (c .here u) u x)) ∙ c .parts);
+        parts = rw (s, rows-append h 0 w m, zero-add w, a, b, r)
+            (append-assoc (rows g 0 w) _ _ ∙ ap (λ (t : List A). rows g 0 w ++ t) (sym (without-next ps g n i e (c .here u) u x)) ∙ c .parts);
       }
 
   -- the same places in another list

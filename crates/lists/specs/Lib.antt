@@ -32,3 +32,4 @@ pub mod Fronts
 pub mod Mapped
 pub mod Columns
 pub mod Runs
+pub mod Splits

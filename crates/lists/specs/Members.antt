@@ -9,7 +9,8 @@ use lib.Dec.{eqb}
 use lib.ListN.{length, getD}
 use borrow.Author.Tests.{eqb-true, eq-eqb}
 use Rattle.lists.specs.Lists.{all, any, keepIf, keep, isIn}
-use Rattle.lists.specs.Choices.{and-intro, and-left, and-right, or-right}
+use Rattle.lists.specs.Tests.{or-right-true}
+use Rattle.lists.specs.Choices.{and-intro, and-left, and-right}
 
 module _ {A : Type 0} where
   abbrev pub Among : A → List A → Type 0
@@ -37,7 +38,7 @@ module _ {A : Type 0} where
     pub any-intro : (xs : List A) (x : A) → Among x xs → p x ≡ true → any p xs ≡ true
     any-intro [] x m e = absurd m
     any-intro (y ∷ ys) x (inl q) e = rw (ap p (sym q) ∙ e)
-    any-intro (y ∷ ys) x (inr m) e = or-right (p y) (any p ys) (any-intro ys x m e)
+    any-intro (y ∷ ys) x (inr m) e = or-right-true (p y) (any-intro ys x m e)
 
     pub among-keep : (xs : List A) (x : A) → Among x (keep p xs) → Among x xs × (p x ≡ true)
     among-keep [] x m = absurd m
@@ -97,7 +98,7 @@ isIn-among n (m ∷ ms) h = go (isIn-among n ms) (eqb n m) refl h
 pub among-isIn : (n : ℕ) (ns : List ℕ) → Among n ns → isIn n ns ≡ true
 among-isIn n [] m = absurd m
 among-isIn n (m ∷ ms) (inl e) = rw (eq-eqb n m e)
-among-isIn n (m ∷ ms) (inr k) = or-right (eqb n m) (isIn n ms) (among-isIn n ms k)
+among-isIn n (m ∷ ms) (inr k) = or-right-true (eqb n m) (among-isIn n ms k)
 
 module _ {A : Type 0} (d : A) where
   pub getD-among : (xs : List A) (i : ℕ) → i < length xs → Among (getD xs i d) xs

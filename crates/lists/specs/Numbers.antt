@@ -62,8 +62,8 @@ least-is b ns h k = let x = least-le-in b ns h in let y = k (least ns) (least-so
 
 -- ---- a test on each number
 
-pub all-intro : (p : ℕ → Bool) (ns : List ℕ) → ((v : ℕ) → isIn v ns ≡ true → p v ≡ true) → all p ns ≡ true
-all-intro p ns h = Members.all-intro p ns (λ v m. h v (among-isIn v ns m))
+pub all-isIn : (p : ℕ → Bool) (ns : List ℕ) → ((v : ℕ) → isIn v ns ≡ true → p v ≡ true) → all p ns ≡ true
+all-isIn p ns h = Members.all-intro p ns (λ v m. h v (among-isIn v ns m))
 
 pub all-use : (p : ℕ → Bool) (ns : List ℕ) (v : ℕ) → all p ns ≡ true → isIn v ns ≡ true → p v ≡ true
 all-use p ns v h k = all-each p ns h v (isIn-among v ns k)

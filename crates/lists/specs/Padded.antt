@@ -63,7 +63,8 @@ pub map-padded : {A B : Type 0} (f : A → B) (n : ℕ) (d : A) (xs : List A) �
 map-padded f n d xs = rw (map-append, map-replicate, length-map)
 
 -- a loop that fills the front with f of another list's elements
-pub fill-padded : {A B : Type 0} (f : A → B) (xs : List A) (n i : ℕ) (d : B) (x : A) → i < length xs → i < n → {ys : List B} → ys ≡ padded n d (map f (take i xs))
+pub fill-padded : {A B : Type 0} (f : A → B) (xs : List A) (n i : ℕ) (d : B) (x : A) → i < length xs → i < n → {ys : List B}
+    → ys ≡ padded n d (map f (take i xs))
     → set ys i (f (getD xs i x)) ≡ padded n d (map f (take (i + 1) xs))
 fill-padded {B = B} f xs n i d x h k e =
     let done = map f (take i xs) in

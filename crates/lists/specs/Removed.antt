@@ -31,7 +31,8 @@ module _ {A : Type 0} where
   keep-without q d ps i (y ∷ ys) h =
       go (isIn i ps) refl (keep-without q d ps (suc i) ys (λ k e. h (suc k) (subst (λ (n : ℕ). isIn n ps ≡ true) (omega arith) e)))
     where
-      go : (b : Bool) → isIn i ps ≡ b → keep q (without ps (suc i) ys) ≡ keep q ys → keep q (keepIf (not b) y (without ps (suc i) ys)) ≡ keepIf (q y) y (keep q ys)
+      go : (b : Bool) → isIn i ps ≡ b → keep q (without ps (suc i) ys) ≡ keep q ys
+          → keep q (keepIf (not b) y (without ps (suc i) ys)) ≡ keepIf (q y) y (keep q ys)
       go true e ih = let r : q y ≡ false = h 0 (subst (λ (n : ℕ). isIn n ps ≡ true) (omega arith) e) in rw r ih
       go false e ih = rw ih
 
@@ -48,7 +49,8 @@ inside-suc i n p =
     by-bool (eqb i p)
     (λ e. let h = eqb-true i p e in rw (e, le-leb i p (omega arith), lt-ltb p (i + suc n) (omega arith), lt-leb (suc i) p (omega arith)))
     (λ e. by-bool (leb i p)
-    (λ l. let h = leb-true i p l in let k = eqb-false i p e in let q : i + suc n ≡ suc i + n = omega arith in rw (e, l, le-leb (suc i) p (omega arith), q) (omega arith))
+    (λ l. let h = leb-true i p l in let k = eqb-false i p e in let q : i + suc n ≡ suc i + n = omega arith in rw
+    (e, l, le-leb (suc i) p (omega arith), q) (omega arith))
     (λ l. let h = leb-false i p l in rw (e, l, lt-leb (suc i) p (omega arith))))
 
 module _ {A : Type 0} where
@@ -70,8 +72,10 @@ module _ {A : Type 0} where
       go false h = omega arith
 
   -- different places of a list, removed from it
-  pub length-without : (ps : List ℕ) (xs : List A) → distinct ps ≡ true → ((p : ℕ) → Among p ps → p < length xs) → length (without ps 0 xs) + length ps ≡ length xs
+  pub length-without : (ps : List ℕ) (xs : List A) → distinct ps ≡ true → ((p : ℕ) → Among p ps → p < length xs)
+      → length (without ps 0 xs) + length ps ≡ length xs
   length-without ps xs h k =
       let c = count-without ps h 0 xs in
-      let a = count-all (inside 0 (length xs)) ps (all-intro (inside 0 (length xs)) ps (λ p m. and-intro (le-leb 0 p (omega arith)) (lt-ltb p (0 + length xs) (let l = k p m in omega arith)))) in
+      let a = count-all (inside 0 (length xs)) ps
+      (all-intro (inside 0 (length xs)) ps (λ p m. and-intro (le-leb 0 p (omega arith)) (lt-ltb p (0 + length xs) (let l = k p m in omega arith)))) in
       omega arith

@@ -41,7 +41,8 @@ regroup false b c d = sym (and-false (c && b))
 
 unseen-parts : (p : ℕ → Bool) (ms : List ℕ) → unseen p ms ≡ distinct ms && all (λ u. not (p u)) ms
 unseen-parts p [] = refl
-unseen-parts p (m ∷ ms) = rw (unseen-parts (λ u. eqb u m || p u) ms, unseen-one p m ms) (regroup (not (p m)) (distinct ms) (not (isIn m ms)) (all (λ u. not (p u)) ms))
+unseen-parts p (m ∷ ms) =
+    rw (unseen-parts (λ u. eqb u m || p u) ms, unseen-one p m ms) (regroup (not (p m)) (distinct ms) (not (isIn m ms)) (all (λ u. not (p u)) ms))
 
 all-true : (ms : List ℕ) → all (λ u. true) ms ≡ true
 all-true [] = refl

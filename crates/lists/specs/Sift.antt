@@ -23,10 +23,6 @@ module _ {A : Type 0} where
   sift-keep p f i [] = refl
   sift-keep p f i (x ∷ xs) = rw (sift-keep p f (suc i) xs, map-keepIf f (p x) x (keep p xs))
 
-  pub sift-without : (ps : List ℕ) (f : A → A) (i : ℕ) (xs : List A) → sift (λ k x. not (isIn k ps)) f i xs ≡ map f (without ps i xs)
-  sift-without ps f i [] = refl
-  sift-without ps f i (x ∷ xs) = rw (sift-without ps f (suc i) xs, map-keepIf f (not (isIn i ps)) x (without ps (suc i) xs))
-
   -- Before turn i: w rows are made, and those from i on are as they were.
   pub record Sifting (q : ℕ → A → Bool) (f : A → A) (row : ℕ → A) (n i w : ℕ) (goal : List A) : Type 0 where
     pub within : i ≤ n
@@ -62,7 +58,8 @@ module _ {A : Type 0} where
           go false e h = record { within = omega arith; behind = omega arith; so-far = rw (add-zero w, made, left) h }
 
     -- the loop may begin behind elements that stay as they are
-    pub sifting-from : (row : ℕ → A) (n i : ℕ) → i ≤ n → ((k : ℕ) → k < i → (q k (row k) ≡ true) × (row k ≡ f (row k))) → Sifting q f row n i i (sift q f 0 (rows row 0 n))
+    pub sifting-from : (row : ℕ → A) (n i : ℕ) → i ≤ n → ((k : ℕ) → k < i → (q k (row k) ≡ true) × (row k ≡ f (row k)))
+        → Sifting q f row n i i (sift q f 0 (rows row 0 n))
     sifting-from row n zero l stay = sifting-start row n
     sifting-from row n (suc i) l stay =
         let (a, b) = stay i (omega arith) in

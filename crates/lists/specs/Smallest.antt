@@ -19,7 +19,8 @@ pub least-among : (n : ℕ) (ns : List ℕ) → Among (least (n ∷ ns)) (n ∷ 
 least-among n [] = inl refl
 least-among n (m ∷ ms) = go (min-cases n (least (m ∷ ms))) (least-among m ms)
   where
-    go : (min n (least (m ∷ ms)) ≡ n) ⊎ (min n (least (m ∷ ms)) ≡ least (m ∷ ms)) → Among (least (m ∷ ms)) (m ∷ ms) → Among (min n (least (m ∷ ms))) (n ∷ m ∷ ms)
+    go : (min n (least (m ∷ ms)) ≡ n) ⊎ (min n (least (m ∷ ms)) ≡ least (m ∷ ms)) → Among (least (m ∷ ms)) (m ∷ ms)
+        → Among (min n (least (m ∷ ms))) (n ∷ m ∷ ms)
     go (inl e) k = inl e
     go (inr e) k = rw e (inr k)
 
@@ -41,7 +42,8 @@ all-least p ns n k = same-test _ _ there back
   where
     there : all (λ m. p m && eqb m n) ns ≡ true → all (λ m. p m && eqb m (least ns)) ns ≡ true
     there h =
-        let e : least ns ≡ n = eqb-true (least ns) n (and-right (p (least ns)) (eqb (least ns) n) (all-each (λ m. p m && eqb m n) ns h (least ns) (least-of ns n k))) in
+        let e : least ns ≡ n = eqb-true (least ns) n
+        (and-right (p (least ns)) (eqb (least ns) n) (all-each (λ m. p m && eqb m n) ns h (least ns) (least-of ns n k))) in
         rw e h
 
     back : all (λ m. p m && eqb m (least ns)) ns ≡ true → all (λ m. p m && eqb m n) ns ≡ true

@@ -1,6 +1,6 @@
 -- A function's values at i, i + 1, .. as a list: its length, the value at a place, and one part after another.
 use Prim.Native.Nat.{ℕ, zero, suc, _+_, _<_}
-use mathlib.Core.List.{_∷_, _++_, map}
+use mathlib.Core.List.{_++_, map}
 use mathlib.Core.Path.{_≡_, refl, ap, _∙_}
 use native.Mathlib.Nat.{le-of-suc-le-suc, not-suc-le-zero}
 use native.Mathlib.Omega.{arith}

@@ -1,6 +1,6 @@
 -- Laws of Bool-valued tests.
 use mathlib.Core.Bool.{Bool, true, false, _&&_, _||_, false≢true}
-use mathlib.Core.Path.{_≡_, refl, sym, ap, _∙_}
+use mathlib.Core.Path.{_≡_, refl, sym}
 use Prim.Native.Nat.{ℕ}
 use lib.Dec.{eqb}
 use borrow.Author.Tests.{eqb-true, eqb-false, eq-eqb, ne-eqb}
@@ -15,22 +15,10 @@ pub and-right-false : (a : Bool) {b : Bool} → b ≡ false → a && b ≡ false
 and-right-false true e = e
 and-right-false false e = refl
 
-pub and-swap : (a x b y : Bool) → (a && x) && (b && y) ≡ (a && b) && (x && y)
-and-swap false x b y = refl
-and-swap true false true y = refl
-and-swap true false false y = refl
-and-swap true true b y = refl
-
 -- both parts of a conjunction that holds
 pub and-both : (a b : Bool) → a && b ≡ true → (a ≡ true) × (b ≡ true)
 and-both true b h = (refl, h)
 and-both false b h = absurd (false≢true h)
-
--- a part that follows from another one need not be tested
-pub and-implied : (a b c : Bool) → (c ≡ true → b ≡ true) → a && b && c ≡ a && c
-and-implied false b c f = refl
-and-implied true b true f = rw (f refl)
-and-implied true b false f = and-right-false b refl
 
 pub or-true : {a : Bool} (b : Bool) → a ≡ true → a || b ≡ true
 or-true b e = rw e

@@ -1,12 +1,11 @@
 -- Counts: of what is kept, of a sum of tests; and how often a number occurs in a list without repetitions.
-use Prim.Native.Nat.{ℕ, suc, _+_, _≤_}
+use Prim.Native.Nat.{ℕ, _+_, _≤_}
 use mathlib.Core.Bool.{Bool, true, false, _||_, not, true≢false}
-use mathlib.Core.List.{List, [], _∷_, map}
+use mathlib.Core.List.{List, [], _∷_}
 use mathlib.Core.Path.{_≡_, refl}
 use native.Mathlib.Omega.{arith}
 use lib.Dec.{eqb}
-use lib.ListN.{length}
-use Rattle.lists.specs.Lists.{all, keepIf, keep, oneIf, count, isIn, distinct}
+use Rattle.lists.specs.Lists.{keepIf, keep, oneIf, count, isIn, distinct}
 use Rattle.lists.specs.Choices.{and-left, and-right}
 use borrow.Author.Tests.{eqb-true, not-true}
 

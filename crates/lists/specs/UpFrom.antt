@@ -22,5 +22,8 @@ map-shift f (suc n) i = λ j. f (suc i) ∷ map-shift f n (suc i) j
 pub rises-all : {A : Type 0} (key : A → ℕ) (m : ℕ) (xs : List A) → risesFrom m key xs ≡ true → All (λ x. m ≤ key x) xs
 rises-all key m [] h = tt
 rises-all key m (x ∷ xs) h =
-    let l = leb-true m (key x) (and-left (leb m (key x)) (risesFrom (key x) key xs) h) in
-    (l, All-map {P = λ y. key x ≤ key y} {Q = λ y. m ≤ key y} (λ y k. omega arith) xs (rises-all key (key x) xs (and-right (leb m (key x)) (risesFrom (key x) key xs) h)))
+    let l = leb-true m (key x) (and-left (leb m (key x)) (risesFrom (key x) key xs) h) in (
+      l,
+      All-map {P = λ y. key x ≤ key y} {Q = λ y. m ≤ key y} (λ y k. omega arith) xs
+          (rises-all key (key x) xs (and-right (leb m (key x)) (risesFrom (key x) key xs) h)),
+    )

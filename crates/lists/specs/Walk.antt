@@ -8,16 +8,17 @@ use native.Mathlib.Nat.{le-of-suc-le-suc, not-suc-le-zero, eq-or-lt-of-le}
 use native.Mathlib.Numerals.{add-one}
 use native.Mathlib.Omega.{arith}
 use lib.ListN.{length, getD, take, drop, set, drop-of-length-le}
-use lib.Seq.{drop-cons, take-suc, take-suc-set, take-all}
-use Rattle.lists.specs.Lists.{allBelow, upFrom}
-use Rattle.lists.specs.Tests.{and-false, and-right-false, and-both}
+use lib.Seq.{drop-cons, take-suc, take-suc-set}
+use Rattle.lists.specs.Lists.{allBelow}
+use Rattle.lists.specs.Tests.{and-false, and-right-false}
 
 module _ {A : Type 0} where
   pub drop-step : (xs : List A) (i : ℕ) (d : A) → i < length xs → drop i xs ≡ getD xs i d ∷ drop (i + 1) xs
   drop-step xs i d h = rw (add-one, drop-cons xs i d h)
 
   -- four elements in a row
-  pub take-four : (l : List A) (at : ℕ) (d : A) → at + 4 ≤ length l → getD l at d ∷ getD l (at + 1) d ∷ getD l (at + 2) d ∷ getD l (at + 3) d ∷ [] ≡ take 4 (drop at l)
+  pub take-four : (l : List A) (at : ℕ) (d : A) → at + 4 ≤ length l
+      → getD l at d ∷ getD l (at + 1) d ∷ getD l (at + 2) d ∷ getD l (at + 3) d ∷ [] ≡ take 4 (drop at l)
   take-four l at d h =
       let two : at + 1 + 1 ≡ at + 2 = omega arith in
       let three : at + 2 + 1 ≡ at + 3 = omega arith in

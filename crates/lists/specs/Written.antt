@@ -18,7 +18,8 @@ module _ {A : Type 0} (d : A) where
   pub writing-start : (new : ℕ → A) (j : ℕ) (xs : List A) → ((i : ℕ) → i < j → getD xs i d ≡ new i) → Writing new j xs xs
   writing-start new j xs h = record { size = refl; done = h; rest = λ i l. refl }
 
-  pub writing-next : {new : ℕ → A} {j : ℕ} {before xs : List A} → Writing new j before xs → j < length xs → (x : A) → x ≡ new j → Writing new (j + 1) before (set xs j x)
+  pub writing-next : {new : ℕ → A} {j : ℕ} {before xs : List A} → Writing new j before xs → j < length xs → (x : A) → x ≡ new j
+      → Writing new (j + 1) before (set xs j x)
   writing-next {new} {j} {before} {xs} w h x q = record {
     size = length-set xs j x ∙ w .size;
     done = λ i l. by-bool (eqb i j)

@@ -8,6 +8,9 @@ ghost use Rattle.words.specs.Head.{wordsIn};
 ghost use Rattle.log.specs.Form.{Place};
 use words::head::MoveWords;
 
+// The most moves of a log.
+pub const MAX_MOVES: usize = 1024;
+
 // How many moves a log says it has; 0 of no words.
 pub fn count_of(log: &[u32]) -> usize
     ensures { λ r. ⌜ (r ≡ moveCount (now (log .entry))) × (r < 4294967296) ⌝ }
@@ -20,7 +23,7 @@ pub fn sizes_ok(log: &[u32]) -> bool
     ensures { λ r. ⌜ r ≡ logSizesOk (now (log .entry)) ⌝ }
 {
     let moves = count_of(log);
-    (1 <= log.len()) & ((moves <= 1024) & (log.len() == 1 + 5 * moves))
+    (1 <= log.len()) & ((moves <= MAX_MOVES) & (log.len() == 1 + 5 * moves))
 }
 
 // The head of the move at place i.

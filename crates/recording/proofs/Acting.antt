@@ -147,8 +147,10 @@ module _ {t : Table} {s : semantics.State} {head : ℕ} {picks : List ℕ} (g : 
     member-end : (headKind head ≡ 0 → ⊥) → Noted (headNumber head) (moveOf t (head ∷ picks))
     unfolding allowed applied ended
     member-end k = by-end t head picks (λ m. allowed t s m ≡ Allowed → Noted (headNumber head) m)
-        (λ h. rw (eq-eqb (s .next) (s .next) refl) (open-mark (headNumber head) (unless-allowed (isOpen (headNumber head) s) NoTransaction (both-allowed _ _ h .0))))
-        (λ h. rw (eq-eqb (s .next) (s .next) refl) (open-mark (headNumber head) (unless-allowed (isOpen (headNumber head) s) NoTransaction (both-allowed _ _ h .0))))
+        (λ h. rw (eq-eqb (s .next) (s .next) refl) (open-mark (headNumber head)
+        (unless-allowed (isOpen (headNumber head) s) NoTransaction (both-allowed _ _ h .0))))
+        (λ h. rw (eq-eqb (s .next) (s .next) refl) (open-mark (headNumber head)
+        (unless-allowed (isOpen (headNumber head) s) NoTransaction (both-allowed _ _ h .0))))
         k (g .allows)
 
     member-react : headKind head ≡ 0 → Noted (entryAt (s .entries) (getD picks 0 0) .owner) (moveOf t (head ∷ picks))
@@ -157,7 +159,13 @@ module _ {t : Table} {s : semantics.State} {head : ℕ} {picks : List ℕ} (g : 
       where
         go : Shape (rule k) → Noted (first-entry k .owner) (react (headNumber head) (used k))
         go (plain c b h) =
-            rw (b, eq-eqb (s .next) (s .next) refl, eq-eqb (rule k .class) 0 c, owners-zero (reacts k) c (first-entry k .owner) (first-owner k), no-mark tracked)
+            rw (
+              b,
+              eq-eqb (s .next) (s .next) refl,
+              eq-eqb (rule k .class) 0 c,
+              owners-zero (reacts k) c (first-entry k .owner) (first-owner k),
+              no-mark tracked,
+            )
             (record { some = λ q. absurd (true≢false q); none = λ q. refl })
         go (begin c b h m rest q w z) =
             let maker : (i + 1) * 1024 / 1024 ≡ suc i = omega arith in
@@ -178,12 +186,14 @@ row-at os ws gs n p l = getD-rows nothing (rowOf os ws gs) 0 n p l ∙ ap (rowOf
 
 module _ (s : State) {t : Table} {head : ℕ} {picks : List ℕ} (g : Legal t (stateIn s) head picks) where
   pub member-noted : {first : ℕ} {begun : List ℕ} {i : ℕ} → Tracked first begun i (stateIn s)
-      → OneOf (cond (eqb (s .next) (applied t (suc i) (stateIn s) (moveOf t (head ∷ picks)) .next)) (markBy begun first (concernedBy (s .owners) head picks)) ((i + 1) * 1024)) (membersOf t i (stateIn s) (moveOf t (head ∷ picks)))
+      → OneOf (cond (eqb (s .next) (applied t (suc i) (stateIn s) (moveOf t (head ∷ picks)) .next)) (markBy begun first (concernedBy (s .owners) head picks))
+      ((i + 1) * 1024)) (membersOf t i (stateIn s) (moveOf t (head ∷ picks)))
   unfolding stateIn
   member-noted {first} {begun} {i} tracked = by-bool (eqb (headKind head) 0)
       (λ e. let k = eqb-true (headKind head) 0 e in
       let l : getD picks 0 0 < s .len = omega (arith, first-lt g k, length-rows (entryIn s) 0 (s .len)) in
-      let owner : entryAt (stateIn s .entries) (getD picks 0 0) .owner ≡ getD (s .owners) (getD picks 0 0) 0 = ap (λ (x : Entry). x .owner) (row-at (s .owners) (s .items) (s .origins) (s .len) (getD picks 0 0) l) in
+      let owner : entryAt (stateIn s .entries) (getD picks 0 0) .owner ≡ getD (s .owners) (getD picks 0 0) 0 = ap (λ (x : Entry). x .owner)
+      (row-at (s .owners) (s .items) (s .origins) (s .len) (getD picks 0 0) l) in
       subst (λ (id : ℕ). Noted g tracked id (moveOf t (head ∷ picks))) (owner ∙ rw e) (member-react g tracked k))
       (λ e. subst (λ (id : ℕ). Noted g tracked id (moveOf t (head ∷ picks))) (rw e) (member-end g tracked (eqb-false (headKind head) 0 e)))
 
@@ -193,7 +203,8 @@ module _ (s : State) {t : Table} {head : ℕ} {picks : List ℕ} (g : Legal t (s
       (λ e. let k = eqb-true (headKind head) 0 e in rw (is-react t head picks k) (go (used g k) (λ p l. pick-lt (reacts g k) p l)))
       (λ e. let k = eqb-false (headKind head) 0 e in rw (used-none g k) (by-end t head picks (λ m. picksOf (stateIn s) m ≡ []) refl refl k))
     where
-      go : (ps : List ℕ) → ((p : ℕ) → Among p ps → p < length (rows (entryIn s) 0 (s .len))) → originsOf (picked (stateIn s) ps) ≡ map originOf (wordsAt (s .origins) ps)
+      go : (ps : List ℕ) → ((p : ℕ) → Among p ps → p < length (rows (entryIn s) 0 (s .len)))
+          → originsOf (picked (stateIn s) ps) ≡ map originOf (wordsAt (s .origins) ps)
       go [] f = refl
       go (p ∷ ps) f =
           let l : p < s .len = omega (arith, f p (inl refl), length-rows (entryIn s) 0 (s .len)) in
@@ -205,7 +216,8 @@ unfolding moveOf
 ends-marks t i s head picks p = go (eqb (headKind head) 0) (eqb (headKind head) 1)
   where
     go : (a b : Bool) → isEnd (cond a (react (headNumber head) (take (picksUsed t head) picks)) (cond b (commit (headNumber head)) (abort (headNumber head))))
-        && anyMadeAt p (membersOf t i s (cond a (react (headNumber head) (take (picksUsed t head) picks)) (cond b (commit (headNumber head)) (abort (headNumber head)))))
+        && anyMadeAt p (membersOf t i s (cond a (react (headNumber head) (take (picksUsed t head) picks))
+        (cond b (commit (headNumber head)) (abort (headNumber head)))))
         ≡ anyMadeAt p (cond a [] (marksOf (headNumber head) (s .entries)))
     go true b = refl
     go false true = refl

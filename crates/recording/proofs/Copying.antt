@@ -9,7 +9,8 @@ use Rattle.lists.specs.Fronts.{take-map}
 use Rattle.lists.specs.Over.{Pasted}
 use Rattle.recording.specs.Recordings.{wordsAt}
 
-module _ (gs picks : List ℕ) (i : ℕ) {before after : List ℕ} (h : Pasted before (4 * i) (wordsAt gs picks) 4 after) (room : 4 * i + 4 ≤ length before) (four : length picks ≡ 4) where
+module _ (gs picks : List ℕ) (i : ℕ) {before after : List ℕ} (h : Pasted before (4 * i) (wordsAt gs picks) 4 after) (room : 4 * i + 4 ≤ length before)
+    (four : length picks ≡ 4) where
   count : length (wordsAt gs picks) ≡ 4
   count = length-map picks _ ∙ four
 
@@ -23,13 +24,16 @@ module _ (gs picks : List ℕ) (i : ℕ) {before after : List ℕ} (h : Pasted b
       ∙ ap (λ (xs : List ℕ). take (4 * i) before ++ xs) (take-all 4 (wordsAt gs picks) (omega (arith, count)))
 
   pub picks-before : take (4 * i) after ≡ take (4 * i) before
-  picks-before = sym (take-take (4 * i) (4 * i + 4) after (omega arith)) ∙ ap (take (4 * i)) both ∙ take-at (take (4 * i) before) (wordsAt gs picks) (4 * i) front
+  picks-before = sym (take-take (4 * i) (4 * i + 4) after (omega arith)) ∙ ap (take (4 * i)) both
+      ∙ take-at (take (4 * i) before) (wordsAt gs picks) (4 * i) front
 
   pub picks-here : (k : ℕ) → k ≤ 4 → take k (drop (4 * i) after) ≡ wordsAt gs (take k picks)
   picks-here k few =
-      let whole : take (4 * i) before ++ take 4 (drop (4 * i) after) ≡ take (4 * i) before ++ wordsAt gs picks = rw picks-before at (sym (take-add (4 * i) 4 after) ∙ both) in
+      let whole : take (4 * i) before ++ take 4 (drop (4 * i) after) ≡ take (4 * i) before ++ wordsAt gs picks = rw picks-before at
+      (sym (take-add (4 * i) 4 after) ∙ both) in
       let here : take 4 (drop (4 * i) after) ≡ wordsAt gs picks =
-      sym (drop-at (take (4 * i) before) (take 4 (drop (4 * i) after)) (4 * i) front) ∙ ap (drop (4 * i)) whole ∙ drop-at (take (4 * i) before) (wordsAt gs picks) (4 * i) front in
+      sym (drop-at (take (4 * i) before) (take 4 (drop (4 * i) after)) (4 * i) front) ∙ ap (drop (4 * i)) whole
+      ∙ drop-at (take (4 * i) before) (wordsAt gs picks) (4 * i) front in
       sym (take-take k 4 (drop (4 * i) after) few) ∙ ap (take k) here ∙ take-map _ k picks
 
 -- as the code puts them together

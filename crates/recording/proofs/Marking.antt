@@ -46,7 +46,8 @@ module _ (place maker : ℕ) (before : List ℕ) (size : length before ≡ 1024)
           let e : p ≡ maker - 1 = omega (arith, eqb-true maker (suc p) h) in
           rw (h, e) (getD-set-same before (maker - 1) place 0 (omega arith))
 
-      other : (p : ℕ) → p < 1024 → eqb maker (suc p) ≡ false → getD (set before (maker - 1) place) p 0 ≡ cond (eqb maker (suc p) || false) place (getD before p 0)
+      other : (p : ℕ) → p < 1024 → eqb maker (suc p) ≡ false → getD (set before (maker - 1) place) p 0 ≡ cond (eqb maker (suc p) || false) place
+          (getD before p 0)
       other p l h = rw h (getD-set-other before (maker - 1) p place 0 (λ e. eqb-false maker (suc p) h (omega arith)))
 
 -- ---- rows after rows
@@ -70,7 +71,8 @@ marks-append : (id : ℕ) (xs ys : List Entry) → marksOf id (xs ++ ys) ≡ mar
 marks-append id xs ys = rw (keep-append (isMarkOf id) xs ys) (map-append (λ e. e .origin) (keep (isMarkOf id) xs) (keep (isMarkOf id) ys))
 
 module _ (f : ℕ → Entry) (id place : ℕ) where
-  pub rows-noted : (from i stop : ℕ) → from ≤ i → i ≤ stop → {a b c : List ℕ} → RowsNoted f id place from i a b → RowsNoted f id place i stop b c → RowsNoted f id place from stop a c
+  pub rows-noted : (from i stop : ℕ) → from ≤ i → i ≤ stop → {a b c : List ℕ} → RowsNoted f id place from i a b → RowsNoted f id place i stop b c
+      → RowsNoted f id place from stop a c
   rows-noted from i stop low high {a} {b} {c} h k =
       let count : stop - from ≡ (i - from) + (stop - i) = omega arith in
       let at : from + (i - from) ≡ i = omega arith in
@@ -99,7 +101,8 @@ module _ (os ws gs : List ℕ) (id place i : ℕ) where
       made : (p : ℕ) → eqb maker (suc p) || false ≡ anyMadeAt p (marksOf id (rowOf os ws gs i ∷ []))
       made p = by-bool (eqb (itemKind (getD ws i 0)) 3 && eqb (getD os i 0) id)
           (λ h. let q : isMarkOf id (rowOf os ws gs i) ≡ true = is-mark (itemKind (getD ws i 0)) (getD os i 0) id true h in rw (q, is, h))
-          (λ h. let q : isMarkOf id (rowOf os ws gs i) ≡ false = is-mark (itemKind (getD ws i 0)) (getD os i 0) id false h in rw (q, is, h, ne-eqb 0 (suc p) (λ e. omega arith)))
+          (λ h. let q : isMarkOf id (rowOf os ws gs i) ≡ false = is-mark (itemKind (getD ws i 0)) (getD os i 0) id false h in
+          rw (q, is, h, ne-eqb 0 (suc p) (λ e. omega arith)))
 
 -- ---- a chunk in which id owns nothing
 
@@ -107,5 +110,6 @@ pub chunk-unnoted : (os ws gs : List ℕ) (id place from stop : ℕ) → from �
     → RowsNoted (rowOf os ws gs) id place from stop a a
 chunk-unnoted os ws gs id place from stop low high lacks size =
     rw (keep-none (isMarkOf id) (rows (rowOf os ws gs) from (stop - from)) (rows-each (λ e. isMarkOf id e ≡ false) (rowOf os ws gs) from (stop - from)
-    (λ k l u. is-mark (itemKind (getD ws k 0)) (getD os k 0) id false (and-right-false (eqb (itemKind (getD ws k 0)) 3) (ne-eqb (getD os k 0) id (chunk-lacks os from id lacks k l (omega arith)))))))
+    (λ k l u. is-mark (itemKind (getD ws k 0)) (getD os k 0) id false
+    (and-right-false (eqb (itemKind (getD ws k 0)) 3) (ne-eqb (getD os k 0) id (chunk-lacks os from id lacks k l (omega arith)))))))
     (nothing-noted place size)

@@ -18,11 +18,14 @@ MarksHave P es = (e : Entry) → Among e es → e .kind ≡ 3 → P (e .value) (
 
 -- those that were there stay as they are, or go; those of the products are new
 module _ {P Q : ℕ → Origin → Type 0} (wider : (v : ℕ) (o : Origin) → P v o → Q v o) where
-  pub reacted-have : (R : Rule) (i : ℕ) (s : State) (ps : List ℕ) → MarksHave P (s .entries) → MarksHave Q (products R s (picked s ps) i 0 (productAtoms R)) → MarksHave Q (reacted R i s ps .entries)
+  pub reacted-have : (R : Rule) (i : ℕ) (s : State) (ps : List ℕ) → MarksHave P (s .entries) → MarksHave Q (products R s (picked s ps) i 0 (productAtoms R))
+      → MarksHave Q (reacted R i s ps .entries)
   unfolding reacted
-  reacted-have R i s ps h new e m k = go (among-append (map (merged (ownersAt s ps)) (without ps 0 (s .entries))) (products R s (picked s ps) i 0 (productAtoms R)) e m)
+  reacted-have R i s ps h new e m k = go (among-append (map (merged (ownersAt s ps)) (without ps 0 (s .entries)))
+      (products R s (picked s ps) i 0 (productAtoms R)) e m)
     where
-      go : Among e (map (merged (ownersAt s ps)) (without ps 0 (s .entries))) ⊎ Among e (products R s (picked s ps) i 0 (productAtoms R)) → Q (e .value) (e .origin)
+      go : Among e (map (merged (ownersAt s ps)) (without ps 0 (s .entries))) ⊎ Among e (products R s (picked s ps) i 0 (productAtoms R))
+          → Q (e .value) (e .origin)
       go (inl n) =
           let (x, l, q) = among-map (merged (ownersAt s ps)) (without ps 0 (s .entries)) e n in
           subst (λ (y : Entry). Q (y .value) (y .origin)) (sym q)

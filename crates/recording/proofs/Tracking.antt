@@ -70,15 +70,15 @@ module _ (R : Rule) (s : State) (es : List Entry) (i : ℕ) where
       (a, n, role-of-mark (a .role) (sym (ap (λ (x : Entry). x .kind) h) ∙ k))
 
   -- only a begin makes one, as its first product, of value N
-  pub mark-made : Shape R → (e : Entry) → Among e (products R s es i 0 (productAtoms R)) → e .kind ≡ 3
+  pub mark-product : Shape R → (e : Entry) → Among e (products R s es i 0 (productAtoms R)) → e .kind ≡ 3
       → (begins R ≡ true) × (e .value ≡ s .next) × (e .origin ≡ record { maker = i; index = 0 })
-  mark-made (plain c b h) e m k =
+  mark-product (plain c b h) e m k =
       let (a, n, r) = mark-atom 0 (productAtoms R) e m k in
       absurd (let l = eqb-true (a .role) 1 (all-each (hasRole 1) (productAtoms R) h a n) in omega arith)
-  mark-made (inner c b h z) e m k =
+  mark-product (inner c b h z) e m k =
       let (a, n, r) = mark-atom 0 (productAtoms R) e m k in
       absurd (true≢false (sym (all-each _ (productAtoms R) z a n) ∙ rw (ne-eqb (a .role) 1 (λ q. omega arith), ne-eqb (a .role) 5 (λ q. omega arith))))
-  mark-made (begin c b h first rest q two more) e m k = go (subst (λ (l : List Atom). Among e (products R s es i 0 l)) q m)
+  mark-product (begin c b h first rest q two more) e m k = go (subst (λ (l : List Atom). Among e (products R s es i 0 l)) q m)
     where
       go : Among e (products R s es i 0 (first ∷ rest)) → (begins R ≡ true) × (e .value ≡ s .next) × (e .origin ≡ record { maker = i; index = 0 })
       go (inl x) = (b, ap (λ (y : Entry). y .value) x ∙ rw (eq-eqb (first .role) 2 two), ap (λ (y : Entry). y .origin) x)
@@ -118,7 +118,7 @@ module _ {first : ℕ} {begun : List ℕ} {i : ℕ} {s : State} (h : Tracked fir
           positive = h .positive;
           low = omega (arith, h .low);
           high = omega (arith, h .high);
-          marks = reacted-have others R (suc i) s ps (h .marks) (λ e m k. let (_, v, o) = mark-made R s (picked s ps) (suc i) shape e m k in rw (v, o) own);
+          marks = reacted-have others R (suc i) s ps (h .marks) (λ e m k. let (_, v, o) = mark-product R s (picked s ps) (suc i) shape e m k in rw (v, o) own);
         })
     reacted-tracked R shape ps false b =
         rw (b, eq-eqb (s .next) (s .next) refl)
@@ -127,10 +127,11 @@ module _ {first : ℕ} {begun : List ℕ} {i : ℕ} {s : State} (h : Tracked fir
           positive = h .positive;
           low = h .low;
           high = omega (arith, h .high);
-          marks = reacted-have same R (suc i) s ps (h .marks) (λ e m k. absurd (clash (mark-made R s (picked s ps) (suc i) shape e m k .0) b));
+          marks = reacted-have same R (suc i) s ps (h .marks) (λ e m k. absurd (clash (mark-product R s (picked s ps) (suc i) shape e m k .0) b));
         })
 
-    ended-tracked : (p : Entry → Bool) (b : ℕ) → Tracked first (ifGrown (s .next) (ended p b s .next) begun (s .next - first) ((i + 1) * 1024)) (i + 1) (ended p b s)
+    ended-tracked : (p : Entry → Bool) (b : ℕ) → Tracked first (ifGrown (s .next) (ended p b s .next) begun (s .next - first) ((i + 1) * 1024)) (i + 1)
+        (ended p b s)
     unfolding ended
     ended-tracked p b =
         rw (eq-eqb (s .next) (s .next) refl)
@@ -154,10 +155,12 @@ module _ {first : ℕ} {begun : List ℕ} {i : ℕ} {s : State} (h : Tracked fir
       let (mark, k, kind, owner, value) = sound .right .own e m n in
       let (low, high, is) = h .marks mark k kind in
       let mine : isMarkOf (e .owner) mark ≡ true = and-intro (eq-eqb (mark .kind) 3 kind) (or-true false (eq-eqb (mark .owner) (e .owner) owner)) in
-      let there : Among (mark .origin) (marksOf (e .owner) (s .entries)) = map-among (λ e. e .origin) (keep (isMarkOf (e .owner)) (s .entries)) mark (keep-among (isMarkOf (e .owner)) (s .entries) mark k mine) in
+      let there : Among (mark .origin) (marksOf (e .owner) (s .entries)) = map-among (λ e. e .origin) (keep (isMarkOf (e .owner)) (s .entries)) mark
+      (keep-among (isMarkOf (e .owner)) (s .entries) mark k mine) in
       let word : markBy begun first (e .owner) ≡ getD begun (mark .value - first) 0 = rw (le-leb first (e .owner) (omega arith), value) in
       let same : sameOrigin (originOf (markBy begun first (e .owner))) (mark .origin) ≡ true =
-      and-intro (eq-eqb _ (mark .origin .maker) (ap (λ (o : Origin). o .maker) (ap originOf word ∙ is))) (eq-eqb _ (mark .origin .index) (ap (λ (o : Origin). o .index) (ap originOf word ∙ is))) in (
+      and-intro (eq-eqb _ (mark .origin .maker) (ap (λ (o : Origin). o .maker) (ap originOf word ∙ is)))
+      (eq-eqb _ (mark .origin .index) (ap (λ (o : Origin). o .index) (ap originOf word ∙ is))) in (
         mark .origin,
         there,
         record {

@@ -43,7 +43,8 @@ abbrev pub marksEnded : ℕ → List Entry → List Origin
 marksEnded head es = cond (eqb (headKind head) 0) [] (marksOf (headNumber head) es)
 
 -- the origins of the picks, the mark of the transaction concerned, and the ends of the members that the move ends
-pub record MoveNoted (os ws gs : List ℕ) (n : ℕ) (begun : List ℕ) (first head : ℕ) (picks : List ℕ) (i : ℕ) (wanted members ended wanted′ members′ ended′ : List ℕ) : Type 0 where
+pub record MoveNoted (os ws gs : List ℕ) (n : ℕ) (begun : List ℕ) (first head : ℕ) (picks : List ℕ) (i : ℕ)
+    (wanted members ended wanted′ members′ ended′ : List ℕ) : Type 0 where
   pub picked : Pasted wanted (4 * i) (wordsAt gs picks) 4 wanted′
   pub member : members′ ≡ set members i (markBy begun first (concernedBy os head picks))
   pub ends : NotedAt i (marksEnded head (rows (rowOf os ws gs) 0 n)) ended ended′

@@ -1,5 +1,5 @@
 // The ends of members: an end is noted at the place of the begin of each member that it ends.
-ghost use Prim.Native.Nat.{_+_, _/_, _≤_, _<_};
+ghost use Prim.Native.Nat.{_+_, _≤_, _<_};
 ghost use mathlib.Core.Path.{_≡_};
 ghost use mathlib.Core.Bool.{_&&_, cond};
 ghost use mathlib.Core.List.{[], _∷_};
@@ -7,6 +7,7 @@ ghost use lib.Dec.{eqb};
 ghost use lib.ListN.{length};
 ghost use Rattle.lists.specs.Rows.{rows};
 ghost use Rattle.semantics.specs.Words.{itemKind};
+ghost use Rattle.words.specs.Origin.{originOf};
 ghost use Rattle.state.specs.Working.{rowOf};
 ghost use Rattle.recording.specs.Marks.{Lent, marksOf, NotedAt, RowsNoted};
 ghost use Rattle.recording.specs.Recordings.{marksEnded};
@@ -25,7 +26,7 @@ fn is_mark(owner: u32, item: u32, id: u32) -> bool
 
 // The maker of an entry that is a member mark of id, else 0.
 fn begun_by(owner: u32, item: u32, origin: u32, id: u32) -> u32
-    ensures { λ r. ⌜ r ≡ cond (eqb (itemKind item) 3 && eqb owner id) (origin / 1024) 0 ⌝ }
+    ensures { λ r. ⌜ r ≡ cond (eqb (itemKind item) 3 && eqb owner id) (originOf origin .maker) 0 ⌝ }
 {
     if is_mark(owner, item, id) {
         origin::maker_of(origin)
@@ -60,7 +61,8 @@ fn note_rows<'a>(
     ended: &mut [u32; 1024],
 )
     requires { ⌜ Lent (now owners) (now items) (now origins) to × (from ≤ to) × (length (now ended) ≡ 1024) ⌝ }
-    ensures { λ _. ⌜ RowsNoted (rowOf (now (owners .entry)) (now (items .entry)) (now (origins .entry))) id place from to (now (ended .entry)) (now (ended .exit)) ⌝ }
+    ensures { λ _. ⌜ RowsNoted (rowOf (now (owners .entry)) (now (items .entry)) (now (origins .entry)))
+        id place from to (now (ended .entry)) (now (ended .exit)) ⌝ }
 {
     let mut i = from;
     while i < to {
@@ -82,7 +84,8 @@ fn note_chunk<'a>(
     ended: &mut [u32; 1024],
 )
     requires { ⌜ Lent (now owners) (now items) (now origins) to × (from ≤ to) × (to ≤ from + 32) × (from + 32 ≤ 1024) × (length (now ended) ≡ 1024) ⌝ }
-    ensures { λ _. ⌜ RowsNoted (rowOf (now (owners .entry)) (now (items .entry)) (now (origins .entry))) id place from to (now (ended .entry)) (now (ended .exit)) ⌝ }
+    ensures { λ _. ⌜ RowsNoted (rowOf (now (owners .entry)) (now (items .entry)) (now (origins .entry)))
+        id place from to (now (ended .entry)) (now (ended .exit)) ⌝ }
 {
     if chunk_has(owners, from, id) {
         note_rows(owners, items, origins, from, to, id, place, ended);
@@ -100,7 +103,8 @@ fn note_ends<'a>(
     ended: &mut [u32; 1024],
 )
     requires { ⌜ Lent (now owners) (now items) (now origins) n × (length (now ended) ≡ 1024) ⌝ }
-    ensures { λ _. ⌜ NotedAt place (marksOf id (rows (rowOf (now (owners .entry)) (now (items .entry)) (now (origins .entry))) 0 n)) (now (ended .entry)) (now (ended .exit)) ⌝ }
+    ensures { λ _. ⌜ NotedAt place (marksOf id (rows (rowOf (now (owners .entry)) (now (items .entry)) (now (origins .entry))) 0 n))
+        (now (ended .entry)) (now (ended .exit)) ⌝ }
 {
     let mut i = 0;
     while i < n {
@@ -121,7 +125,8 @@ pub fn note_if_end<'a>(
     ended: &mut [u32; 1024],
 )
     requires { ⌜ Lent (now owners) (now items) (now origins) n × (place < 1024) × (length (now ended) ≡ 1024) ⌝ }
-    ensures { λ _. ⌜ NotedAt place (marksEnded head (rows (rowOf (now (owners .entry)) (now (items .entry)) (now (origins .entry))) 0 n)) (now (ended .entry)) (now (ended .exit)) ⌝ }
+    ensures { λ _. ⌜ NotedAt place (marksEnded head (rows (rowOf (now (owners .entry)) (now (items .entry)) (now (origins .entry))) 0 n))
+        (now (ended .entry)) (now (ended .exit)) ⌝ }
 {
     if head::kind_of(head) == head::REACT {
         return;

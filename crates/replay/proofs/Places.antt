@@ -51,7 +51,8 @@ module _ (os ws gs : List ℕ) (n : ℕ) where
   -- if it is none of the words before that place
   pub seek-from : (w i : ℕ) → i ≤ n → ((j : ℕ) → j < i → getD gs j 0 ≡ w → ⊥) → Seeking w i
   seek-from w zero l h = seek-start w
-  seek-from w (suc i) l h = subst (Seeking w) (add-one i) (seek-next w i (seek-from w i (omega arith) (λ j b. h j (omega arith))) (omega arith) (h i (omega arith)))
+  seek-from w (suc i) l h = subst (Seeking w) (add-one i) (seek-next w i (seek-from w i (omega arith) (λ j b. h j (omega arith))) (omega arith)
+      (h i (omega arith)))
 
   pub owner-within : (p : ℕ) → p < n → getD os p 0 ≡ entryAt (rows (rowOf os ws gs) 0 n) p .owner
   owner-within p h = sym (ap (λ (e : Entry). e .owner) (getD-rows nothing (rowOf os ws gs) 0 n p h) ∙ rw zero-add)

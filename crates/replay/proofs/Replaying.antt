@@ -25,7 +25,7 @@ use Rattle.wellformed.specs.Length.{length-maker}
 use Rattle.cells.specs.Moves.{after-allowed}
 use Rattle.serial_laws.specs.Acts.{Recorded, wordsOfMove, ActsAgain, Replays, replayFits}
 use Rattle.replay.specs.Replay.{Words, Arranged}
-use Rattle.replay.proofs.WordsAgain.{words-same}
+use Rattle.replay.proofs.WordsAgain.{again-words}
 
 -- `rest` is left of the acts xs at the state c, and the rows of the others are written
 pub record Replaying (ceiling : ℕ) (t : Table) (start : State) (l order origins members : List ℕ) (xs rest : List Act) (j : ℕ) (c : State) (out : List ℕ) : Type 0 where
@@ -71,7 +71,7 @@ module _ (ceiling : ℕ) (t : Table) (start : State) (l order origins members : 
       replaying-denied (a ∷ rest) r maker d =
           let g = r .replays .0 in
           let m = again c a (a .move) in
-          let e = words-same (r .recorded .0) g (sym (head-eq (r .places ∙ ahead))) w in
+          let e = again-words (r .recorded .0) g (sym (head-eq (r .places ∙ ahead))) w in
           by-bool (fits ceiling (after t (suc (a .place)) c m))
           (λ f. absurd (refused≢to {s = applied t maker c m} (sym d ∙ rw e (passes ceiling t (suc (a .place)) maker c a g f))))
           (λ f. sym (and-right-false (fits ceiling c) (unfit ceiling t (after t (suc (a .place)) c m) rest f)) ∙ r .fitting)
@@ -87,7 +87,7 @@ module _ (ceiling : ℕ) (t : Table) (start : State) (l order origins members : 
           let g = r .replays .0 in
           let m = again c a (a .move) in
           let place = head-eq (r .places ∙ ahead) in
-          let words = words-same (r .recorded .0) g (sym place) w in
+          let words = again-words (r .recorded .0) g (sym place) w in
           let maker : getD order j 0 + 1 ≡ suc (a .place) = omega arith in
           let next : s ≡ after t (suc (a .place)) c m =
           sym (accepted-move ceiling t (getD order j 0 + 1) c (head ∷ picks) s e .result) ∙ rw (maker, words, g .words) (sym (after-allowed t (suc (a .place)) c m (g .allows))) in (

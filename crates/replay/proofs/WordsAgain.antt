@@ -1,5 +1,5 @@
 -- The words of a recorded act made again: what the code computes of them is what `again` says.
-use Prim.Native.Nat.{ℕ, _+_, _*_, _%_, _^_, _≤_, _<_}
+use Prim.Native.Nat.{ℕ, _+_, _*_, _≤_}
 use mathlib.Core.Bool.{Bool, true, false, cond}
 use mathlib.Core.List.{List, [], _∷_, _++_, map, map-map}
 use mathlib.Core.Path.{_≡_, refl, sym, ap, subst, _∙_}
@@ -30,11 +30,11 @@ module _ (es : List Entry) (head member : ℕ) where
     owner-now : owner ≡ entryAt es (placeIn es member) .owner
     owner-now = e ∙ ap (λ (n : ℕ). entryAt es n .owner) p
 
-    pub head-commit : headKind head ≡ 1 → 0x01000000 + owner % 2 ^ 24 ≡ headAgain es head member
+    pub head-commit : headKind head ≡ 1 → headWord 1 (headNumber owner) ≡ headAgain es head member
     unfolding headAgain
     head-commit h = rw (ne-eqb (headKind head) 0 k, eq-eqb (headKind head) 1 h, ← owner-now)
 
-    pub head-abort : (headKind head ≡ 1 → ⊥) → 0x02000000 + owner % 2 ^ 24 ≡ headAgain es head member
+    pub head-abort : (headKind head ≡ 1 → ⊥) → headWord 2 (headNumber owner) ≡ headAgain es head member
     unfolding headAgain
     head-abort h = rw (ne-eqb (headKind head) 0 k, ne-eqb (headKind head) 1 h, ← owner-now)
 
@@ -53,11 +53,13 @@ words-made {t} {es} {l} {origins} {members} {p} w h (u, le) v q =
     }
 
 -- an id in words has 24 bits
-id-narrow : (t : Table) (w : ℕ) (ps : List ℕ) → idOf (moveOf t (w ∷ ps)) < 2 ^ 24
+id-narrow : (t : Table) (w : ℕ) (ps : List ℕ) → headNumber (idOf (moveOf t (w ∷ ps))) ≡ idOf (moveOf t (w ∷ ps))
 unfolding moveOf
 id-narrow t w ps = go (eqb (headKind w) 0) (eqb (headKind w) 1)
   where
-    go : (k one : Bool) → idOf (cond k (react (headNumber w) (take (picksUsed t w) ps)) (cond one (commit (headNumber w)) (abort (headNumber w)))) < 2 ^ 24
+    go : (k one : Bool)
+        → headNumber (idOf (cond k (react (headNumber w) (take (picksUsed t w) ps)) (cond one (commit (headNumber w)) (abort (headNumber w)))))
+        ≡ idOf (cond k (react (headNumber w) (take (picksUsed t w) ps)) (cond one (commit (headNumber w)) (abort (headNumber w))))
     go true one = omega arith
     go false true = omega arith
     go false false = omega arith
@@ -82,14 +84,15 @@ places-same es ws os u le rec used =
     let count : u ≡ length os = omega (arith, length-take-le u (take 4 (qs ++ replicate 4 0)) (omega arith), ap length used, length-map os (placeOf es)) in
     let few : length qs ≤ 4 = omega (arith, length-map os (placeOf es)) in
     let same : map (placeIn es) (take u (take 4 ws)) ≡ qs =
-    ap (map (placeIn es)) (take-take u 4 ws le ∙ ap (λ (n : ℕ). take n ws) count) ∙ sym (map-map (placeOf es) originOf (take (length os) ws)) ∙ ap (map (placeOf es)) (sym rec) in
+    ap (map (placeIn es)) (take-take u 4 ws le ∙ ap (λ (n : ℕ). take n ws) count) ∙ sym (map-map (placeOf es) originOf (take (length os) ws))
+    ∙ ap (map (placeOf es)) (sym rec) in
     ap (padded 4 0) same ∙ padded-cut 4 0 qs few
 
 module _ {t : Table} {l origins members : List ℕ} {c : State} {a : Act} (r : Recorded t l origins members a) (g : ActsAgain t c a) where
   abbrev was : ℕ
   was = getD l (1 + a .place) 0
 
-  id-now : idOf (again c a (a .move)) < 2 ^ 24
+  id-now : headNumber (idOf (again c a (a .move))) ≡ idOf (again c a (a .move))
   id-now =
       let m = again c a (a .move) in
       let n = id-narrow t (headOf m) (fourPicks m) in
@@ -106,8 +109,8 @@ module _ {t : Table} {l origins members : List ℕ} {c : State} {a : Act} (r : R
     where
       go : (owner : ℕ) (k one : Bool) (m : Move) (ps : List ℕ) → (k ≡ true → headKind was ≡ 0)
           → m ≡ cond k (react (headNumber was) ps) (cond one (commit (headNumber was)) (abort (headNumber was)))
-          → (isEnd m ≡ true → owner ≡ idOf (again c a m)) → idOf (again c a m) < 2 ^ 24
-          → cond k was (headWord (cond one 1 2) (owner % 2 ^ 24)) ≡ headOf (again c a m)
+          → (isEnd m ≡ true → owner ≡ idOf (again c a m)) → headNumber (idOf (again c a m)) ≡ idOf (again c a m)
+          → cond k was (headWord (cond one 1 2) (headNumber owner)) ≡ headOf (again c a m)
       go owner true one m ps z e o l = let k = z refl in rw e (omega arith)
       go owner false true m ps z e o l =
           let p = (rw e at o) refl in
@@ -118,7 +121,8 @@ module _ {t : Table} {l origins members : List ℕ} {c : State} {a : Act} (r : R
           let q = rw e at l in
           rw e (omega arith)
 
-  picks-same : picksUsed t was ≤ 4 → padded 4 0 (map (placeIn (c .entries)) (take (picksUsed t was) (take 4 (drop (4 * a .place) origins)))) ≡ fourPicks (again c a (a .move))
+  picks-same : picksUsed t was ≤ 4 → padded 4 0 (map (placeIn (c .entries)) (take (picksUsed t was) (take 4 (drop (4 * a .place) origins)))) ≡ fourPicks
+      (again c a (a .move))
   unfolding moveOf again
   picks-same u = go (eqb (headKind was) 0) refl (eqb (headKind was) 1) (a .move) _ (r .move) (g .words)
     where
@@ -136,8 +140,8 @@ module _ {t : Table} {l origins members : List ℕ} {c : State} {a : Act} (r : R
       go false k false m ps e words = rw (k, e)
 
 -- the words that the code computes are those of the act made again
-pub words-same : {t : Table} {l origins members : List ℕ} {c : State} {a : Act} → Recorded t l origins members a → ActsAgain t c a
+pub again-words : {t : Table} {l origins members : List ℕ} {c : State} {a : Act} → Recorded t l origins members a → ActsAgain t c a
     → {p head : ℕ} {picks : List ℕ} → p ≡ a .place → Words t (c .entries) l origins members p head picks → head ∷ picks ≡ wordsOfMove (again c a (a .move))
-words-same {t} {l} {origins} {members} {c} {a} r g {p} {head} {picks} e w =
+again-words {t} {l} {origins} {members} {c} {a} r g {p} {head} {picks} e w =
     let v = subst (λ (q : ℕ). Words t (c .entries) l origins members q head picks) e w in
     rw (v .head-now ∙ head-same r g, v .picks-now ∙ picks-same r g (v .used))

@@ -1,5 +1,5 @@
 -- What the second pass asks and says.
-use Prim.Native.Nat.{ℕ, _+_, _*_, _%_, _^_, _≤_, _<_}
+use Prim.Native.Nat.{ℕ, _+_, _*_, _≤_, _<_}
 use mathlib.Core.Bool.{Bool, true, cond}
 use mathlib.Core.List.{List, map}
 use mathlib.Core.Path.{_≡_}
@@ -8,7 +8,7 @@ use lib.ListN.{length, getD, take, drop}
 use Rattle.lists.specs.Lists.{over}
 use Rattle.lists.specs.Each.{All}
 use Rattle.lists.specs.Padded.{padded}
-use Rattle.semantics.specs.Words.{headKind, headWord}
+use Rattle.semantics.specs.Words.{headKind, headNumber, headWord}
 use Rattle.semantics.specs.Table.{Table}
 use Rattle.semantics.specs.State as semantics
 use Rattle.semantics.specs.State.{Entry}
@@ -29,7 +29,7 @@ placeIn es w = placeOf es (originOf w)
 unfoldable pub headAgain : List Entry → ℕ → ℕ → ℕ
 headAgain es head member =
     cond (eqb (headKind head) 0) head
-    (headWord (cond (eqb (headKind head) 1) 1 2) (entryAt es (placeIn es member) .owner % 2 ^ 24))
+    (headWord (cond (eqb (headKind head) 1) 1 2) (headNumber (entryAt es (placeIn es member) .owner)))
 
 -- the head and the picks of the recorded move at place p among these entries
 pub record Words (t : Table) (es : List Entry) (l origins members : List ℕ) (p head : ℕ) (picks : List ℕ) : Type 0 where

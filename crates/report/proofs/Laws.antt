@@ -9,13 +9,12 @@ use lib.Seq.{take-append-seam}
 use Rattle.semantics.specs.Table.{tableOf}
 use Rattle.semantics.specs.State.{stateOf, stateSizesOk}
 use Rattle.semantics.specs.Log.{movesOf}
-use Rattle.semantics.specs.Answers.{lineCeiling, stateOwnVerdict}
+use Rattle.semantics.specs.Answers.{lineCeiling}
 use Rattle.semantics.specs.Program.{Line, linesFrom, lines, firstLine, wordsOf, partsOf}
 use Rattle.semantics.specs.declared.Refusal.{Refusal}
-use Rattle.semantics.specs.declared.Refusal.the-variants.{StateSizes}
 use Rattle.semantics.specs.declared.Verdict.the-variants.{Allowed, Denied}
 use Rattle.intake.specs.Gather.{Gathered, gathered-all}
-use Rattle.wellformed.specs.Verdicts.{both-allowed, unless-allowed}
+use Rattle.ready.specs.Ready.{ready-table, ready-sizes}
 use Rattle.intake.specs.Split.{SplitAs, accepted-input}
 use Rattle.intake.specs.declared.parts.Parts as intake
 use Rattle.log.specs.Form.{log-sized}
@@ -67,12 +66,12 @@ module _ {ws : List ℕ} {bytes : ℕ} {p : intake.Parts} (h : SplitAs ws bytes 
   module _ (allowed : p .verdict ≡ Allowed) where
     pub prepared : Prepared (take (p .«state_at») ws) (p .starts) (take (p .end - p .«log_at») (drop (p .«log_at») ws))
         × (stateSizesOk (take (p .«log_at» - p .«state_at») (drop (p .«state_at») ws)) ≡ true)
-    unfolding stateOwnVerdict
     prepared =
         let a = accepted-input (sym (h .verdict) ∙ allowed) in
+        let r = h .ready allowed in
         rw (h .cut .table, h .cut .state, h .cut .log) (
-          record { indexed = record { table = a .table; starts = h .starts allowed }; log = log-sized _ (a .log) },
-          unless-allowed (stateSizesOk (partsOf ws .state)) StateSizes (both-allowed _ _ (a .state) .0),
+          record { indexed = record { table = ready-table r; starts = r .starts }; log = log-sized _ (a .log) },
+          ready-sizes r,
         )
 
     pub accepted-figures :

@@ -86,7 +86,8 @@ fn rule_of(ws: &[u32], z: Sizes) -> Rule
 }
 
 pub fn rule_at<'a>(table: &'a [u32], starts: &'a [u32; 65], r: u32) -> Rule
-    requires { ⌜ (tableVerdict (now table) ≡ Allowed) × (r < sizesOf (now table) .rules) × Starts (numbersOf (now table)) (sizesOf (now table) .rules) (now starts) ⌝ }
+    requires { ⌜ (tableVerdict (now table) ≡ Allowed) × (r < sizesOf (now table) .rules)
+        × Starts (numbersOf (now table)) (sizesOf (now table) .rules) (now starts) ⌝ }
     ensures { λ x. ⌜ Decodes x (ruleAt (tableOf (now (table .entry))) r) ⌝ }
 {
     let z = sizes_of(table);
@@ -95,7 +96,8 @@ pub fn rule_at<'a>(table: &'a [u32], starts: &'a [u32; 65], r: u32) -> Rule
 
 // How many consumes (takes) rule r has, without decoding it.
 pub fn consumes_at<'a>(table: &'a [u32], starts: &'a [u32; 65], r: u32) -> usize
-    requires { ⌜ (tableVerdict (now table) ≡ Allowed) × (r < sizesOf (now table) .rules) × Starts (numbersOf (now table)) (sizesOf (now table) .rules) (now starts) ⌝ }
+    requires { ⌜ (tableVerdict (now table) ≡ Allowed) × (r < sizesOf (now table) .rules)
+        × Starts (numbersOf (now table)) (sizesOf (now table) .rules) (now starts) ⌝ }
     ensures { λ n. ⌜ (n ≡ length (consumed (ruleAt (tableOf (now (table .entry))) r))) × (n ≤ 4) ⌝ }
 {
     consumes_of(rule_words(atom_words_of(table), starts, r as usize))

@@ -1,17 +1,19 @@
 -- 01's numbers, and each public call's answer and target contents as a function of the words handed in.
-use Prim.Native.Nat.{ℕ, suc, _+_, _*_}
-use mathlib.Core.Bool.{Bool, true, false, not}
+use Prim.Native.Nat.{ℕ, _+_, _*_}
+use mathlib.Core.Bool.{Bool, not}
 use mathlib.Core.List.{List, [], _∷_, map}
 use lib.Dec.{leb}
 use lib.ListN.{length}
 use Rattle.lists.specs.Lists.{over}
-use Rattle.semantics.specs.Table.{Table, sizesOf, tableSizesOk, tableContentsOk, tableOf}
+use Rattle.semantics.specs.Table.{sizesOf, tableSizesOk, tableContentsOk, tableOf}
 use Rattle.semantics.specs.State.{State, maxEntries, stateSizesOk, entriesOk, stateOf, stateWords}
 use Rattle.semantics.specs.Move.{unless, firstFault, Move, moveOk, moveOf, Stepped, to, refused, stepWords}
 use Rattle.semantics.specs.Log.{moveCount, movesOf, logSizesOk, logWords, Ran, ended, stopped, run}
 use Rattle.semantics.specs.Serial.{beginsEmit, anyOpen, serial, serialFits}
 use Rattle.semantics.specs.declared.Refusal.{Refusal}
-use Rattle.semantics.specs.declared.Refusal.the-variants.{TableSizes, TableContents, StateSizes, StateContents, MoveForm, TargetTooShort, WrongPick, WrongOwner, NoTransaction, EndNotAllowed, NoMoreIds, TooManyEntries, LogSizes, BeginEmits, TransactionOpen, SerialTooManyEntries}
+use Rattle.semantics.specs.declared.Refusal.the-variants.{TableSizes, TableContents, StateSizes, StateContents, MoveForm, TargetTooShort}
+use Rattle.semantics.specs.declared.Refusal.the-variants.{WrongPick, WrongOwner, NoTransaction, EndNotAllowed, NoMoreIds, TooManyEntries}
+use Rattle.semantics.specs.declared.Refusal.the-variants.{LogSizes, BeginEmits, TransactionOpen, SerialTooManyEntries}
 use Rattle.semantics.specs.declared.Verdict.{Verdict}
 use Rattle.semantics.specs.declared.Verdict.the-variants.{Allowed, Denied}
 use Rattle.semantics.specs.declared.Outcome.{Outcome}
@@ -22,7 +24,7 @@ use Rattle.semantics.specs.declared.Sizes.{Sizes}
 -- ---- 01's numbers
 
 abbrev pub number : Refusal → ℕ
--- Refused because of what is handed in
+-- what is handed in is at fault
 number TableSizes = 1
 number TableContents = 2
 number StateSizes = 3
@@ -31,7 +33,7 @@ number MoveForm = 5
 number TargetTooShort = 6
 number LogSizes = 13
 number BeginEmits = 14
--- Refused because of the plant's state
+-- the state does not allow it
 number WrongPick = 7
 number WrongOwner = 8
 number NoTransaction = 9
@@ -41,12 +43,12 @@ number TooManyEntries = 12
 number TransactionOpen = 15
 number SerialTooManyEntries = 17
 
--- An accepted check answers 0. Any other accepted call gives the number of words written ..; a refused one .. gives only its number, but for 16.
+-- What C gets: 0 and the count of words written, or the refusal's number and nothing else; only 16 says more.
 abbrev pub answerOf : Outcome → Answer
 answerOf Passed = record { number = 0; words = 0; place = 0; own = 0 }
 answerOf (Written n) = record { number = 0; words = n; place = 0; own = 0 }
 answerOf (Refused r) = record { number = number r; words = 0; place = 0; own = 0 }
--- 16 a move in the log is refused: its place (from 0) and own number are given
+-- 16: which move of the log was refused, from 0, and why
 answerOf (MoveRefused i r) = record { number = 16; words = 0; place = i; own = number r }
 
 -- ---- what a call comes to: words to write, or why not
@@ -61,7 +63,7 @@ outcomeOf (write ws) = Written (length ws)
 outcomeOf (refuse r) = Refused r
 outcomeOf (refuseMove i r) = MoveRefused i r
 
--- .. and leaves the target beyond them; a refused one writes nothing
+-- words go over the target's beginning, and the rest of it stays; after a refusal all of it does
 abbrev pub targetAfter : Result → List ℕ → List ℕ
 targetAfter (write ws) target = over ws target
 targetAfter (refuse r) target = target
@@ -77,7 +79,7 @@ outcomeOfCheck (Denied r) = Refused r
 
 -- ---- the two checks
 
--- Table check: 1, 2.
+-- a table: 1, 2
 abbrev pub tableFaults : List ℕ → List Verdict
 tableFaults t = unless (tableSizesOk t) TableSizes ∷ unless (tableContentsOk t) TableContents ∷ []
 
@@ -91,7 +93,7 @@ stateOwnFaults z s = unless (stateSizesOk s) StateSizes ∷ unless (entriesOk z 
 unfoldable pub stateOwnVerdict : Sizes → List ℕ → Verdict
 stateOwnVerdict z s = firstFault (stateOwnFaults z s)
 
--- State check, under its table: 1, 2, 3, 4.
+-- a table and a state under it: 1, 2, 3, 4
 unfoldable pub stateVerdict : List ℕ → List ℕ → Verdict
 stateVerdict t s = firstFault (tableVerdict t ∷ stateOwnVerdict (sizesOf t) s ∷ [])
 
@@ -103,15 +105,15 @@ checkState t s = answerOf (outcomeOfCheck (stateVerdict t s))
 
 -- ---- the single move
 
--- 1,024 entries for the line; M-140 gives others
+-- The calls work with as many entries as the line holds. Definitions and facts about room take any ceiling.
 abbrev pub lineCeiling : ℕ
 lineCeiling = maxEntries
 
--- 6 target too short: 2,050 words for a state, ..
+-- 6: how long the target must be, whatever is written: for a state as long as the largest state, ..
 abbrev pub stateRoom : ℕ
 stateRoom = 2050
 
--- .. 1+5k for a serial log
+-- .. and for a serial log as long as the log
 abbrev pub serialRoom : List ℕ → ℕ
 serialRoom l = 1 + 5 * moveCount l
 
@@ -122,11 +124,11 @@ abbrev pub steppedResult : Stepped → Result
 steppedResult (to s) = write (stateWords s)
 steppedResult (refused r) = refuse r
 
--- Move: 1, 2, 3, 4, 5, 6, ..
+-- a move: 1, 2, 3, 4, 5, 6, ..
 abbrev pub moveFaults : List ℕ → List ℕ → List ℕ → List ℕ → List Verdict
 moveFaults t s m target = stateVerdict t s ∷ unless (moveOk (tableOf t) m) MoveForm ∷ hasWords stateRoom target ∷ []
 
--- .. 7, 8, 9, 10, 11, 12.
+-- .. and then 7 to 12, of which the state decides
 unfoldable pub moveResult : ℕ → List ℕ → List ℕ → List ℕ → List ℕ → Result
 moveResult ceiling t s m target =
     unlessDenied (firstFault (moveFaults t s m target)) (steppedResult (stepWords ceiling (tableOf t) 1 (stateOf s) m))
@@ -150,11 +152,11 @@ logVerdict t s l = firstFault (stateVerdict t s ∷ unless (logSizesOk l) LogSiz
 abbrev pub runOf : ℕ → List ℕ → List ℕ → List ℕ → Ran
 runOf ceiling t s l = run ceiling (tableOf t) 0 (stateOf s) (movesOf l)
 
--- Run: 1, 2, 3, 4, 13, 6, ..
+-- a run: 1, 2, 3, 4, 13, 6, ..
 abbrev pub runFaults : List ℕ → List ℕ → List ℕ → List ℕ → List Verdict
 runFaults t s l target = logVerdict t s l ∷ hasWords stateRoom target ∷ []
 
--- .. 16.
+-- .. and then 16
 unfoldable pub runResult : ℕ → List ℕ → List ℕ → List ℕ → List ℕ → Result
 runResult ceiling t s l target = unlessDenied (firstFault (runFaults t s l target)) (ranResult (runOf ceiling t s l))
 
@@ -173,7 +175,7 @@ serialOf t s l = serial (tableOf t) (stateOf s) (map (moveOf (tableOf t)) (moves
 unfoldable pub serialFitsOf : ℕ → List ℕ → List ℕ → List ℕ → Bool
 serialFitsOf ceiling t s l = serialFits ceiling (tableOf t) (stateOf s) (map (moveOf (tableOf t)) (movesOf l))
 
--- Serial: 1, 2, 3, 4, 13, 6, 14, 15 (start), ..
+-- a serial log: 1, 2, 3, 4, 13, 6, 14, and 15 at the start, ..
 abbrev pub serialFaults : List ℕ → List ℕ → List ℕ → List ℕ → List Verdict
 serialFaults t s l target =
     logVerdict t s l
@@ -182,7 +184,7 @@ serialFaults t s l target =
     ∷ unless (not (anyOpen (stateOf s))) TransactionOpen
     ∷ []
 
--- .. 16, 15 (end), 17.
+-- .. then 16, 15 at the end, and 17
 abbrev pub serialEndFaults : ℕ → List ℕ → List ℕ → List ℕ → State → List Verdict
 serialEndFaults ceiling t s l end = unless (not (anyOpen end)) TransactionOpen ∷ unless (serialFitsOf ceiling t s l) SerialTooManyEntries ∷ []
 

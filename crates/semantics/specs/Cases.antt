@@ -9,10 +9,12 @@ use Rattle.semantics.specs.Move.{moveOk, moveOf, reacted, allowed, appli
 use Rattle.semantics.specs.Move as Move
 use Rattle.semantics.specs.Log.{logSizesOk, logWords, run}
 use Rattle.semantics.specs.Serial.{after, acts, again, replayed, serial, along, serialFits}
-use Rattle.semantics.specs.Answers.{tableVerdict, stateOwnVerdict, stateVerdict, checkTable, checkState, moveResult, makeMove, makeMoveTarget, logVerdict, runResult, runLog, runLogTarget, serialOf, serialFitsOf, serialResult, serialize, serializeTarget}
+use Rattle.semantics.specs.Answers.{tableVerdict, stateOwnVerdict, stateVerdict, checkTable, checkState, moveResult, makeMove, makeMoveTarget}
+use Rattle.semantics.specs.Answers.{logVerdict, runResult, runLog, runLogTarget, serialOf, serialFitsOf, serialResult, serialize}
+use Rattle.semantics.specs.Answers.{serializeTarget}
 use Rattle.semantics.specs.declared.Answer.{Answer}
 
--- G=2, L=1, M=1, R=4, A=12.
+-- two global ports, a local and a merge port, four rules of twelve atoms
 unfoldable pub twoLot : List ℕ
 twoLot =
     2 ∷ 1 ∷ 1 ∷ 4 ∷ 12
@@ -23,7 +25,7 @@ twoLot =
     ∷ 0x00020000 ∷ 0x50000000
     ∷ []
 
--- Start: n=2, N=1, owners 0 0, items 7 9.
+-- two messages on port 0, of the values 7 and 9
 unfoldable pub start : List ℕ
 start = 2 ∷ 1 ∷ 0 ∷ 0 ∷ 7 ∷ 9 ∷ []
 
@@ -107,26 +109,29 @@ pub cases : List Case
 cases =
     record { call = theTable; stated = answers 0 }
     ∷ record { call = theStart; stated = answers 0 }
-    -- (a) End: 2, 3, 0, 0, 0x00010007, 0x00010009.
+    -- (a) two members merged and committed
     ∷ record { call = theRun logA; stated = writes (2 ∷ 3 ∷ 0 ∷ 0 ∷ 0x00010007 ∷ 0x00010009 ∷ []) }
-    -- (b) After four of these moves, release 1 gives 10.
+    -- (b) a commit before the merge: 10
     ∷ record { call = afterRun (take 4 logA) (release 1); stated = answers 10 }
-    -- (c) n=4, owners 1 1 0 1, items 0x03000001, 0x01000007, 0x00000009, 0x00030007.
+    -- (c) the second transaction aborted, the first still there
     ∷ record { call = theRun logC; stated = writes (4 ∷ 3 ∷ 1 ∷ 1 ∷ 0 ∷ 1 ∷ 0x03000001 ∷ 0x01000007 ∷ 0x00000009 ∷ 0x00030007 ∷ []) }
-    -- (d) Serial: rule 0 pick 1; rule 3 pick 2; call off 1; rule 0 pick 0; rule 3 pick 2; call off 2. Ends with items 7, 9 and 9, 7.
+    -- (d) two transactions aborted in the other order than begun: the serial log, the run, and the serial log's run
     ∷ record { call = theSerialLog logD; stated = writes (logOf serialD) }
     ∷ record { call = theRun logD; stated = writes (2 ∷ 3 ∷ 0 ∷ 0 ∷ 7 ∷ 9 ∷ []) }
     ∷ record { call = theRun serialD; stated = writes (2 ∷ 3 ∷ 0 ∷ 0 ∷ 9 ∷ 7 ∷ []) }
-    -- (e) After four moves of (a), rule 2 picks 4, 4: 7.
+    -- (e) an entry picked twice: 7
     ∷ record { call = afterRun (take 4 logA) (rule2 2 4 4); stated = answers 7 }
-    -- (f) Call off 1 after the first move: 10.
+    -- (f) an abort that nothing asked for: 10
     ∷ record { call = afterRun (take 1 logA) (callOff 1); stated = answers 10 }
-    -- (g) Release 3 after two: 9.
+    -- (g) a commit of an id not given out: 9
     ∷ record { call = afterRun (take 2 logA) (release 3); stated = answers 9 }
-    -- (h) Empty log from the start: empty serial log.
+    -- (h) no moves, in a log and in its serial log
     ∷ record { call = theSerialLog []; stated = writes (0 ∷ []) }
     ∷ []
 
 pub cases-hold : map (λ c. found (c .call)) cases ≡ map (λ c. c .stated) cases
-unfolding twoLot start logA logC logD serialD cases found tableSizesOk numbersOk atomOk ruleOk rulesOk tableContentsOk ruleOf tableOf stateOf stateWords stateSizesOk entryOk entriesOk moveOk moveOf reacted Move.ended allowed applied step stepWords logSizesOk logWords run after acts again replayed serial along serialFits tableVerdict stateOwnVerdict stateVerdict checkTable checkState moveResult makeMove makeMoveTarget logVerdict runResult runLog runLogTarget serialOf serialFitsOf serialResult serialize serializeTarget
+unfolding twoLot start logA logC logD serialD cases found tableSizesOk numbersOk atomOk ruleOk rulesOk tableContentsOk ruleOf tableOf stateOf
+    stateWords stateSizesOk entryOk entriesOk moveOk moveOf reacted Move.ended allowed applied step stepWords logSizesOk logWords run after acts
+    again replayed serial along serialFits tableVerdict stateOwnVerdict stateVerdict checkTable checkState moveResult makeMove makeMoveTarget
+    logVerdict runResult runLog runLogTarget serialOf serialFitsOf serialResult serialize serializeTarget
 cases-hold = refl

@@ -1,6 +1,6 @@
 -- 01, "Log": the form of a log, and its run.
-use Prim.Native.Nat.{ℕ, zero, suc, _+_, _*_}
-use mathlib.Core.Bool.{Bool, true, false, _&&_}
+use Prim.Native.Nat.{ℕ, suc, _+_, _*_}
+use mathlib.Core.Bool.{Bool, _&&_}
 use mathlib.Core.List.{List, [], _∷_, _++_, map}
 use lib.Dec.{leb, eqb}
 use lib.ListN.{length, getD, take, drop, replicate}
@@ -13,11 +13,11 @@ use Rattle.semantics.specs.declared.Refusal.{Refusal}
 
 -- ---- form (13)
 
--- A log is k (at most 1,024), ..
+-- the most moves that a log may have
 abbrev pub maxMoves : ℕ
 maxMoves = 1024
 
--- .. k heads, then 4k picks, 1+5k words.
+-- A count comes first; a column of as many heads and one of four picks for each follow. No word is missing or left over.
 abbrev pub moveCount : List ℕ → ℕ
 moveCount l = getD l 0 0
 
@@ -31,7 +31,7 @@ moveAt l i = getD l (1 + i) 0 ∷ take 4 (drop (1 + moveCount l + 4 * i) l)
 abbrev pub movesOf : List ℕ → List (List ℕ)
 movesOf l = map (moveAt l) (upFrom 0 (moveCount l))
 
--- and back: the words of a log. Unused picks are 0.
+-- and back: the words of a log, with 0 for picks that are not used
 abbrev pub headOf : Move → ℕ
 headOf (react r ps) = headWord 0 r
 headOf (commit b) = headWord 1 b
@@ -59,8 +59,8 @@ abbrev pub onward : Stepped → ℕ → (State → Ran) → Ran
 onward (to s) i rest = rest s
 onward (refused r) i rest = stopped i r
 
--- A run takes the moves in order and gives the end state. The first move gets the start, each later one the state that the move before it left, and
--- nothing else changes that state; a refused move refuses the log (16) with its place and own number. The first of these moves has the place i.
+-- Each move is made on what the one before it left, and the first that is refused ends the run with its place and its reason (16). The first of these moves
+-- has the place i, and so the maker i + 1.
 unfoldable pub run : ℕ → Table → ℕ → State → List (List ℕ) → Ran
 run ceiling t i s [] = ended s
 run ceiling t i s (m ∷ ms) = onward (stepWords ceiling t (suc i) s m) i (λ s′. run ceiling t (suc i) s′ ms)

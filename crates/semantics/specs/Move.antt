@@ -1,13 +1,13 @@
 -- 01, "Move": the form of a move, when it is allowed, what it leaves, and the limit on entries.
-use Prim.Native.Nat.{ℕ, zero, suc, _+_}
+use Prim.Native.Nat.{ℕ, suc}
 use mathlib.Core.Bool.{Bool, true, false, _&&_, _||_, not, cond}
 use mathlib.Core.List.{List, [], _∷_, _++_, map}
 use lib.Dec.{leb, ltb, eqb}
 use lib.ListN.{length, getD, take, drop}
-use Rattle.lists.specs.Lists.{all, any, isEmpty, isIn, keep, distinct, least, without}
+use Rattle.lists.specs.Lists.{all, any, isIn, keep, distinct, least, without}
 use Rattle.semantics.specs.Words.{headKind, headNumber}
-use Rattle.semantics.specs.Table.{Table, Rule, ruleAt, hasRole, consumed, productAtoms, begins}
-use Rattle.semantics.specs.State.{Origin, Entry, State, isMessage, isCompensation, isAbortMark, isMemberMark, owned}
+use Rattle.semantics.specs.Table.{Table, Rule, ruleAt, consumed, productAtoms, begins}
+use Rattle.semantics.specs.State.{Origin, Entry, State, isMessage, isCompensation, isAbortMark, owned}
 use Rattle.semantics.specs.declared.Atom.{Atom}
 use Rattle.semantics.specs.declared.AtomValue.{AtomValue}
 use Rattle.semantics.specs.declared.AtomValue.the-variants.{Constant, Received}
@@ -26,7 +26,7 @@ abbrev pub both : Verdict → Verdict → Verdict
 both Allowed v = v
 both (Denied r) v = Denied r
 
--- First fault counts: the verdict of tests in the order in which they are made.
+-- the verdict of some tests: the first that fails counts, and the later ones say nothing
 abbrev pub firstFault : List Verdict → Verdict
 firstFault [] = Allowed
 firstFault (v ∷ []) = v
@@ -34,7 +34,7 @@ firstFault (v ∷ w ∷ vs) = both v (firstFault (w ∷ vs))
 
 -- ---- form (5)
 
--- A reaction uses one pick for each take, in order; commit is 01's release, abort its call-off.
+-- A reaction by its rule and the places picked for the rule's consumes, in order; a commit (01's release) or an abort (call-off) by its transaction.
 pub data Move : Type 0 where
   react : ℕ → List ℕ → Move
   commit : ℕ → Move
@@ -43,18 +43,18 @@ pub data Move : Type 0 where
 abbrev pub isZero : ℕ → Bool
 isZero w = eqb w 0
 
--- how many picks a head uses: a reaction one for each take
+-- how many of the four picks a head uses
 abbrev pub picksUsed : Table → ℕ → ℕ
 picksUsed t head = cond (eqb (headKind head) 0) (length (consumed (ruleAt t (headNumber head)))) 0
 
--- Kinds: 0 react with rule number, 1 release, 2 call off a batch by ticket 1 to 65,535.
+-- Kind 0 names a rule of the table; kinds 1 and 2, commit and abort, an id that a transaction could have.
 abbrev pub headOk : Table → ℕ → Bool
 headOk t head =
     cond (eqb (headKind head) 0)
     (ltb (headNumber head) (length (t .rules)))
     (leb (headKind head) 2 && leb 1 (headNumber head) && leb (headNumber head) 65535)
 
--- Five words: a head .. and four picks .. Unused picks are 0.
+-- a head in order and four picks, 0 where they are not used (01, Move)
 unfoldable pub moveOk : Table → List ℕ → Bool
 moveOk t m = eqb (length m) 5 && headOk t (getD m 0 0) && all isZero (drop (picksUsed t (getD m 0 0)) (drop 1 m))
 
@@ -74,31 +74,31 @@ nothing = record { origin = record { maker = 0; index = 0 }; owner = 0; kind = 4
 abbrev pub entryAt : List Entry → ℕ → Entry
 entryAt es p = getD es p nothing
 
--- the entries at the picks (places of entries, from 0)
+-- the entries that were picked, by their places
 abbrev pub picked : State → List ℕ → List Entry
 picked s ps = map (entryAt (s .entries)) ps
 
--- notes on the takes' ports
+-- each is a message on the port wanted in its place, and there are as many as ports
 abbrev pub onPorts : List ℕ → List Entry → Bool
 onPorts [] [] = true
 onPorts [] (e ∷ es) = false
 onPorts (p ∷ ps) [] = false
 onPorts (p ∷ ps) (e ∷ es) = isMessage e && eqb (e .port) p && onPorts ps es
 
--- picks are different notes on the takes' ports
+-- 7: no entry is picked twice, and each is what its consume wants
 abbrev pub picksOk : Rule → State → List ℕ → Bool
 picksOk r s ps = distinct ps && onPorts (consumed r) (picked s ps)
 
 abbrev pub ownersAt : State → List ℕ → List ℕ
 ownersAt s ps = map (λ e. e .owner) (picked s ps)
 
--- Plant rule: all owned by the plant. Batch rule: all in one batch. Joining rule: in one or more batches.
+-- 8: a global rule consumes what is global, a local rule what is in one transaction, a merge rule what is in any transactions
 abbrev pub ownersFit : ℕ → List ℕ → Bool
 ownersFit class os =
     cond (eqb class 0) (all isZero os)
     (cond (eqb class 1) (all (λ o. ltb 0 o && eqb o (least os)) os) (all (λ o. ltb 0 o) os))
 
--- 11 opening with N = 65,536
+-- 11: a begin needs an id, and 65,535 is the last
 abbrev pub hasId : Rule → State → Bool
 hasId r s = not (begins r) || ltb (s .next) 65536
 
@@ -113,20 +113,20 @@ reactFaults r s ps =
 abbrev pub reactAllowed : Rule → State → List ℕ → Verdict
 reactAllowed r s ps = firstFault (reactFaults r s ps)
 
--- all of which become one under their smallest ticket
+-- A merge makes one transaction of those picked from, under the smallest of their ids: every entry of theirs changes its owner, picked or not.
 abbrev pub merged : List ℕ → Entry → Entry
 merged os e = record { origin = e .origin; owner = cond (isIn (e .owner) os) (least os) (e .owner); kind = e .kind; port = e .port; value = e .value }
 
--- what an atom's value is once the takes have received these values
+-- an atom's value, once the consumes have received these
 abbrev pub valueIn : List ℕ → AtomValue → ℕ
 valueIn got (Constant v) = v
 valueIn got (Received i) = getD got i 0
 
--- gives and insides are notes, an open is the lot mark, call-offs are call-off notes, stops are stop marks
+-- a begin leaves the member mark, a compensation and an abort what bears their name, an emit or a body a message
 abbrev pub kindMade : ℕ → ℕ
 kindMade role = cond (eqb role 2) 3 (cond (eqb role 4) 1 (cond (eqb role 5) 2 0))
 
--- A plant rule gives to the plant, and its other products belong to the opened batch. Gives and stops of batch and joining rules belong to that batch.
+-- What a global rule emits is global, and its other products go into the transaction that it begins. A local or merge rule leaves all in its transaction.
 abbrev pub ownerMade : Rule → State → List ℕ → ℕ → ℕ
 ownerMade r s os role = cond (eqb (r .class) 0 && not (eqb role 1)) (s .next) (least os)
 
@@ -144,42 +144,42 @@ abbrev pub products : Rule → State → List Entry → ℕ → ℕ → List Ato
 products r s es i q [] = []
 products r s es i q (a ∷ rest) = made r s es (record { maker = i; index = q }) a ∷ products r s es i (suc q) rest
 
--- Picks are removed, the rest keep their order, the products follow in atom order; .. N grows by 1 (at an opening).
+-- What a reaction leaves: the other entries as they stood, then the products as their atoms stand. A begin uses up an id.
 unfoldable pub reacted : Rule → ℕ → State → List ℕ → State
 reacted r i s ps = record {
   next = cond (begins r) (suc (s .next)) (s .next);
   entries = map (merged (ownersAt s ps)) (without ps 0 (s .entries)) ++ products r s (picked s ps) i 0 (productAtoms r);
 }
 
--- ---- release and call-off
+-- ---- commit and abort
 
--- A batch, an owner above 0, is open in a state if it owns an entry there.
+-- a transaction is there as long as it owns something
 abbrev pub isOpen : ℕ → State → Bool
 isOpen b s = ltb 0 b && any (owned b) (s .entries)
 
 abbrev pub entriesIn : ℕ → State → List Entry
 entriesIn b s = keep (owned b) (s .entries)
 
--- Release: allowed if the batch has no stop mark and all its notes are on plant ports.
+-- A commit may not lose anything: no abort mark, and no message left on a port of the transaction's own.
 abbrev pub mayCommit : Table → ℕ → State → Bool
 mayCommit t b s = all (λ e. not (isAbortMark e) && (not (isMessage e) || ltb (e .port) (t .sizes .globals))) (entriesIn b s)
 
--- Call off: allowed if it has a stop mark.
+-- An abort must have been asked for by an abort mark.
 abbrev pub mayAbort : ℕ → State → Bool
 mayAbort b s = any isAbortMark (entriesIn b s)
 
--- 9, 10: the end of batch b, of which `may` says whether it is allowed where b is open
+-- 9, 10: the end of transaction b, of which `may` says whether it is allowed where b is there
 abbrev pub endFaults : Bool → ℕ → State → List Verdict
 endFaults may b s = unless (isOpen b s) NoTransaction ∷ unless may EndNotAllowed ∷ []
 
 abbrev pub toGlobal : Entry → Entry
 toGlobal e = record { origin = e .origin; owner = 0; kind = 0; port = e .port; value = e .value }
 
--- the entry as the end of batch b leaves it: its entries of which p holds become plant notes
+-- an entry that stays: those of b become global messages
 abbrev pub freed : (Entry → Bool) → ℕ → Entry → Entry
 freed p b e = cond (owned b e && p e) (toGlobal e) e
 
--- Its notes (call-off notes) become the plant's in their places; its other entries go.
+-- The end of b frees those of its entries of which p holds, a commit its messages and an abort its compensations, where they stand; its others go.
 unfoldable pub ended : (Entry → Bool) → ℕ → State → State
 ended p b s = record { next = s .next; entries = map (freed p b) (keep (λ e. not (owned b e) || p e) (s .entries)) }
 
@@ -208,7 +208,7 @@ steppedBy (Denied r) s = refused r
 unfoldable pub step : Table → ℕ → State → Move → Stepped
 step t i s m = steppedBy (allowed t s m) (applied t i s m)
 
--- 12 more than 1,024 entries afterwards; the ceiling is a parameter
+-- 12: the state left may not have more entries than the ceiling
 abbrev pub within : ℕ → Stepped → Stepped
 within ceiling (to s) = cond (leb (length (s .entries)) ceiling) (to s) (refused TooManyEntries)
 within ceiling (refused r) = refused r

@@ -1,15 +1,16 @@
 -- Odd tables, states, moves and logs, each with the number that 01's sentences give it: the definitions are run on them before code is proved.
-use Prim.Native.Nat.{ℕ, _+_}
+use Prim.Native.Nat.{ℕ}
 use mathlib.Core.List.{List, [], _∷_, _++_, map}
 use mathlib.Core.Path.{_≡_, refl}
-use lib.ListN.{length, take, drop, set, replicate}
+use lib.ListN.{length, replicate}
 use Rattle.semantics.specs.Table.{tableSizesOk, numbersOk, atomOk, ruleOk, rulesOk, tableContentsOk, ruleOf, tableOf}
 use Rattle.semantics.specs.State.{stateOf, stateWords, stateSizesOk, entryOk, entriesOk}
 use Rattle.semantics.specs.Move.{moveOk, moveOf, reacted, allowed, applied, step, stepWords}
 use Rattle.semantics.specs.Move as Move
 use Rattle.semantics.specs.Log.{logSizesOk, logWords, run}
 use Rattle.semantics.specs.Serial.{after, acts, again, replayed, serial, along, serialFits}
-use Rattle.semantics.specs.Answers.{tableVerdict, stateOwnVerdict, stateVerdict, checkTable, checkState, moveResult, makeMove, logVerdict, runResult, runLog, serialOf, serialFitsOf, serialResult, serialize}
+use Rattle.semantics.specs.Answers.{tableVerdict, stateOwnVerdict, stateVerdict, checkTable, checkState, moveResult, makeMove, logVerdict}
+use Rattle.semantics.specs.Answers.{runResult, runLog, serialOf, serialFitsOf, serialResult, serialize}
 use Rattle.semantics.specs.Cases.{twoLot, start, rule1, rule2, release, callOff, logOf}
 
 pub record Odd : Type 0 where
@@ -41,7 +42,7 @@ odd =
     ∷ table (0xFFFFFFFF ∷ 1 ∷ 1 ∷ 0 ∷ 0 ∷ []) 1
     ∷ table (1 ∷ 0 ∷ 0 ∷ 65 ∷ 0 ∷ []) 1
     ∷ table (1 ∷ 0 ∷ 0 ∷ 1 ∷ 513 ∷ replicate 1026 0) 1
-    -- each of 0 to R−1 occurs; numbers never fall and are below R
+    -- a rule without atoms; rule numbers that fall or are too large
     ∷ table (1 ∷ 0 ∷ 0 ∷ 1 ∷ 0 ∷ []) 2
     ∷ table (1 ∷ 0 ∷ 0 ∷ 0 ∷ 1 ∷ 0 ∷ 0 ∷ []) 2
     ∷ table (1 ∷ 0 ∷ 0 ∷ 1 ∷ 1 ∷ 0 ∷ 0 ∷ []) 0
@@ -49,28 +50,28 @@ odd =
     ∷ table (1 ∷ 0 ∷ 0 ∷ 2 ∷ 2 ∷ 1 ∷ 0 ∷ 0 ∷ 0 ∷ []) 2
     ∷ table (1 ∷ 0 ∷ 0 ∷ 2 ∷ 2 ∷ 0 ∷ 1 ∷ 0 ∷ 0 ∷ []) 0
     ∷ table (1 ∷ 0 ∷ 0 ∷ 3 ∷ 2 ∷ 0 ∷ 2 ∷ 0 ∷ 0 ∷ []) 2
-    -- a take with mode 1, a received value, a take that does not exist, mode 2, role 6, a port that does not exist
+    -- a consume with mode 1, a received value, one of no consume, mode 2, role 6, a port that is not there
     ∷ table (1 ∷ 0 ∷ 0 ∷ 1 ∷ 1 ∷ 0 ∷ 0x01000000 ∷ []) 2
     ∷ table (1 ∷ 0 ∷ 0 ∷ 1 ∷ 2 ∷ 0 ∷ 0 ∷ 0 ∷ 0x11000000 ∷ []) 0
     ∷ table (1 ∷ 0 ∷ 0 ∷ 1 ∷ 2 ∷ 0 ∷ 0 ∷ 0 ∷ 0x11000001 ∷ []) 2
     ∷ table (1 ∷ 0 ∷ 0 ∷ 1 ∷ 2 ∷ 0 ∷ 0 ∷ 0 ∷ 0x12000000 ∷ []) 2
     ∷ table (1 ∷ 0 ∷ 0 ∷ 1 ∷ 2 ∷ 0 ∷ 0 ∷ 0 ∷ 0x60000000 ∷ []) 2
     ∷ table (1 ∷ 0 ∷ 0 ∷ 1 ∷ 2 ∷ 0 ∷ 0 ∷ 0 ∷ 0x10010000 ∷ []) 2
-    -- an opening without contents, two opens, an open with a value, a stop without an open in a plant rule and in a batch rule, an open in a batch rule
+    -- a begin alone, two begins, a begin with a value, an abort without a begin in a global and in a local rule, a begin in a local rule
     ∷ table (1 ∷ 0 ∷ 0 ∷ 1 ∷ 2 ∷ 0 ∷ 0 ∷ 0 ∷ 0x20000000 ∷ []) 0
     ∷ table (1 ∷ 0 ∷ 0 ∷ 1 ∷ 3 ∷ 0 ∷ 0 ∷ 0 ∷ 0 ∷ 0x20000000 ∷ 0x20000000 ∷ []) 2
     ∷ table (1 ∷ 0 ∷ 0 ∷ 1 ∷ 2 ∷ 0 ∷ 0 ∷ 0 ∷ 0x20000001 ∷ []) 2
     ∷ table (1 ∷ 0 ∷ 0 ∷ 1 ∷ 2 ∷ 0 ∷ 0 ∷ 0 ∷ 0x50000000 ∷ []) 2
     ∷ table (0 ∷ 1 ∷ 0 ∷ 1 ∷ 2 ∷ 0 ∷ 0 ∷ 0 ∷ 0x50000000 ∷ []) 0
     ∷ table (0 ∷ 1 ∷ 0 ∷ 1 ∷ 2 ∷ 0 ∷ 0 ∷ 0 ∷ 0x20000000 ∷ []) 2
-    -- roles fall, no take, four takes, five takes, 16 atoms, 17 atoms
+    -- roles that fall; no consume, four, five; 16 atoms, 17
     ∷ table (1 ∷ 0 ∷ 0 ∷ 1 ∷ 2 ∷ 0 ∷ 0 ∷ 0x10000000 ∷ 0 ∷ []) 2
     ∷ table (1 ∷ 0 ∷ 0 ∷ 1 ∷ 1 ∷ 0 ∷ 0x10000000 ∷ []) 2
     ∷ table (1 ∷ 0 ∷ 0 ∷ 1 ∷ 4 ∷ replicate 8 0) 0
     ∷ table (1 ∷ 0 ∷ 0 ∷ 1 ∷ 5 ∷ replicate 10 0) 2
     ∷ table (1 ∷ 0 ∷ 0 ∷ 1 ∷ 16 ∷ replicate 16 0 ++ 0 ∷ replicate 15 0x10000000) 0
     ∷ table (1 ∷ 0 ∷ 0 ∷ 1 ∷ 17 ∷ replicate 17 0 ++ 0 ∷ replicate 16 0x10000000) 2
-    -- takes of two classes; a plant rule's give on a batch port, a batch rule's on a plant port; a call-off off the plant ports
+    -- consumes of two classes; a global rule that emits to a local port, a local one to a global port; a compensation on a local port
     ∷ table (1 ∷ 1 ∷ 0 ∷ 1 ∷ 2 ∷ 0 ∷ 0 ∷ 0 ∷ 0x00010000 ∷ []) 2
     ∷ table (1 ∷ 1 ∷ 0 ∷ 1 ∷ 2 ∷ 0 ∷ 0 ∷ 0 ∷ 0x10010000 ∷ []) 2
     ∷ table (1 ∷ 1 ∷ 0 ∷ 1 ∷ 2 ∷ 0 ∷ 0 ∷ 0x00010000 ∷ 0x10000000 ∷ []) 0
@@ -85,7 +86,7 @@ odd =
     ∷ state (1 ∷ 1 ∷ 0 ∷ []) 3
     ∷ state (1024 ∷ 1 ∷ replicate 2048 0) 0
     ∷ state (1025 ∷ 1 ∷ replicate 2050 0) 3
-    -- the plant owns only notes on plant ports; kinds; ports
+    -- what is global; kinds; ports
     ∷ state (1 ∷ 1 ∷ 0 ∷ 0x00010005 ∷ []) 0
     ∷ state (1 ∷ 1 ∷ 0 ∷ 0x00020005 ∷ []) 4
     ∷ state (1 ∷ 1 ∷ 0 ∷ 0x01000005 ∷ []) 4
@@ -96,7 +97,7 @@ odd =
     ∷ state (2 ∷ 2 ∷ 1 ∷ 1 ∷ 0x03000001 ∷ 0x01020005 ∷ []) 4
     ∷ state (3 ∷ 2 ∷ 1 ∷ 1 ∷ 1 ∷ 0x03000001 ∷ 0x02000000 ∷ 0x02000000 ∷ []) 0
     ∷ state (2 ∷ 2 ∷ 1 ∷ 1 ∷ 0x03000001 ∷ 0x02000001 ∷ []) 4
-    -- lot marks: below N, owner at most value, different, port 0; an owner without its own mark; an owner above 65,535
+    -- member marks: ids given out, owners no larger, none twice, bare; an owner without its own mark; an owner above 65,535
     ∷ state (1 ∷ 1 ∷ 1 ∷ 0x03000001 ∷ []) 4
     ∷ state (1 ∷ 2 ∷ 1 ∷ 0x03010001 ∷ []) 4
     ∷ state (2 ∷ 3 ∷ 2 ∷ 2 ∷ 0x03000002 ∷ 0x03000001 ∷ []) 4
@@ -118,7 +119,7 @@ odd =
     ∷ record { found = makeMove twoLot start (rule1 0 0) (replicate 2049 0) .number; stated = 6 }
     ∷ record { found = makeMove twoLot start (rule1 4 0) [] .number; stated = 5 }
     ∷ record { found = makeMove twoLot start (rule1 0 2) [] .number; stated = 6 }
-    -- picks: past the end, another port, no note; owners: a plant rule on a batch's note, a batch rule over two batches
+    -- picks: past the end, on another port, no message; owners: a global rule on a transaction's message, a local rule over two transactions
     ∷ move start (rule1 0 0) 0
     ∷ move start (rule1 0 2) 7
     ∷ move start (rule1 1 0) 7
@@ -128,11 +129,11 @@ odd =
     ∷ move (1 ∷ 65536 ∷ 0 ∷ 7 ∷ []) (rule1 0 0) 11
     ∷ move (1 ∷ 65535 ∷ 0 ∷ 7 ∷ []) (rule1 0 0) 0
     ∷ move (2 ∷ 65536 ∷ 1 ∷ 1 ∷ 0x03000001 ∷ 0x00000005 ∷ []) (rule1 0 1) 8
-    -- a release with a stop mark, a call-off without one
+    -- a commit with an abort mark, an abort without one
     ∷ move (2 ∷ 2 ∷ 1 ∷ 1 ∷ 0x03000001 ∷ 0x02000000 ∷ []) (release 1) 10
     ∷ move (2 ∷ 2 ∷ 1 ∷ 1 ∷ 0x03000001 ∷ 0x02000000 ∷ []) (callOff 1) 0
     ∷ move (1 ∷ 2 ∷ 1 ∷ 0x03000001 ∷ []) (callOff 1) 10
-    -- after a join only the smallest ticket names the batch
+    -- after a merge only the smallest id is a transaction's
     ∷ move (2 ∷ 3 ∷ 1 ∷ 1 ∷ 0x03000001 ∷ 0x03000002 ∷ []) (release 2) 9
     ∷ move (2 ∷ 3 ∷ 1 ∷ 1 ∷ 0x03000001 ∷ 0x03000002 ∷ []) (release 1) 0
     -- 1,024 entries afterwards pass, 1,025 give 12 (rule 0 takes one and leaves three)
@@ -150,14 +151,18 @@ odd =
     ∷ record { found = runLog twoLot start (0 ∷ []) (replicate 2049 0) .number; stated = 6 }
     ∷ []
 
--- an opening rule with a give: 14, and only for the serial log
+-- a begin that emits: 14, of the serial log only
 pub givingTable : List ℕ
 givingTable = 1 ∷ 0 ∷ 0 ∷ 1 ∷ 3 ∷ 0 ∷ 0 ∷ 0 ∷ 0 ∷ 0x10000000 ∷ 0x20000000 ∷ []
 
 pub odd-hold : map (λ c. c .found) odd ≡ map (λ c. c .stated) odd
-unfolding twoLot start odd tableSizesOk numbersOk atomOk ruleOk rulesOk tableContentsOk ruleOf tableOf stateOf stateWords stateSizesOk entryOk entriesOk moveOk moveOf reacted Move.ended allowed applied step stepWords logSizesOk logWords run after acts again replayed serial along serialFits tableVerdict stateOwnVerdict stateVerdict checkTable checkState moveResult makeMove logVerdict runResult runLog serialOf serialFitsOf serialResult serialize
+unfolding twoLot start odd tableSizesOk numbersOk atomOk ruleOk rulesOk tableContentsOk ruleOf tableOf stateOf stateWords stateSizesOk entryOk
+    entriesOk moveOk moveOf reacted Move.ended allowed applied step stepWords logSizesOk logWords run after acts again replayed serial along
+    serialFits tableVerdict stateOwnVerdict stateVerdict checkTable checkState moveResult makeMove logVerdict runResult runLog serialOf
+    serialFitsOf serialResult serialize
 odd-hold = refl
 
 pub giving : serialize givingTable (1 ∷ 1 ∷ 0 ∷ 0 ∷ []) (0 ∷ []) (0 ∷ []) .number ≡ 14
-unfolding givingTable tableSizesOk numbersOk atomOk ruleOk rulesOk tableContentsOk ruleOf tableOf stateOf stateSizesOk entryOk entriesOk logSizesOk run tableVerdict stateOwnVerdict stateVerdict logVerdict serialResult serialize
+unfolding givingTable tableSizesOk numbersOk atomOk ruleOk rulesOk tableContentsOk ruleOf tableOf stateOf stateSizesOk entryOk entriesOk logSizesOk
+    run tableVerdict stateOwnVerdict stateVerdict logVerdict serialResult serialize
 giving = refl

@@ -1,21 +1,19 @@
 -- 01, the program: how its input falls into table, state and log, and the figures of each line that it prints.
-use Prim.Native.Nat.{ℕ, zero, suc, _+_, _*_, _^_}
-use mathlib.Core.Bool.{Bool}
+use Prim.Native.Nat.{ℕ, suc, _+_, _*_, _^_}
 use mathlib.Core.List.{List, [], _∷_}
 use lib.Dec.{eqb}
-use lib.ListN.{length, getD, take, drop}
+use lib.ListN.{length, take, drop}
 use Rattle.semantics.specs.Table.{Table, sizesOf, tableOf}
 use Rattle.semantics.specs.State.{State, entryCount, nextOf, stateOf}
 use Rattle.semantics.specs.Move.{unless, firstFault, Stepped, to, refused, stepWords}
 use Rattle.semantics.specs.Log.{moveCount, movesOf}
 use Rattle.semantics.specs.Answers.{number, logVerdict, lineCeiling}
-use Rattle.semantics.specs.declared.Refusal.{Refusal}
 use Rattle.semantics.specs.declared.Refusal.the-variants.{LogSizes}
 use Rattle.semantics.specs.declared.Verdict.{Verdict}
 
 -- ---- input
 
--- little-endian words
+-- a word's four bytes, the lowest first
 abbrev pub wordOf : ℕ → ℕ → ℕ → ℕ → ℕ
 wordOf a b c d = a + b * 2 ^ 8 + c * 2 ^ 16 + d * 2 ^ 24
 
@@ -32,7 +30,7 @@ pub record Parts : Type 0 where
   pub state : List ℕ
   pub log : List ℕ
 
--- one part after another, each part as long as its sizes say: a part that is cut short, or has a size over its limit, then fails its own check
+-- Three parts, one behind the other. Each says by its own sizes how long it is, so one that is cut short or too large fails its own check.
 abbrev pub tablePart : List ℕ → List ℕ
 tablePart ws = take (5 + 2 * sizesOf ws .atoms) ws
 
@@ -54,7 +52,7 @@ partsOf ws = record { table = tablePart ws; state = statePart (afterTable ws); l
 abbrev pub partWords : Parts → ℕ
 partWords p = length (p .table) + length (p .state) + length (p .log)
 
--- Faults of the parts are tested in the order 1, 2, 3, 4, 13, bytes left over (13) last.
+-- 1, 2, 3, 4, 13 of the parts, and 13 again for bytes that no part takes
 unfoldable pub inputVerdict : List ℕ → ℕ → Verdict
 inputVerdict ws bytes =
     firstFault (
@@ -65,7 +63,7 @@ inputVerdict ws bytes =
 
 -- ---- output
 
--- Further lines: place, answer (0 accepted), n, N after it
+-- The figures of a move's line: its place, 0 or why it is refused, and the entries and next id that are there then.
 pub record Line : Type 0 where
   pub place : ℕ
   pub answer : ℕ
@@ -75,7 +73,7 @@ pub record Line : Type 0 where
 abbrev pub lineOf : ℕ → ℕ → State → Line
 lineOf i answer s = record { place = i; answer = answer; entries = length (s .entries); next = s .next }
 
--- .. unchanged by a refused move. A refused move is the last line.
+-- a refused move leaves the state as it was, and no line follows
 abbrev pub linesBy : Stepped → ℕ → State → (State → List Line) → List Line
 linesBy (to s′) i s rest = lineOf i 0 s′ ∷ rest s′
 linesBy (refused r) i s rest = lineOf i (number r) s ∷ []
@@ -88,7 +86,7 @@ linesFrom ceiling t i s (m ∷ ms) = linesBy (stepWords ceiling t (suc i) s m) i
 unfoldable pub lines : Parts → List Line
 lines p = linesFrom lineCeiling (tableOf (p .table)) 0 (stateOf (p .state)) (movesOf (p .log))
 
--- The first line has the log's count and the start's n and N.
+-- the figures of the line before them: the log's moves, and the start's entries and next id
 pub record FirstLine : Type 0 where
   pub moves : ℕ
   pub entries : ℕ

@@ -1,6 +1,6 @@
 -- 01, "State": when the words of a state are well formed, and the entries that they hold.
 use Prim.Native.Nat.{ℕ, suc, _+_, _*_}
-use mathlib.Core.Bool.{Bool, true, false, _&&_, _||_, not}
+use mathlib.Core.Bool.{Bool, _&&_, _||_}
 use mathlib.Core.List.{List, [], _∷_, _++_, map}
 use lib.Dec.{leb, ltb, eqb}
 use lib.ListN.{length, getD, take, drop}
@@ -11,14 +11,14 @@ use Rattle.semantics.specs.declared.Sizes.{Sizes}
 
 -- ---- entries
 
--- A note's origin is its place at the start (maker 0), or the move that made it (maker i + 1 for the move at place i) and the place among its
--- products. Only the serial log looks at it.
+-- Where an entry comes from: maker 0 is the start, and the index the entry's place there; maker i + 1 is the log's move at place i, and the index counts
+-- its products (01, Log and serial log). Only the serial log looks at origins.
 pub record Origin : Type 0 where
   pub maker : ℕ
   pub index : ℕ
 
--- Owner 0 is the plant (global), other owners are batches (transactions). Kinds: 0 note (message), 1 call-off note (compensation), 2 stop mark
--- (abort mark), 3 lot mark (member mark).
+-- Owner 0 is the global one (01's plant), any other a transaction (batch) by its id. Kinds, with 01's words: 0 message (note), 1 compensation (call-off
+-- note), 2 abort mark (stop mark), 3 member mark (lot mark).
 pub record Entry : Type 0 where
   pub origin : Origin
   pub owner : ℕ
@@ -26,7 +26,7 @@ pub record Entry : Type 0 where
   pub port : ℕ
   pub value : ℕ
 
--- next: the next ticket N, the id of the next transaction
+-- next: the id that the next begin gets, 01's N
 pub record State : Type 0 where
   pub next : ℕ
   pub entries : List Entry
@@ -48,7 +48,7 @@ owned o e = eqb (e .owner) o
 
 -- ---- the parts of a state
 
--- First n (entries) and N (next ticket), then n owners, then n items.
+-- Two sizes come first, the number of entries and the next id; a column of owners and one of items follow.
 abbrev pub entryCount : List ℕ → ℕ
 entryCount s = getD s 0 0
 
@@ -62,7 +62,8 @@ abbrev pub itemsOf : List ℕ → List ℕ
 itemsOf s = drop (2 + entryCount s) s
 
 abbrev pub entryOf : ℕ → ℕ → ℕ → Entry
-entryOf place owner item = record { origin = record { maker = 0; index = place }; owner = owner; kind = itemKind item; port = portOf item; value = valueOf item }
+entryOf place owner item =
+    record { origin = record { maker = 0; index = place }; owner = owner; kind = itemKind item; port = portOf item; value = valueOf item }
 
 -- entries from the two columns; the first has the given place
 abbrev pub entriesOf : ℕ → List ℕ → List ℕ → List Entry
@@ -82,11 +83,11 @@ stateWords s =
 
 -- ---- n, N and length (3)
 
--- A state holds at most 1,024 entries; ..
+-- the most entries that the line holds
 abbrev pub maxEntries : ℕ
 maxEntries = 1024
 
--- .. N is 1 to 65,536; exactly 2+2n words.
+-- entries and next id within their limits, and no word missing or left over
 unfoldable pub stateSizesOk : List ℕ → Bool
 stateSizesOk s =
     leb 2 (length s)
@@ -94,23 +95,23 @@ stateSizesOk s =
 
 -- ---- entries (4)
 
--- The plant owns only notes on plant ports.
+-- What is global is a message on a global port: everything else belongs to a transaction.
 abbrev pub globalOk : Sizes → Entry → Bool
 globalOk z e = given (owned 0 e) (isMessage e && ltb (e .port) (z .globals))
 
--- .. notes in a batch on any existing port.
+-- A message's port exists.
 abbrev pub messageOk : Sizes → Entry → Bool
 messageOk z e = given (isMessage e) (ltb (e .port) (portCount z))
 
--- Call-off notes are on plant ports.
+-- A compensation waits on a global port.
 abbrev pub compensationOk : Sizes → Entry → Bool
 compensationOk z e = given (isCompensation e) (ltb (e .port) (z .globals))
 
--- 2 stop mark (port and value 0)
+-- An abort mark is bare.
 abbrev pub abortMarkOk : Entry → Bool
 abortMarkOk e = given (isAbortMark e) (eqb (e .port) 0 && eqb (e .value) 0)
 
--- 3 lot mark (port 0, value its ticket) .. with 1 ≤ owner ≤ value < N
+-- A member mark has the member's id for its value: one that a begin has given out, in a transaction whose own id is no larger.
 abbrev pub memberMarkOk : ℕ → Entry → Bool
 memberMarkOk next e = given (isMemberMark e) (eqb (e .port) 0 && leb 1 (e .owner) && leb (e .owner) (e .value) && ltb (e .value) next)
 
@@ -118,15 +119,15 @@ unfoldable pub entryOk : Sizes → ℕ → Entry → Bool
 entryOk z next e =
     leb (e .kind) 3 && globalOk z e && messageOk z e && compensationOk z e && abortMarkOk e && memberMarkOk next e
 
--- Lot marks differ in value.
+-- the ids of the members; no two marks have the same
 abbrev pub markValues : List Entry → List ℕ
 markValues es = map (λ e. e .value) (keep isMemberMark es)
 
--- e is the lot mark of value t, and t owns it
+-- the mark of member t, in the transaction t itself
 abbrev pub isOwnMark : ℕ → Entry → Bool
 isOwnMark t e = isMemberMark e && eqb (e .value) t && owned t e
 
--- Each batch t that owns anything owns the lot mark of value t.
+-- A transaction goes under the id of one of its members, and owns that member's mark. A merge made by halves would show here.
 abbrev pub ownerOk : List Entry → Entry → Bool
 ownerOk es e = owned 0 e || any (isOwnMark (e .owner)) es
 

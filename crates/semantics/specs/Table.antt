@@ -1,7 +1,7 @@
 -- 01, "Recipe table": when the words of a table are well formed, and the rules that they hold.
 use Prim.Native.Nat.{ℕ, _+_, _*_}
 use mathlib.Core.Bool.{Bool, true, false, _&&_, _||_, not, cond}
-use mathlib.Core.List.{List, [], _∷_, map}
+use mathlib.Core.List.{List, [], map}
 use lib.Dec.{leb, ltb, eqb}
 use lib.ListN.{length, getD, take, drop}
 use Rattle.lists.specs.Lists.{given, all, any, count, keep, keepBeside, risesFrom, allBelow, upFrom}
@@ -14,23 +14,23 @@ use Rattle.semantics.specs.declared.AtomValue.the-variants.{Constant, Re
 
 -- ---- the parts of a table
 
--- Five sizes come first: G, L, M (numbers of plant, batch and joining ports), R (rules), A (atoms).
+-- The first five words are sizes: 01's G, L, M (global, local and merge ports; there plant, batch and joining), R (rules) and A (atoms).
 abbrev pub sizesOf : List ℕ → Sizes
 sizesOf t = record { globals = getD t 0 0; locals = getD t 1 0; merges = getD t 2 0; rules = getD t 3 0; atoms = getD t 4 0 }
 
--- Then A rule numbers, ..
+-- Two columns of A words follow: the number of each atom's rule, ..
 abbrev pub numbersOf : List ℕ → List ℕ
 numbersOf t = take (sizesOf t .atoms) (drop 5 t)
 
--- .. then A atoms in parallel.
+-- .. and the atoms.
 abbrev pub atomWordsOf : List ℕ → List ℕ
 atomWordsOf t = drop (5 + sizesOf t .atoms) t
 
--- the words of the atoms of rule r, in order
+-- the atoms of rule r, as words, in their order
 abbrev pub ruleWords : ℕ → List ℕ → List ℕ → List ℕ
 ruleWords r numbers words = keepBeside (λ n. eqb n r) numbers words
 
--- Ports 0 to G−1 are plant ports (global), the next L batch ports (local), the next M joining ports (merge).
+-- Ports are numbered through: global ports first, then local ones, then merge ports.
 abbrev pub portCount : Sizes → ℕ
 portCount z = z .globals + z .locals + z .merges
 
@@ -40,21 +40,21 @@ classOf z p = cond (ltb p (z .globals)) 0 (cond (ltb p (z .globals + z .locals))
 
 -- ---- sizes and length (1)
 
--- Limits: G+L+M ≤ 256, R ≤ 64, A ≤ 512; ..
+-- how many ports, rules and atoms a table may have; the sum of the ports is one of numbers and does not wrap
 abbrev pub sizesWithin : Sizes → Bool
 sizesWithin z = leb (portCount z) 256 && leb (z .rules) 64 && leb (z .atoms) 512
 
--- .. the table has exactly 5+2A words.
+-- sizes within their limits, and no word missing or left over
 unfoldable pub tableSizesOk : List ℕ → Bool
 tableSizesOk t = leb 5 (length t) && (sizesWithin (sizesOf t) && eqb (length t) (5 + 2 * sizesOf t .atoms))
 
 -- ---- rule numbers (2)
 
--- the number r occurs
+-- rule r has an atom
 abbrev pub occurs : List ℕ → ℕ → Bool
 occurs numbers r = any (λ n. eqb n r) numbers
 
--- Rule numbers are below R, never fall, and each of 0 to R−1 occurs.
+-- Rules stand one after another, from 0 on, and none is without atoms.
 unfoldable pub numbersOk : ℕ → List ℕ → Bool
 numbersOk rules numbers = all (λ n. ltb n rules) numbers && risesFrom 0 (λ n. n) numbers && allBelow rules (occurs numbers)
 
@@ -63,36 +63,36 @@ numbersOk rules numbers = all (λ n. ltb n rules) numbers && risesFrom 0 (λ n. 
 abbrev pub isRole : ℕ → ℕ → Bool
 isRole k w = eqb (atomRole w) k
 
--- An atom's value is either a constant (mode 0) or the value received by a numbered take (mode 1; the rule's takes count from 0, and that take
--- exists). Other modes .. are wrong.
+-- Mode 0 says that the value is a constant, mode 1 that it is what a consume atom (01's take) of the same rule receives, by its number from 0. There are
+-- no other modes.
 abbrev pub modeOk : Shape → ℕ → Bool
 modeOk s w = eqb (atomMode w) 0 || eqb (atomMode w) 1 && ltb (valueOf w) (s .consumes)
 
--- Takes have mode 0 and value 0. All takes are plant ports (a plant rule), or all batch ports (a batch rule), or all joining ports (a joining rule).
+-- A consume has a port only, and its port is of the rule's class: a rule never mixes them.
 abbrev pub consumeOk : Sizes → Shape → ℕ → Bool
 consumeOk z s w = given (isRole 0 w) (eqb (atomMode w) 0 && eqb (valueOf w) 0 && eqb (classOf z (portOf w)) (s .class))
 
--- In a plant rule gives use plant ports; in batch and joining rules any port.
+-- A global rule emits (01: gives) to global ports only.
 abbrev pub emitOk : Sizes → Shape → ℕ → Bool
 emitOk z s w = given (isRole 1 w && eqb (s .class) 0) (ltb (portOf w) (z .globals))
 
--- Open and stop have mode, port and value 0.
+-- A begin (01's open) and an abort (stop) are bare: their fields are 0.
 abbrev pub markOk : ℕ → Bool
 markOk w = given (isRole 2 w || isRole 5 w) (eqb (atomMode w) 0 && eqb (portOf w) 0 && eqb (valueOf w) 0)
 
--- In a plant rule .. roles 3, 4, 5 need an open.
+-- What goes into a new transaction (bodies, compensations, an abort) needs a begin in a global rule.
 abbrev pub beginOk : Shape → ℕ → Bool
 beginOk s w = given (eqb (s .class) 0 && leb 3 (atomRole w)) (leb 1 (s .begins))
 
--- Batch and joining rules have only roles 0, 1, 5.
+-- Local and merge rules only consume, emit and abort.
 abbrev pub innerOk : Shape → ℕ → Bool
 innerOk s w = given (not (eqb (s .class) 0)) (isRole 0 w || isRole 1 w || isRole 5 w)
 
--- Call-off atoms use plant ports; inside atoms any port.
+-- A compensation (01's call-off atom) is on a global port, since an abort hands it to the global owner.
 abbrev pub compensateOk : Sizes → ℕ → Bool
 compensateOk z w = given (isRole 4 w) (ltb (portOf w) (z .globals))
 
--- Other modes and roles are wrong. Ports exist.
+-- all that is asked of one atom in a rule of this shape
 unfoldable pub atomOk : Sizes → Shape → ℕ → Bool
 atomOk z s w =
     leb (atomRole w) 5
@@ -107,11 +107,11 @@ atomOk z s w =
 
 -- ---- a single rule (2)
 
--- The class of a rule is that of its first take.
+-- The first atom decides the class: roles never fall, so it is a consume if there is one.
 abbrev pub shapeOf : Sizes → List ℕ → Shape
 shapeOf z ws = record { consumes = count (isRole 0) ws; begins = count (isRole 2) ws; class = classOf z (portOf (getD ws 0 0)) }
 
--- Within a rule: roles never fall; 1 to 4 takes; at most one open, one stop, 16 atoms.
+-- A rule goes by roles from consumes to an abort, and is small: four consumes, one begin, one abort, sixteen atoms at most.
 unfoldable pub ruleOk : Sizes → List ℕ → Bool
 ruleOk z ws =
     leb (length ws) 16
@@ -170,7 +170,7 @@ consumed r = map (λ a. a .port) (keep (hasRole 0) (r .atoms))
 abbrev pub productAtoms : Rule → List Atom
 productAtoms r = keep (λ a. not (hasRole 0 a)) (r .atoms)
 
--- An opening is a reaction by a plant rule with an open.
+-- a rule that begins a transaction
 abbrev pub begins : Rule → Bool
 begins r = any (hasRole 2) (r .atoms)
 

@@ -3,13 +3,14 @@ use Prim.Native.Nat.{ℕ}
 use mathlib.Core.Bool.{Bool, true, false, cond}
 use mathlib.Core.List.{List}
 use mathlib.Core.Path.{_≡_, refl, sym, ap, _∙_}
-use lib.ListN.{replicate, length-replicate}
+use native.Mathlib.Omega.{arith}
+use lib.ListN.{take, replicate, length-replicate}
 use Rattle.semantics.specs.Table.{tableOf}
 use Rattle.semantics.specs.State.{stateOf}
 use Rattle.semantics.specs.Move.{unless}
 use Rattle.semantics.specs.Log.{logWords}
 use Rattle.semantics.specs.Serial.{anyOpen}
-use Rattle.semantics.specs.Answers.{outcomeOf, targetAfter, Result, write, refuse, unlessDenied, lineCeiling, runOf, serialOf, serialFitsOf, serialAfter}
+use Rattle.semantics.specs.Answers.{outcomeOf, targetAfter, Result, write, refuse, unlessDenied, lineCeiling, runOf, serialOf, serialFitsOf}
 use Rattle.semantics.specs.declared.Refusal.{Refusal}
 use Rattle.semantics.specs.declared.Refusal.the-variants.{TransactionOpen, SerialTooManyEntries}
 use Rattle.semantics.specs.declared.Verdict.{Verdict}
@@ -21,6 +22,7 @@ use Rattle.wellformed.specs.Held.{stateOf-held}
 use Rattle.state.specs.declared.State.{State}
 use Rattle.state.specs.Working.{stateIn}
 use Rattle.state.specs.Arrays.{HoldsIn}
+use Rattle.state.specs.Owners.{someOwned, open-held}
 use Rattle.run.specs.declared.Ran.{Ran}
 use Rattle.run.specs.Runs.{ranBy}
 use Rattle.run.specs.Whole.{words-prepared, loaded-workable, ran-whole}
@@ -48,18 +50,30 @@ module _ (t index s l target : List ℕ) (k : Tested t index s l target) {x : St
         workable = loaded-workable s (state-given s t (k .state) .1) loaded;
       }
 
-  module _ {r : Ran} {x′ : State} {origins members before ends : List ℕ} (done : RecordedAs r lineCeiling (tableOf t) l x x′ origins members before ends) where
+  module _ {r : Ran} {x′ : State} {origins members before ends : List ℕ}
+      (done : RecordedAs r lineCeiling (tableOf t) l x x′ origins members before ends) where
     run-by : {u : Verdict} → r .verdict ≡ u → runOf lineCeiling t s l ≡ ranBy u (r .place) (stateIn x′)
     run-by e = sym (ran-whole t s l loaded (done .ran)) ∙ rw e
 
     pub ran-refused : {q : Refusal} → r .verdict ≡ Denied q → SerializedAs t s l target target (MoveRefused (r .place) q)
     ran-refused e = record { outcome = rw (run-by e); target = rw (run-by e) }
 
-    module _ (e : r .verdict ≡ Allowed) where
-      pub ran-open : anyOpen (stateIn x′) ≡ true → SerializedAs t s l target target (Refused TransactionOpen)
-      ran-open o = record { outcome = rw (run-by e, o); target = rw (run-by e, o) }
+    -- as the code finds out
+    open-is : {b : Bool} → b ≡ someOwned (take (x′ .len) (x′ .owners)) → anyOpen (stateIn x′) ≡ b
+    open-is e =
+        let w = done .ran .workable in
+        sym (open-held (x′ .owners) (x′ .items) (x′ .origins) (record { len = x′ .len; next = x′ .next }) (omega (arith, w .bounds .fits, w .arrays .owners))) ∙ sym e
 
-      module _ (shut : anyOpen (stateIn x′) ≡ false) where
+    module _ (e : r .verdict ≡ Allowed) {b : Bool} (told : b ≡ someOwned (take (x′ .len) (x′ .owners))) where
+      pub ran-open : b ≡ true → SerializedAs t s l target target (Refused TransactionOpen)
+      ran-open h =
+          let o : anyOpen (stateIn x′) ≡ true = open-is told ∙ h in
+          record { outcome = rw (run-by e, o); target = rw (run-by e, o) }
+
+      module _ (h : b ≡ false) where
+        shut : anyOpen (stateIn x′) ≡ false
+        shut = open-is told ∙ h
+
         result-is : afterRun t s l ≡ reorderedResult t s l
         result-is = rw (run-by e, shut) (fitting (serialFitsOf lineCeiling t s l) SerialTooManyEntries (write (logWords (serialOf t s l))))
 
@@ -70,7 +84,8 @@ module _ (t index s l target : List ℕ) (k : Tested t index s l target) {x : St
               target = f .target ∙ ap (λ (y : Result). targetAfter y target) (sym result-is);
             }
 
-        pub reorder-asked : before ≡ replicate 1024 0 → {begun : List ℕ} → RecordRoom l origins members ends begun → Reorderable t index s l origins members ends target
+        pub reorder-asked : before ≡ replicate 1024 0 → {begun : List ℕ} → RecordRoom l origins members ends begun
+            → Reorderable t index s l origins members ends target
         reorder-asked zeros room =
             record {
               begun = k;

@@ -1,23 +1,23 @@
 -- The second pass of the serial log: the keys, the order, and what the replay writes.
 use Prim.Native.Nat.{ℕ, zero, suc, _+_, _*_, _≤_, _<_}
 use mathlib.Core.Bool.{Bool, true, false, cond}
-use mathlib.Core.List.{List, [], _∷_, _++_, map}
+use mathlib.Core.List.{List, [], _∷_, map}
 use mathlib.Core.Path.{_≡_, refl, sym, ap, subst, _∙_}
 use native.Mathlib.Omega.{arith}
 use lib.ListN.{length, getD, take, drop, replicate}
 use lib.Seq.{getD-take, take-at, length-take-le}
 use Rattle.lists.specs.Lists.{over}
+use Rattle.lists.specs.Choices.{by-bool}
 use Rattle.lists.specs.Each.{All}
 use Rattle.semantics.specs.Table.{tableOf}
 use Rattle.semantics.specs.State.{stateOf}
 use Rattle.semantics.specs.Log.{moveCount, logWords}
-use Rattle.semantics.specs.Serial.{Act}
-use Rattle.semantics.specs.Answers.{outcomeOf, targetAfter, write, refuse, lineCeiling, serialOf, serialFitsOf}
+use Rattle.semantics.specs.Answers.{lineCeiling, serialOf, serialFitsOf}
 use Rattle.semantics.specs.declared.Refusal.the-variants.{SerialTooManyEntries}
 use Rattle.semantics.specs.declared.Outcome.{Outcome}
 use Rattle.semantics.specs.declared.Outcome.the-variants.{Written, Refused}
 use Rattle.serializability.specs.Demand3.{demand3}
-use Rattle.log.specs.Form.{LogSized, log-sized}
+use Rattle.log.specs.Form.{log-sized}
 use Rattle.semantics.specs.Move.{Move}
 use Rattle.wellformed.specs.States.{state-given}
 use Rattle.state.specs.declared.State.{State}
@@ -33,7 +33,13 @@ use Rattle.serial_laws.specs.Places.{noAct}
 use Rattle.serial_laws.specs.Keys.{Told, keysBy, recorded-told}
 use Rattle.serial_laws.specs.ByKey.{arranged-below}
 use Rattle.serial_laws.specs.Facts.{actsIn, orderIn, SerialFacts, serial-facts}
-use Rattle.serial.specs.Serialized.{Reorderable, reorderedResult, ReorderedAs}
+use Rattle.serial.specs.Serialized.{Sortable, SortedAs, Reorderable, ReorderedAs, WrittenAs}
+
+cond-true : {A : Type 0} (x y : A) {b : Bool} → b ≡ true → cond b x y ≡ x
+cond-true x y h = rw h
+
+cond-false : {A : Type 0} (x y : A) {b : Bool} → b ≡ false → cond b x y ≡ y
+cond-false x y h = rw h
 
 zeros-getD : (n p : ℕ) → _≡_ {A = ℕ} (getD (replicate n 0) p 0) 0
 zeros-getD zero p = refl
@@ -50,6 +56,26 @@ module _ {A : Type 0} (P : A → Type 0) (d : A) where
   All-at : (xs : List A) (ps : List ℕ) → All P xs → All (λ p. p < length xs) ps → All P (map (λ p. getD xs p d) ps)
   All-at xs [] h k = tt
   All-at xs (p ∷ ps) h k = (All-getD xs p h (k .0), All-at xs ps h (k .1))
+
+-- ---- the order, with the count as the code has it
+
+module _ {l members ends : List ℕ} (h : Sortable l members ends) {n : ℕ} (e : n ≡ moveCount l) {keys : List ℕ} (keyed : KeysOf l members ends n keys) where
+  found : KeysOf l members ends (moveCount l) keys
+  found = subst (λ (j : ℕ). KeysOf l members ends j keys) e keyed
+
+  pub keys-fit : Keys n keys
+  keys-fit =
+      record { few = omega (arith, h .log .few); size = keyed .size; below = λ i less. let b = h .below keys found i (omega arith) in omega arith }
+
+  pub sorted-as : {order : List ℕ} → (length order ≡ 1024) × (take n order ≡ arrangedBy (take n keys)) → SortedAs l members ends order
+  sorted-as {order} a = record {
+    size = a .0;
+    keys = keys;
+    keyed = found;
+    sorted = subst (λ (j : ℕ). take j order ≡ arrangedBy (take j keys)) e (a .1);
+  }
+
+-- ---- the serial order of a recorded log
 
 module _ (t index s l origins members ends target : List ℕ) (k : Reorderable t index s l origins members ends target) where
   pub facts : SerialFacts lineCeiling t s l
@@ -72,8 +98,8 @@ module _ (t index s l origins members ends target : List ℕ) (k : Reorderable t
     keys-are = found .value (tableOf t) origins (actsIn t s l) keyable
 
     -- what the sort asks
-    pub keys-below : (i : ℕ) → i < moveCount l → getD keys i 0 < moveCount l
-    keys-below i h =
+    pub keys-in-log : (i : ℕ) → i < moveCount l → getD keys i 0 < moveCount l
+    keys-in-log i h =
         let b = facts .keys-below members told i h in
         let e = sym (getD-take (moveCount l) keys i 0 h) ∙ ap (λ (ks : List ℕ). getD ks i 0) keys-are in
         omega arith
@@ -85,7 +111,8 @@ module _ (t index s l origins members ends target : List ℕ) (k : Reorderable t
       below : All (λ p. p < moveCount l) (take (moveCount l) order)
       below =
           subst (λ (ps : List ℕ). All (λ p. p < moveCount l) ps) (sym order-is)
-          (subst (λ (n : ℕ). All (λ p. p < n) (arrangedBy (keysBy (actsIn t s l) members))) (facts .keys-count members) (arranged-below (keysBy (actsIn t s l) members)))
+          (subst (λ (n : ℕ). All (λ p. p < n) (arrangedBy (keysBy (actsIn t s l) members))) (facts .keys-count members)
+          (arranged-below (keysBy (actsIn t s l) members)))
 
       -- what the replay asks
       pub order-below : length order ≡ 1024 → (j : ℕ) → j < moveCount l → getD order j 0 < moveCount l
@@ -102,7 +129,8 @@ module _ (t index s l origins members ends target : List ℕ) (k : Reorderable t
       acts-recorded =
           subst (All (Recorded (tableOf t) l origins members)) (sym (facts .order members told))
           (All-at (Recorded (tableOf t) l origins members) noAct (actsIn t s l) (arrangedBy (keysBy (actsIn t s l) members)) (k .recordings .each)
-          (subst (λ (n : ℕ). All (λ p. p < n) (arrangedBy (keysBy (actsIn t s l) members))) (facts .keys-count members ∙ sym (facts .acts-count)) (arranged-below (keysBy (actsIn t s l) members))))
+          (subst (λ (n : ℕ). All (λ p. p < n) (arrangedBy (keysBy (actsIn t s l) members))) (facts .keys-count members ∙ sym (facts .acts-count))
+          (arranged-below (keysBy (actsIn t s l) members))))
 
   words-count : length (logWords (serialOf t s l)) ≡ 1 + 5 * moveCount l
   words-count = demand3 lineCeiling t s l (k .end) (k .begun .state) (k .begun .quiet) (k .begun .closed) (k .begun .sizes) (k .ran) (k .shut) .words
@@ -113,72 +141,68 @@ module _ (t index s l origins members ends target : List ℕ) (k : Reorderable t
         let f : serialFitsOf lineCeiling t s l ≡ false = sym room ∙ e in
         record { outcome = rw f; target = rw f }
 
-    pub written : fits ≡ true → (zeros out after : List ℕ) (n : ℕ) → n ≡ 1 + 5 * moveCount l → out ≡ over (logWords (serialOf t s l)) zeros → after ≡ over (take n out) target
+    pub log-written : fits ≡ true → (zeros out after : List ℕ) (n : ℕ) → n ≡ 1 + 5 * moveCount l → out ≡ over (logWords (serialOf t s l)) zeros
+        → after ≡ over (take n out) target
         → ReorderedAs t s l target after (Written n)
-    written e zeros out after n size o a =
+    log-written e zeros out after n size o a =
         let f : serialFitsOf lineCeiling t s l ≡ true = sym room ∙ e in
-        let w : take n out ≡ logWords (serialOf t s l) = ap (take n) o ∙ take-at (logWords (serialOf t s l)) (drop (length (logWords (serialOf t s l))) zeros) n (words-count ∙ sym size) in
+        let w : take n out ≡ logWords (serialOf t s l) = ap (take n) o
+        ∙ take-at (logWords (serialOf t s l)) (drop (length (logWords (serialOf t s l))) zeros) n (words-count ∙ sym size) in
         record { outcome = rw f (ap Written (size ∙ sym words-count)); target = rw f (a ∙ ap (λ (x : List ℕ). over x target) w) }
 
-  -- ---- with the count as the code has it
+  -- ---- what the code hands over
 
-  module _ (n : ℕ) (e : n ≡ moveCount l) where
-    few : n ≤ 1024
-    few = let m = log-sized l (k .begun .sizes) .few in omega arith
+  pub sortable : Sortable l members ends
+  sortable =
+      record { log = log-sized l (k .begun .sizes); members-size = k .record-sizes .1; ends-size = k .record-sizes .2; below = keys-in-log }
 
-    pub keys-asked : LogSized l × (n ≤ moveCount l) × (length members ≡ 1024) × (length ends ≡ 1024)
-    keys-asked = (log-sized l (k .begun .sizes), omega arith, k .record-sizes .1, k .record-sizes .2)
+  module _ {order : List ℕ} (o : SortedAs l members ends order) {x : State} (loaded : HoldsIn x (stateOf s)) where
+    pub replay-asked : {out : List ℕ} → 1 + 5 * moveCount l ≤ length out → Replayable t index x l order origins members lineCeiling out
+    replay-asked m =
+        record {
+          read = record {
+            indexed = words-indexed t s (k .begun .state) (k .begun .starts);
+            log = log-sized l (k .begun .sizes);
+            picked = k .record-sizes .0;
+            marked = k .record-sizes .1;
+          };
+          workable = loaded-workable s (state-given s t (k .begun .state) .1) loaded;
+          places = order-below (o .keys) (o .keyed) order (o .sorted) (o .size);
+          ordered = o .size;
+          room = m;
+        }
 
-    module _ {keys : List ℕ} (keyed : KeysOf l members ends n keys) where
-      found : KeysOf l members ends (moveCount l) keys
-      found = subst (λ (j : ℕ). KeysOf l members ends j keys) e keyed
+    module _ {fits : Bool} {before out : List ℕ} (done : ReplayedAs fits lineCeiling (tableOf t) (stateIn x) l order origins members before out) where
+      again : Arranged (tableOf t) (stateIn x) l order origins members (orderIn t s l)
+      again =
+          record {
+            places = places-are (o .keys) (o .keyed) order (o .sorted);
+            recorded = acts-recorded (o .keys) (o .keyed) order (o .sorted);
+            replays = rw (loaded .holds .value) (facts .replays);
+          }
 
-      pub order-asked : Keys n keys
-      order-asked = record { few = few; size = keyed .size; below = λ i h. let b = keys-below keys found i (omega arith) in omega arith }
+      fits-are : fits ≡ serialFitsOf lineCeiling t s l
+      fits-are = done .fits (orderIn t s l) again ∙ rw (loaded .holds .value) (facts .room lineCeiling)
 
-      module _ (order : List ℕ) (arranged : (length order ≡ 1024) × (take n order ≡ arrangedBy (take n keys))) where
-        sorted : take (moveCount l) order ≡ arrangedBy (take (moveCount l) keys)
-        sorted = subst (λ (j : ℕ). take j order ≡ arrangedBy (take j keys)) e (arranged .1)
+      out-is : fits ≡ true → out ≡ over (logWords (serialOf t s l)) before
+      out-is h = done .target (orderIn t s l) again h
+          ∙ rw (loaded .holds .value) (ap (λ (ms : List Move). over (logWords ms) before) (sym (facts .log)))
 
-        module _ {x : State} (loaded : HoldsIn x (stateOf s)) where
-          pub replay-asked : (out : List ℕ) → 1 + 5 * moveCount l ≤ length out → Replayable t index x l order origins members lineCeiling out
-          replay-asked out m =
-              record {
-                read = record {
-                  indexed = words-indexed t s (k .begun .state) (k .begun .starts);
-                  log = log-sized l (k .begun .sizes);
-                  picked = k .record-sizes .0;
-                  marked = k .record-sizes .1;
-                };
-                workable = loaded-workable s (state-given s t (k .begun .state) .1) loaded;
-                places = order-below keys found order sorted (arranged .0);
-                ordered = arranged .0;
-                room = m;
-              }
+      module _ {n : ℕ} (e : n ≡ moveCount l) where
+        pub written-asked : 1 + 5 * moveCount l ≤ length before → (n ≤ 1024) × (1 + 5 * n ≤ length out) × (1 + 5 * n ≤ length target)
+        written-asked m =
+            let few = log-sized l (k .begun .sizes) .few in
+            let r = k .begun .room in
+            let z = done .size in
+            (omega arith, omega arith, omega arith)
 
-          module _ {fits : Bool} {before after : List ℕ} (done : ReplayedAs fits lineCeiling (tableOf t) (stateIn x) l order origins members before after) where
-            again : Arranged (tableOf t) (stateIn x) l order origins members (orderIn t s l)
-            again =
-                record {
-                  places = places-are keys found order sorted;
-                  recorded = acts-recorded keys found order sorted;
-                  replays = rw (loaded .holds .value) (facts .replays);
-                }
-
-            fits-are : fits ≡ serialFitsOf lineCeiling t s l
-            fits-are = done .fits (orderIn t s l) again ∙ rw (loaded .holds .value) (facts .room lineCeiling)
-
-            out-is : fits ≡ true → after ≡ over (logWords (serialOf t s l)) before
-            out-is h = done .target (orderIn t s l) again h ∙ rw (loaded .holds .value) (ap (λ (ms : List Move). over (logWords ms) before) (sym (facts .log)))
-
-            pub replay-outgrown : fits ≡ false → ReorderedAs t s l target target (Refused SerialTooManyEntries)
-            replay-outgrown h = outgrown fits fits-are h
-
-            pub copy-asked : 1 + 5 * moveCount l ≤ length before → (1 + 5 * n ≤ length after) × (1 + 5 * n ≤ length target)
-            copy-asked m =
-                let r = k .begun .room in
-                let z = done .size in
-                (omega arith, omega arith)
-
-            pub replay-written : fits ≡ true → {written-to : List ℕ} → written-to ≡ over (take (1 + 5 * n) after) target → ReorderedAs t s l target written-to (Written (1 + 5 * n))
-            replay-written h {written-to} c = written fits fits-are h before after written-to (1 + 5 * n) (omega arith) (out-is h) c
+        pub reordered-as : {after : List ℕ} {a : Outcome} → WrittenAs fits n out target after a → ReorderedAs t s l target after a
+        reordered-as {after} {a} w =
+            let done-by : Outcome = Written (1 + 5 * n) in
+            let full : Outcome = Refused SerialTooManyEntries in
+            let words = over (take (1 + 5 * n) out) target in
+            by-bool fits
+            (λ h. subst (ReorderedAs t s l target after) (sym (w .outcome ∙ cond-true done-by full h))
+            (log-written fits fits-are h before out after (1 + 5 * n) (omega arith) (out-is h) (w .target ∙ cond-true words target h)))
+            (λ h. subst (ReorderedAs t s l target after) (sym (w .outcome ∙ cond-false done-by full h))
+            (subst (λ (z : List ℕ). ReorderedAs t s l target z full) (sym (w .target ∙ cond-false words target h)) (outgrown fits fits-are h)))

@@ -1,9 +1,10 @@
 -- What the inner functions of the serial log ask and say.
-use Prim.Native.Nat.{ℕ, _+_, _*_, _≤_}
+use Prim.Native.Nat.{ℕ, _+_, _*_, _≤_, _<_}
 use mathlib.Core.Path.{_≡_}
-use mathlib.Core.Bool.{true, false, cond}
+use mathlib.Core.Bool.{Bool, true, false, cond}
 use mathlib.Core.List.{List, map}
-use lib.ListN.{length, replicate}
+use lib.ListN.{length, getD, take, replicate}
+use Rattle.lists.specs.Lists.{over}
 use Rattle.semantics.specs.Table.{sizesOf, numbersOf, tableOf}
 use Rattle.semantics.specs.State as semantics
 use Rattle.semantics.specs.State.{stateOf}
@@ -14,6 +15,10 @@ use Rattle.semantics.specs.Answers.{Result, write, refuse, outcomeOf, targetAft
 use Rattle.semantics.specs.declared.Refusal.the-variants.{SerialTooManyEntries}
 use Rattle.semantics.specs.declared.Verdict.the-variants.{Allowed}
 use Rattle.semantics.specs.declared.Outcome.{Outcome}
+use Rattle.semantics.specs.declared.Outcome.the-variants.{Written, Refused}
+use Rattle.log.specs.Form.{LogSized}
+use Rattle.serial_laws.specs.Order.{arrangedBy}
+use Rattle.order.specs.Keys.{KeysOf}
 use Rattle.table.specs.Index.{Starts}
 use Rattle.recording.specs.Recordings.{Recordings}
 
@@ -47,9 +52,28 @@ pub record Reorderable (t index s l origins members ends target : List ℕ) : Ty
   pub recordings : Recordings (tableOf t) l (acts (tableOf t) 0 (stateOf s) (map (moveOf (tableOf t)) (movesOf l))) origins members (replicate 1024 0) ends
   pub record-sizes : (4 * moveCount l ≤ length origins) × (length members ≡ 1024) × (length ends ≡ 1024)
 
+-- every key that can be found for a move of the log is one of its places
+pub record Sortable (l members ends : List ℕ) : Type 0 where
+  pub log : LogSized l
+  pub members-size : length members ≡ 1024
+  pub ends-size : length ends ≡ 1024
+  pub below : (keys : List ℕ) → KeysOf l members ends (moveCount l) keys → (i : ℕ) → i < moveCount l → getD keys i 0 < moveCount l
+
+-- the log's places by the keys of its moves
+pub record SortedAs (l members ends order : List ℕ) : Type 0 where
+  pub size : length order ≡ 1024
+  pub keys : List ℕ
+  pub keyed : KeysOf l members ends (moveCount l) keys
+  pub sorted : take (moveCount l) order ≡ arrangedBy (take (moveCount l) keys)
+
 abbrev pub reorderedResult : List ℕ → List ℕ → List ℕ → Result
 reorderedResult t s l = cond (serialFitsOf lineCeiling t s l) (write (logWords (serialOf t s l))) (refuse SerialTooManyEntries)
 
 pub record ReorderedAs (t s l before after : List ℕ) (o : Outcome) : Type 0 where
   pub outcome : o ≡ outcomeOf (reorderedResult t s l)
   pub target : after ≡ targetAfter (reorderedResult t s l) before
+
+-- the log's words over the target's beginning, or 17
+pub record WrittenAs (fits : Bool) (k : ℕ) (out before after : List ℕ) (o : Outcome) : Type 0 where
+  pub outcome : o ≡ cond fits (Written (1 + 5 * k)) (Refused SerialTooManyEntries)
+  pub target : after ≡ cond fits (over (take (1 + 5 * k) out) before) before

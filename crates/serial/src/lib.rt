@@ -5,7 +5,7 @@ ghost use mathlib.Core.Path.{_≡_};
 ghost use lib.ListN.{length};
 ghost use Rattle.semantics.specs.Log.{moveCount};
 ghost use Rattle.state.specs.Arrays.{Arrays};
-ghost use Rattle.serial.specs.Serialized.{Tested, Roomy, SerializedAs, Reorderable, ReorderedAs};
+ghost use Rattle.serial.specs.Serialized.{Tested, Roomy, SerializedAs, Sortable, SortedAs, Reorderable, ReorderedAs, WrittenAs};
 use log::count_of;
 use order::keys::keys_of;
 use order::sort::order_of;
@@ -19,8 +19,37 @@ use state::any_open;
 use state::load;
 use words::copy::copy_words;
 
-// The second pass, on the same columns: the log's moves in serial order. Nothing is written before all
-// of them fit: 17.
+// The places of the log's moves in the serial order.
+fn order_log<'a>(
+    log: &'a [u32],
+    members: &'a [u32; 1024],
+    ended: &'a [u32; 1024],
+    order: &mut [u32; 1024],
+)
+    requires { ⌜ Sortable (now log) (now members) (now ended) × (length (now order) ≡ 1024) ⌝ }
+    ensures { λ _. ⌜ SortedAs (now (log .entry)) (now (members .entry)) (now (ended .entry)) (now (order .exit)) ⌝ }
+{
+    let k = count_of(log);
+    let mut keys = [0u32; 1024];
+    keys_of(log, members, ended, k, &mut keys);
+    let mut starts = [0u32; 1024];
+    order_of(&keys, k, &mut starts, order);
+}
+
+// The log of k moves, or 17: nothing is written before all of them fit.
+fn written(fits: bool, k: usize, out: &[u32], target: &mut [u32]) -> Outcome
+    requires { ⌜ (k ≤ 1024) × (1 + 5 * k ≤ length (now out)) × (1 + 5 * k ≤ length (now target)) ⌝ }
+    ensures { λ r. ⌜ WrittenAs fits k (now (out .entry)) (now (target .entry)) (now (target .exit)) r ⌝ }
+{
+    if !fits {
+        return Outcome::Refused(Refusal::SerialTooManyEntries);
+    }
+    let n = 1 + 5 * k;
+    copy_words(out, n, target);
+    Outcome::Written(n as u32)
+}
+
+// The second pass, on the same columns: the log's moves in serial order.
 fn reordered<'a>(
     table: &'a [u32],
     starts: &'a [u32; 65],
@@ -35,15 +64,12 @@ fn reordered<'a>(
     out: &mut [u32],
     target: &mut [u32],
 ) -> Outcome
-    requires { ⌜ Reorderable (now table) (now starts) (now state) (now log) (now wanted) (now members) (now ended) (now target) × Arrays (now owners) (now items) (now origins) × (1 + 5 * moveCount (now log) ≤ length (now out)) ⌝ }
+    requires { ⌜ Reorderable (now table) (now starts) (now state) (now log) (now wanted) (now members) (now ended) (now target)
+        × Arrays (now owners) (now items) (now origins) × (1 + 5 * moveCount (now log) ≤ length (now out)) ⌝ }
     ensures { λ r. ⌜ ReorderedAs (now (table .entry)) (now (state .entry)) (now (log .entry)) (now (target .entry)) (now (target .exit)) r ⌝ }
 {
-    let k = count_of(log);
-    let mut keys = [0u32; 1024];
-    keys_of(log, members, ended, k, &mut keys);
-    let mut starts_by_key = [0u32; 1024];
     let mut order = [0u32; 1024];
-    order_of(&keys, k, &mut starts_by_key, &mut order);
+    order_log(log, members, ended, &mut order);
     let at = load(state, owners, items, origins);
     let fits = replay(
         table,
@@ -59,12 +85,7 @@ fn reordered<'a>(
         State::MAX_ENTRIES,
         out,
     );
-    if !fits {
-        return Outcome::Refused(Refusal::SerialTooManyEntries);
-    }
-    let n = 1 + 5 * k;
-    copy_words(out, n, target);
-    Outcome::Written(n as u32)
+    written(fits, count_of(log), out, target)
 }
 
 // The first pass, and what it may find: 16, then 15 at the end.

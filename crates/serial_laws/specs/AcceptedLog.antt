@@ -27,7 +27,7 @@ use Rattle.cells.specs.Steps.{NoneOpen}
 use Rattle.serializability.specs.Sort.{isort, arrange-isort, All-isort}
 use Rattle.serializability.specs.Blocks.{order-sorted}
 use Rattle.cells.specs.Replay.{Ends}
-use Rattle.cells.specs.Start.{Start, closed-view}
+use Rattle.cells.specs.Start.{Start}
 use Rattle.serializability.specs.Decoded as Decoded
 use Rattle.serializability.specs.Decoded.{deeds-known, serial-decoded}
 use Rattle.serial_laws.specs.Acts.{concerns, endAfter, Replays, replayFits}
@@ -35,7 +35,7 @@ use Rattle.serial_laws.specs.Order.{arrangedBy}
 use Rattle.serial_laws.specs.ByKey.{arranged-acts}
 use Rattle.serial_laws.specs.EndPlace.{BeginsFirst, begin-of, end-place}
 use Rattle.serial_laws.specs.Keys.{Told, keysBy, begins-first, inner-end, keys-are}
-use Rattle.serial_laws.specs.Splits.{All-split, All-among}
+use Rattle.lists.specs.Splits.{All-split, All-among}
 use Rattle.serial_laws.specs.Places.{noAct, places-below}
 use Rattle.serial_laws.specs.MadeAgain.{EndsSome, ends-some, replays}
 use Rattle.serial_laws.specs.Room.{room-along}
@@ -67,7 +67,7 @@ module _ (t : Table) (right : TableRight t) (few : length (t .rules) ≤ 64) (ne
   ran = Decoded.ran t right ne s S ms known e run cl .0
 
   shut : NoneOpen (view e)
-  shut = closed-view e cl
+  shut = Decoded.shut t right ne s S ms known e run cl
 
   serial-log : Serial t s ms e
   serial-log = serial-decoded t right ne s S ms known e run cl

@@ -19,7 +19,7 @@ use Rattle.serializability.specs.Statement.{endsMemberOf}
 use Rattle.cells.specs.Origins.{same-eq, isInO-head, isInO-cons}
 use Rattle.cells.specs.Marks.{firstOf}
 use Rattle.serial_laws.specs.Acts.{concerns, endsBegun, endAfter}
-use Rattle.serial_laws.specs.Splits.{among-split, All-split, All-among}
+use Rattle.lists.specs.Splits.{among-split, All-split, All-among}
 
 -- ---- tests on the members of an act
 

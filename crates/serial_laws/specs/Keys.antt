@@ -8,6 +8,7 @@ use borrow.Author.Tests.{not-true}
 use lib.ListN.{length, getD}
 use Rattle.lists.specs.Lists.{isEmpty, least}
 use Rattle.lists.specs.Choices.{by-bool, and-left, and-right}
+use Rattle.lists.specs.Mapped.{map-each}
 use Rattle.lists.specs.Each.{All, All-map, any-found, empty-nil}
 use Rattle.semantics.specs.Table.{Table}
 use Rattle.semantics.specs.State.{Origin}
@@ -24,7 +25,7 @@ use Rattle.cells.specs.Steps.{NoneOpen}
 use Rattle.serializability.specs.FollowMark.{seenAfter, log-rest, place-length, ender-not, follow}
 use Rattle.words.specs.Origin.{originOf}
 use Rattle.serial_laws.specs.Acts.{Recorded, concerns, endAfter, keyBy}
-use Rattle.serial_laws.specs.Splits.{place-split, All-split, map-same}
+use Rattle.lists.specs.Splits.{place-split, All-split}
 use Rattle.serial_laws.specs.EndPlace.{BeginsFirst}
 
 -- the word of an inner act is the origin of one of its members
@@ -149,4 +150,4 @@ module _ (t : Table) (sd : Shaped t) (G F : Seen) (ds : List Deed) (g : Good 0 F
   pub keys-are : (members : List ℕ) → All (Told members) (map actOf ds)
       → keysBy (map actOf ds) members ≡ map (λ x. x .key) ds
   keys-are members told = map-map (λ x. keyBy (map actOf ds) (getD members (x .place) 0) x) actOf ds
-      ∙ map-same (λ x. keyBy (map actOf ds) (getD members (x .place) 0) (actOf x)) (λ x. x .key) ds (key-of members told)
+      ∙ map-each (λ x. keyBy (map actOf ds) (getD members (x .place) 0) (actOf x)) (λ x. x .key) ds (key-of members told)

@@ -1,6 +1,5 @@
 pub mod Acts
 pub mod Order
-pub mod Splits
 pub mod ByKey
 pub mod EndPlace
 pub mod Keys

@@ -2,7 +2,7 @@
 use mathlib.Core.Path.{_≡_, refl, sym, ap, subst, _∙_}
 use mathlib.Core.Bool.{Bool, true, false, not, _&&_, _||_}
 use mathlib.Core.List.{List, [], _∷_, _++_, map}
-use Prim.Native.Nat.{ℕ, suc, _+_, _≤_, _<_}
+use Prim.Native.Nat.{ℕ, suc, _≤_, _<_}
 use native.Mathlib.Omega.{arith}
 use lib.ListN.{length, getD, length-map}
 use Rattle.lists.specs.Lists.{any, keep, count, upFrom}
@@ -84,7 +84,8 @@ replayed-known t c (a ∷ xs) h = (again-known t c a (a .move) (h .0), replayed-
 
 -- ---- the theorem
 
-module _ (t : Table) (right : TableRight t) (ne : beginsEmit t ≡ false) (s : State) (S : Start (t .sizes) s) (ms : List Move) (known : All (RuleKnown t) ms) (e : State)
+module _ (t : Table) (right : TableRight t) (ne : beginsEmit t ≡ false) (s : State) (S : Start (t .sizes) s) (ms : List Move) (known : All (RuleKnown t) ms)
+    (e : State)
     (run : Accepted t 0 s ms e) (cl : anyOpen e ≡ false) where
   pub sd : Shaped t
   sd = table-shaped t right ne
@@ -99,7 +100,7 @@ module _ (t : Table) (right : TableRight t) (ne : beginsEmit t ≡ false) (s : S
   unfolding ds
   ran = log-runs t sd 0 s ms e (uniq-numbered 0 (s .entries) (S .numbered)) g run
 
-  shut : NoneOpen (view e)
+  pub shut : NoneOpen (view e)
   shut = closed-view e cl
 
   acts-are : acts t 0 s ms ≡ map actOf ds

@@ -1,12 +1,12 @@
 -- The moves that blocks are made of: a move of an accepted log is inner exactly if it begins a transaction or is made in some.
-use mathlib.Core.Path.{_≡_, refl, sym, ap, _∙_}
-use mathlib.Core.Bool.{Bool, false, not, _&&_, _||_}
+use mathlib.Core.Path.{_≡_, refl, ap, _∙_}
+use mathlib.Core.Bool.{false, not, _&&_, _||_}
 use mathlib.Core.List.{List, _∷_, _++_}
 use Prim.Native.Nat.{ℕ, _+_}
 use lib.Dec.{eqb}
 use lib.ListN.{length}
 use Rattle.lists.specs.Lists.{isEmpty, least}
-use Rattle.semantics.specs.Table.{Table, Rule, ruleAt, consumed, begins}
+use Rattle.semantics.specs.Table.{Table, ruleAt, consumed, begins}
 use Rattle.semantics.specs.Move.{Move, react, commit, abort}
 use Rattle.semantics.specs.Serial.{isEnd, isBegin, isInner}
 use Rattle.cells.specs.Rules.{Shape, plain, begin, inner, Shaped, owners, touched-plain, touched-begin, touched-inner}
@@ -18,7 +18,8 @@ use Rattle.serializability.specs.SameKey.{MembersMarked, LogRuns}
 use Rattle.serializability.specs.FollowMark.{log-rest}
 use Rattle.serializability.specs.LogOnCells.{ports-some}
 
-inner-deed : (t : Table) → Shaped t → (F : Seen) (a : Deed) → Ok t F a → MembersMarked t F a → isInner (actOf a) ≡ isBegin t (a .move) || isMadeInside t (a .move)
+inner-deed : (t : Table) → Shaped t → (F : Seen) (a : Deed) → Ok t F a → MembersMarked t F a
+    → isInner (actOf a) ≡ isBegin t (a .move) || isMadeInside t (a .move)
 inner-deed t sd F a k marked = go (a .move) (k .tests) (λ h. marked h .1)
   where
     go : (m : Move) → Tests t a (k .es) m → (isEnd m ≡ false → isEmpty (a .members) ≡ isEmpty (a .touched))

@@ -2,7 +2,7 @@
 use mathlib.Core.Path.{_≡_, refl, ap, _∙_}
 use mathlib.Core.Bool.{true, _&&_}
 use mathlib.Core.List.{List, [], _∷_, _++_, map}
-use Prim.Native.Nat.{ℕ, zero, suc, _+_, _*_, _^_, _≤_, _<_}
+use Prim.Native.Nat.{ℕ, zero, suc, _+_, _*_, _≤_, _<_}
 use native.Mathlib.Omega.{arith}
 use native.Mathlib.Numerals.{one-add}
 use lib.Dec.{eqb, leb}
@@ -29,10 +29,10 @@ Holdable t (abort b) = (1 ≤ b) × (b ≤ 65535)
 
 -- ---- heads
 
-head-kind : (k n : ℕ) → n < 2 ^ 24 → headKind (headWord k n) ≡ k
+head-kind : (k n : ℕ) → headNumber n ≡ n → headKind (headWord k n) ≡ k
 head-kind k n h = omega arith
 
-head-number : (k n : ℕ) → n < 2 ^ 24 → headNumber (headWord k n) ≡ n
+head-number : (k n : ℕ) → headNumber n ≡ n → headNumber (headWord k n) ≡ n
 head-number k n h = omega arith
 
 -- ---- picks

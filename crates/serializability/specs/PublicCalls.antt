@@ -8,13 +8,10 @@ use native.Mathlib.Omega.{arith}
 use lib.ListN.{length, take, drop}
 use lib.Seq.{take-append-seam, drop-append-seam}
 use Rattle.lists.specs.Lists.{over}
-use Rattle.semantics.specs.Table.{tableOf}
-use Rattle.semantics.specs.State.{State, stateOf, stateWords}
-use Rattle.semantics.specs.Log.{moveCount, logSizesOk, logWords, ended}
-use Rattle.semantics.specs.Serial.{beginsEmit, anyOpen}
-use Rattle.semantics.specs.Answers.{Result, write, refuse, answerOf, outcomeOf, targetAfter, stateVerdict, lineCeiling, runOf, runResult, runLog, runLogTarget, serialOf, serialResult, serialize, serializeTarget}
+use Rattle.semantics.specs.State.{State, stateWords}
+use Rattle.semantics.specs.Log.{moveCount, logWords}
+use Rattle.semantics.specs.Answers.{Result, write, refuse, answerOf, outcomeOf, targetAfter, lineCeiling, runResult, runLog, runLogTarget, serialOf, serialResult, serialize, serializeTarget}
 use Rattle.semantics.specs.declared.Refusal.the-variants.{SerialTooManyEntries}
-use Rattle.semantics.specs.declared.Verdict.the-variants.{Allowed}
 use Rattle.semantics.specs.declared.Answer.{Answer}
 use Rattle.serializability.specs.Statement.{Serializable, roomAlong, Serialized, Rerun, PublicDemand3}
 use Rattle.serializability.specs.Demand3.{demand3}

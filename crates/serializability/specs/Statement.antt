@@ -1,5 +1,5 @@
--- Demand 3: what is promised of every accepted log and its serial log. To believe it, only this file and the definitions of the crate `semantics`
--- must be believed; all else in this crate is its proof (Demand3.antt has the theorem, Instances.antt applies it to 01's cases).
+-- Demand 3: what is promised of every accepted log and its serial log. To believe it, only this file, the definitions of the crate `semantics` and those of
+-- lists/specs/Lists.antt must be believed; all else in this crate is its proof (Demand3.antt has the theorem, Instances.antt applies it to 01's cases).
 use Prim.Native.Nat.{ℕ, zero, suc, _+_, _*_, _≤_, _<_}
 use mathlib.Core.Bool.{Bool, true, false, _&&_, _||_, not, cond}
 use mathlib.Core.List.{List, [], _∷_, _++_, map}
@@ -30,8 +30,8 @@ orderOf t s ms = ordered [] (acts t 0 s ms)
 abbrev pub placesOf : Table → State → List Move → List ℕ
 placesOf t s ms = map (λ a. a .place) (orderOf t s ms)
 
--- The state before the j-th of these moves, from s. Each move has its place in the first log for the origins of its products, "wherever it now
--- stands": places of the log itself are 0, 1, .. , those of the serial log are `placesOf`.
+-- The state before the j-th of these moves, from s. Products get their origins by the place that their move has in the first log: 0, 1, .. for the log
+-- itself, `placesOf` for the serial log.
 unfoldable pub stateBefore : Table → List ℕ → State → List Move → ℕ → State
 stateBefore t ps s ms zero = s
 stateBefore t [] s ms (suc j) = s

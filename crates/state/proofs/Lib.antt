@@ -1,3 +1,1 @@
-pub mod ByKind
-pub mod Marks
 pub mod Working

@@ -10,8 +10,9 @@ use Rattle.lists.specs.Over.{Pasted, over-two, over-column}
 use Rattle.lists.specs.Rows.{rows, length-rows, rows-ext, rows-take, map-rows, tails-rows}
 use Rattle.lists.specs.Filled.{Filled}
 use Rattle.words.specs.Copy.{copied-length, copied-each}
-use Rattle.semantics.specs.Words.{itemKind, itemWord, portOf, valueOf}
+use Rattle.semantics.specs.Words.{itemWord}
 use Rattle.semantics.specs.State.{entryOf, entriesOf, entryCount, nextOf, ownersOf, itemsOf, stateOf, stateWords}
+use Rattle.wellformed.specs.RoundTrip.{itemWord-fields}
 use Rattle.wellformed.specs.States.{StateSized, columnEntry, entriesFrom, entries-tails}
 use Rattle.state.specs.Working.{entryFrom, rowOf, entryIn, stateIn, held, Stored}
 use Rattle.state.specs.Arrays.{HoldsIn, holds-of}
@@ -40,14 +41,11 @@ loaded {s} {os} {ws} {gs} {n} q e o w g =
     let all : length (ownersOf s) ≡ n = omega arith in
     let same : rows (rowOf os ws gs) 0 n ≡ rows (columnEntry (ownersOf s) (itemsOf s)) 0 n =
     rows-ext _ _ 0 n (λ k l u. rw (o .each k (omega arith), w .each k (omega arith), g .each k (omega arith)) (from-place k _ _ (omega arith))) in
-    let whole : entriesOf 0 (ownersOf s) (itemsOf s) ≡ rows (columnEntry (ownersOf s) (itemsOf s)) 0 n = rw (← all) (tails-rows (entries-tails (ownersOf s) (itemsOf s) (omega arith))) in
+    let whole : entriesOf 0 (ownersOf s) (itemsOf s) ≡ rows (columnEntry (ownersOf s) (itemsOf s)) 0 n =
+    rw (← all) (tails-rows (entries-tails (ownersOf s) (itemsOf s) (omega arith))) in
     record { arrays = record { owners = o .size; items = w .size; origins = g .size }; holds = holds-of _ refl refl (omega arith) (same ∙ sym whole) }
 
 -- ---- words
-
--- An item's fields give the item back.
-pub item-whole : (w : ℕ) → itemWord (itemKind w) (portOf w) (valueOf w) ≡ w
-item-whole w = omega arith
 
 module _ (s : State) where
   owner-words : s .len ≤ length (s .owners) → map (λ e. e .owner) (rows (entryIn s) 0 (s .len)) ≡ take (s .len) (s .owners)
@@ -56,7 +54,7 @@ module _ (s : State) where
   item-words : s .len ≤ length (s .items) → map (λ e. itemWord (e .kind) (e .port) (e .value)) (rows (entryIn s) 0 (s .len)) ≡ take (s .len) (s .items)
   item-words h =
       map-rows (λ e. itemWord (e .kind) (e .port) (e .value)) (entryIn s) 0 (s .len)
-      ∙ rows-ext _ _ 0 (s .len) (λ k l u. item-whole (getD (s .items) k 0))
+      ∙ rows-ext _ _ 0 (s .len) (λ k l u. itemWord-fields (getD (s .items) k 0))
       ∙ rows-take 0 (s .items) (s .len) h
 
   -- The words of the value are those of the columns.
@@ -66,7 +64,8 @@ module _ (s : State) where
   state-words ho hi = rw (length-rows, owner-words ho, item-words hi)
 
 -- n and next, then the two columns, one after another
-pub stored-words : (s : State) (before middle after : List ℕ) → length (s .owners) ≡ 1024 → length (s .items) ≡ 1024 → s .len ≤ 1024 → 2 + 2 * s .len ≤ length before
+pub stored-words : (s : State) (before middle after : List ℕ) → length (s .owners) ≡ 1024 → length (s .items) ≡ 1024 → s .len ≤ 1024
+    → 2 + 2 * s .len ≤ length before
     → Pasted (set (set before 0 (s .len)) 1 (s .next)) 2 (s .owners) (s .len) middle → Pasted middle (2 + s .len) (s .items) (s .len) after
     → Stored s before after (2 + 2 * s .len)
 stored-words s before middle after o i h room p q =

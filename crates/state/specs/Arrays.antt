@@ -48,10 +48,12 @@ module _ (os ws gs : List ℕ) (w o x g : ℕ) where
       rw (rows-more, same, zero-add, stored-same c h)
 
   -- .. and what follows may follow it
-  pub stored-before : Arrays os ws gs → w < 1024 → {e : Entry} → entryFrom o x g ≡ e → (es : List Entry) → rows (rowOf os ws gs) 0 w ++ (e ∷ es) ≡ rows stored 0 (w + 1) ++ es
+  pub stored-before : Arrays os ws gs → w < 1024 → {e : Entry} → entryFrom o x g ≡ e → (es : List Entry)
+      → rows (rowOf os ws gs) 0 w ++ (e ∷ es) ≡ rows stored 0 (w + 1) ++ es
   stored-before c h q es = rw (stored-more c h, q, append-assoc)
 
-pub holds-of : (s : State) {n next : ℕ} {es : List Entry} → s .next ≡ next → s .len ≡ n → n ≤ 1024 → rows (entryIn s) 0 n ≡ es → Holds s (record { next = next; entries = es })
+pub holds-of : (s : State) {n next : ℕ} {es : List Entry} → s .next ≡ next → s .len ≡ n → n ≤ 1024 → rows (entryIn s) 0 n ≡ es
+    → Holds s (record { next = next; entries = es })
 unfolding stateIn
 holds-of s t n h e = record { value = rw (t, n, e); fits = omega arith }
 

@@ -43,10 +43,11 @@ module _ (q : ℕ → Entry → Bool) (f : Entry → Entry) where
     pub compacting-turn : i < n → (o x g k : ℕ) → k ≡ oneIf (q i (entryIn s i)) → (q i (entryIn s i) ≡ true → entryFrom o x g ≡ f (entryIn s i))
         → Compacting q f (storedIn s w o x g) n (i + 1) (w + k) σ
     compacting-turn more o x g k count e =
+        let other = stored-other (s .owners) (s .items) (s .origins) w o x g in
         let here : entryIn (storedIn s w o x g) w ≡ entryFrom o x g = stored-same _ _ _ w o x g (c .arrays) (omega arith) in
         record {
           arrays = stored-sized _ _ _ w o x g (c .arrays);
-          sifting = rw count (sifting-turn q f (c .sifting) more (entryIn (storedIn s w o x g)) (stored-other (s .owners) (s .items) (s .origins) w o x g) (λ h. here ∙ e h));
+          sifting = rw count (sifting-turn q f (c .sifting) more (entryIn (storedIn s w o x g)) other (λ h. here ∙ e h));
           small = c .small;
           next = c .next;
         }

@@ -1,4 +1,4 @@
-pub mod Check
+pub mod Parts
 pub mod Working
 pub mod Arrays
 pub mod Compact

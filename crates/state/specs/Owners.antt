@@ -28,7 +28,8 @@ by-owners s os e = ap someOwned (sym e) ∙ any-map (λ e. e .owner) (λ o. not 
 pub open-held : (os ws gs : List ℕ) (at : Extent) → at .len ≤ length os → someOwned (take (at .len) os) ≡ anyOpen (stateIn (held os ws gs at))
 unfolding stateIn
 open-held os ws gs at h =
-    by-owners (stateIn (held os ws gs at)) (take (at .len) os) (map-rows (λ (e : Entry). e .owner) (rowOf os ws gs) 0 (at .len) ∙ rows-take 0 os (at .len) h)
+    by-owners (stateIn (held os ws gs at)) (take (at .len) os)
+    (map-rows (λ (e : Entry). e .owner) (rowOf os ws gs) 0 (at .len) ∙ rows-take 0 os (at .len) h)
 
 pub open-words : (s : List ℕ) → stateSizesOk s ≡ true → {n : ℕ} → n ≡ entryCount s → someOwned (take n (ownersOf s)) ≡ anyOpen (stateOf s)
 unfolding stateOf

@@ -1,14 +1,12 @@
-// The state: its check on words, and the working state that a step changes.
-mod entries;
+// The state: the parts of its words, and the working state that a step changes.
 mod owners;
 mod parts;
 
 pub use owners::any_open;
 pub use parts::entry_count;
+pub use parts::items_of;
 pub use parts::owners_of;
-use semantics::Refusal;
-use semantics::Sizes;
-use semantics::Verdict;
+pub use parts::sizes_ok;
 use words::copy::copy_words;
 use words::copy::copy_words_at;
 ghost use Prim.Native.Nat.{ℕ, _+_, _*_, _≤_};
@@ -18,7 +16,6 @@ ghost use mathlib.Core.List.{List, []};
 ghost use lib.ListN.{length};
 ghost use Rattle.lists.specs.Filled.{Filled};
 ghost use Rattle.semantics.specs.State.{stateSizesOk, stateOf};
-ghost use Rattle.semantics.specs.Answers.{stateOwnVerdict};
 ghost use Rattle.state.specs.Working.{Holds, Stored, held};
 ghost use Rattle.state.specs.Arrays.{Arrays, HoldsIn};
 ghost use Rattle.state.specs.Lent.{Columns};
@@ -26,9 +23,9 @@ ghost use Rattle.state.specs.Lent.{Columns};
 // The entries in use are the first len of each column. Items are as 01 lays them out; an origin is
 // maker × 1024 + index, and next is 01's next ticket N.
 pub struct State {
-    pub owners: [u32; 1024],
-    pub items: [u32; 1024],
-    pub origins: [u32; 1024],
+    pub owners: [u32; State::MAX_ENTRIES],
+    pub items: [u32; State::MAX_ENTRIES],
+    pub origins: [u32; State::MAX_ENTRIES],
     pub len: usize,
     pub next: u32,
 }
@@ -38,30 +35,20 @@ impl State {
 
     pub const MAX_NEXT: u32 = 65536;
 
+    // n, next, and the owner and the item of each entry.
+    pub const MAX_WORDS: usize = 2050;
+
     pub fn empty() -> State
         ensures { λ r. ⌜ Holds r (record { next = 1; entries = [] }) ⌝ }
     {
         State {
-            owners: [0; 1024],
-            items: [0; 1024],
-            origins: [0; 1024],
+            owners: [0; State::MAX_ENTRIES],
+            items: [0; State::MAX_ENTRIES],
+            origins: [0; State::MAX_ENTRIES],
             len: 0,
             next: 1,
         }
     }
-}
-
-// A state by itself, under a table of these sizes.
-pub fn check(z: Sizes, state: &[u32]) -> Verdict
-    ensures { λ r. ⌜ r ≡ stateOwnVerdict z (now (state .entry)) ⌝ }
-{
-    if !parts::sizes_ok(state) {
-        return Verdict::Denied(Refusal::StateSizes);
-    }
-    if !entries::entries_ok(z, state) {
-        return Verdict::Denied(Refusal::StateContents);
-    }
-    Verdict::Allowed
 }
 
 // What columns do not say themselves: how many entries are in use, and N.
@@ -74,9 +61,9 @@ pub struct Extent {
 // Each entry's origin is its place: maker 0.
 pub fn load(
     state: &[u32],
-    owners: &mut [u32; 1024],
-    items: &mut [u32; 1024],
-    origins: &mut [u32; 1024],
+    owners: &mut [u32; State::MAX_ENTRIES],
+    items: &mut [u32; State::MAX_ENTRIES],
+    origins: &mut [u32; State::MAX_ENTRIES],
 ) -> Extent
     requires { ⌜ (stateSizesOk (now state) ≡ true) × Arrays (now owners) (now items) (now origins) ⌝ }
     ensures { λ r. ⌜ HoldsIn (held (now (owners .exit)) (now (items .exit)) (now (origins .exit)) r) (stateOf (now (state .entry))) ⌝ }
@@ -92,7 +79,7 @@ pub fn load(
 }
 
 // Each of the first n is its place.
-fn number_column(n: usize, column: &mut [u32; 1024])
+fn number_column(n: usize, column: &mut [u32; State::MAX_ENTRIES])
     requires { ⌜ (n ≤ 1024) × (length (now column) ≡ 1024) ⌝ }
     ensures { λ _. ⌜ Filled 0 (λ k. k) 1024 n (now (column .exit)) ⌝ }
 {
@@ -105,8 +92,8 @@ fn number_column(n: usize, column: &mut [u32; 1024])
 
 // The words of the entries over the target's beginning; answers how many.
 pub fn store<'a>(
-    owners: &'a [u32; 1024],
-    items: &'a [u32; 1024],
+    owners: &'a [u32; State::MAX_ENTRIES],
+    items: &'a [u32; State::MAX_ENTRIES],
     at: Extent,
     target: &mut [u32],
 ) -> u32

@@ -4,7 +4,7 @@ ghost use mathlib.Core.Path.{_≡_};
 ghost use mathlib.Core.Bool.{true};
 ghost use Rattle.semantics.specs.State.{stateSizesOk, entryCount, ownersOf, itemsOf};
 ghost use Rattle.wellformed.specs.States.{StateSized};
-ghost use Rattle.state.specs.Check.{Column};
+ghost use Rattle.state.specs.Parts.{Column};
 
 // n, N and the length.
 pub fn sizes_ok(state: &[u32]) -> bool

@@ -54,7 +54,8 @@ fn rules_ok<'a>(words: &'a [u32], starts: &'a [u32; 65], z: Sizes) -> bool
 // The rule numbers, then the rules. Fills the index, which is right where the contents are.
 fn contents_ok(table: &[u32], starts: &mut [u32; 65]) -> bool
     requires { ⌜ TableSized (now table) × (now starts ≡ replicate 65 0) ⌝ }
-    ensures { λ b. ⌜ IndexMade (tableContentsOk (now (table .entry))) (numbersOf (now (table .entry))) (sizesOf (now (table .entry)) .rules) b (now (starts .exit)) ⌝ }
+    ensures { λ b. ⌜ IndexMade (tableContentsOk (now (table .entry))) (numbersOf (now (table .entry)))
+        (sizesOf (now (table .entry)) .rules) b (now (starts .exit)) ⌝ }
 {
     let z = sizes_of(table);
     if !index_rules(numbers_of(table), z.rules, starts) {

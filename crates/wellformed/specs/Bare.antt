@@ -10,7 +10,8 @@ use Rattle.lists.specs.Parts.{keep-map, all-map, any-map, without-map}
 use Rattle.semantics.specs.Words.{itemWord}
 use Rattle.semantics.specs.Table.{Table, Rule, ruleAt, consumed, productAtoms, begins}
 use Rattle.semantics.specs.State.{Entry, State, isMessage, isAbortMark, isMemberMark, owned, stateWords, entryOk, isOwnMark, ownerOk, entriesOk}
-use Rattle.semantics.specs.Move.{unless, both, Move, react, commit, abort, nothing, picked, onPorts, ownersAt, ownersFit, hasId, merged, products, reacted, entriesIn, toGlobal, freed, ended, allowed, applied}
+use Rattle.semantics.specs.Move.{unless, both, Move, react, commit, abort, nothing, picked, onPorts, ownersAt, ownersFit, hasId, merged, products}
+use Rattle.semantics.specs.Move.{reacted, entriesIn, toGlobal, freed, ended, allowed, applied}
 use Rattle.semantics.specs.declared.Atom.{Atom}
 use Rattle.semantics.specs.declared.Sizes.{Sizes}
 use Rattle.semantics.specs.declared.Refusal.the-variants.{WrongPick, WrongOwner, NoTransaction, EndNotAllowed, NoMoreIds}
@@ -79,11 +80,13 @@ allowed-bare t s (abort b) = λ k.
 -- ---- what a move leaves
 
 module _ (R : Rule) (i j : ℕ) (s : State) (ps : List ℕ) where
-  products-bare : (q : ℕ) (atoms : List Atom) → map bare (products R (bareState s) (picked (bareState s) ps) i q atoms) ≡ map bare (products R s (picked s ps) j q atoms)
+  products-bare : (q : ℕ) (atoms : List Atom)
+      → map bare (products R (bareState s) (picked (bareState s) ps) i q atoms) ≡ map bare (products R s (picked s ps) j q atoms)
   products-bare q [] = refl
   products-bare q (a ∷ atoms) = rw (ownersAt-bare s ps, valuesAt-bare s ps, products-bare (suc q) atoms)
 
-  kept-bare : map bare (map (merged (ownersAt (bareState s) ps)) (without ps 0 (map bare (s .entries)))) ≡ map bare (map (merged (ownersAt s ps)) (without ps 0 (s .entries)))
+  kept-bare : map bare (map (merged (ownersAt (bareState s) ps)) (without ps 0 (map bare (s .entries)))) ≡ map bare
+      (map (merged (ownersAt s ps)) (without ps 0 (s .entries)))
   kept-bare =
       (λ k. map bare (map (merged (ownersAt-bare s ps k)) (without-map bare ps 0 (s .entries) k)))
       ∙ ap (map bare) (map-map (merged (ownersAt s ps)) bare (without ps 0 (s .entries)))
@@ -94,10 +97,12 @@ module _ (R : Rule) (i j : ℕ) (s : State) (ps : List ℕ) where
   unfolding reacted
   reacted-bare = λ k. record { next = cond (begins R) (suc (s .next)) (s .next); entries = both-parts k }
     where
-      both-parts : map bare (map (merged (ownersAt (bareState s) ps)) (without ps 0 (map bare (s .entries))) ++ products R (bareState s) (picked (bareState s) ps) i 0 (productAtoms R))
+      both-parts : map bare (map (merged (ownersAt (bareState s) ps)) (without ps 0 (map bare (s .entries))) ++ products R (bareState s)
+          (picked (bareState s) ps) i 0 (productAtoms R))
           ≡ map bare (map (merged (ownersAt s ps)) (without ps 0 (s .entries)) ++ products R s (picked s ps) j 0 (productAtoms R))
       both-parts =
-          map-append bare (map (merged (ownersAt (bareState s) ps)) (without ps 0 (map bare (s .entries)))) (products R (bareState s) (picked (bareState s) ps) i 0 (productAtoms R))
+          map-append bare (map (merged (ownersAt (bareState s) ps)) (without ps 0 (map bare (s .entries))))
+          (products R (bareState s) (picked (bareState s) ps) i 0 (productAtoms R))
           ∙ (λ k. kept-bare k ++ products-bare 0 (productAtoms R) k)
           ∙ sym (map-append bare (map (merged (ownersAt s ps)) (without ps 0 (s .entries))) (products R s (picked s ps) j 0 (productAtoms R)))
 

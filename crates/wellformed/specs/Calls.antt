@@ -5,7 +5,8 @@ use mathlib.Core.Logic.{_⊎_}
 use mathlib.Core.Path.{_≡_, ap}
 use native.Mathlib.Omega.{arith}
 use lib.ListN.{take}
-use Rattle.semantics.specs.Answers.{answerOf, outcomeOfCheck, stateVerdict, checkState, lineCeiling, moveResult, makeMove, makeMoveTarget, runResult, runLog, runLogTarget}
+use Rattle.semantics.specs.Answers.{answerOf, outcomeOfCheck, stateVerdict, checkState, lineCeiling, moveResult, makeMove, makeMoveTarget, runResult}
+use Rattle.semantics.specs.Answers.{runLog, runLogTarget}
 use Rattle.semantics.specs.declared.Verdict.{Verdict}
 use Rattle.semantics.specs.declared.Verdict.the-variants.{Allowed}
 use Rattle.wellformed.specs.Results.{write-accepted, move-refused, written}

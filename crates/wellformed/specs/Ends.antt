@@ -66,7 +66,8 @@ module _ {z : Sizes} {s : State} (sound : Sound z s) (p : Entry → Bool) (b : �
       each = λ d m. let (e, k, c) = among-ended p b (s .entries) d m in ⊎-elim
           (λ (o, t, q). rw q (entry-ended e k o t))
           (λ (n, q). rw q (sound .right .each e k)) c;
-      marks = rw (marks-ended p b unmarked (s .entries)) (distinct-map-keep (λ e. e .value) (λ e. not (owned b e)) (keep isMemberMark (s .entries)) (sound .right .marks));
+      marks = rw (marks-ended p b unmarked (s .entries))
+          (distinct-map-keep (λ e. e .value) (λ e. not (owned b e)) (keep isMemberMark (s .entries)) (sound .right .marks));
       own = λ d m n. let (e, k, c) = among-ended p b (s .entries) d m in ⊎-elim
           (λ (o, t, q). absurd (n (ap (λ (x : Entry). x .owner) q)))
           (λ (h, q). let w = ap (λ (x : Entry). x .owner) q in

@@ -8,10 +8,12 @@ use native.Mathlib.Omega.{arith}
 use lib.Dec.{leb, ltb, eqb}
 use borrow.Author.Tests.{leb-true, le-leb, ltb-true, lt-ltb, eqb-true, eqb-false, eq-eqb}
 use Rattle.lists.specs.Lists.{all, any, distinct}
-use Rattle.lists.specs.Choices.{by-bool, and-intro, and-left, and-right, and-three, and-six, or-cases, or-right, given-holds, given-intro}
+use Rattle.lists.specs.Tests.{or-right-true}
+use Rattle.lists.specs.Choices.{by-bool, and-intro, and-left, and-right, and-three, and-six, or-cases, given-holds, given-intro}
 use Rattle.lists.specs.Members.{Among, all-each, all-intro, any-some, any-intro}
 use Rattle.semantics.specs.Table.{portCount}
-use Rattle.semantics.specs.State.{Entry, State, isMessage, isCompensation, isAbortMark, isMemberMark, owned, globalOk, messageOk, compensationOk, abortMarkOk, memberMarkOk, entryOk, markValues, isOwnMark, ownerOk, entriesOk}
+use Rattle.semantics.specs.State.{Entry, State, isMessage, isCompensation, isAbortMark, isMemberMark, owned, globalOk, messageOk, compensationOk}
+use Rattle.semantics.specs.State.{abortMarkOk, memberMarkOk, entryOk, markValues, isOwnMark, ownerOk, entriesOk}
 use Rattle.semantics.specs.declared.Sizes.{Sizes}
 
 pub record MemberRight (next : ℕ) (e : Entry) : Type 0 where
@@ -61,8 +63,11 @@ module _ (z : Sizes) (next : ℕ) (e : Entry) where
       record {
         kind-le = leb-true (e .kind) 3 kind;
         global = λ o.
-            let k = given-holds (owned 0 e) (isMessage e && ltb (e .port) (z .globals)) global (eq-eqb (e .owner) 0 o) in
-            (eqb-true (e .kind) 0 (and-left (isMessage e) (ltb (e .port) (z .globals)) k), ltb-true (e .port) (z .globals) (and-right (isMessage e) (ltb (e .port) (z .globals)) k));
+            let k = given-holds (owned 0 e) (isMessage e && ltb (e .port) (z .globals)) global (eq-eqb (e .owner) 0 o) in (
+              eqb-true (e .kind) 0 (and-left (isMessage e) (ltb (e .port) (z .globals)) k),
+              ltb-true (e .port) (z .globals)
+                  (and-right (isMessage e) (ltb (e .port) (z .globals)) k),
+            );
         message = λ k. ltb-true (e .port) (portCount z) (given-holds (isMessage e) (ltb (e .port) (portCount z)) message (eq-eqb (e .kind) 0 k));
         compensation = λ k. ltb-true (e .port) (z .globals) (given-holds (isCompensation e) (ltb (e .port) (z .globals)) compensation (eq-eqb (e .kind) 1 k));
         abort-mark = λ k.
@@ -83,7 +88,8 @@ module _ (z : Sizes) (next : ℕ) (e : Entry) where
       (λ k. let q = r .abort-mark (eqb-true (e .kind) 2 k) in and-intro (eq-eqb (e .port) 0 (q .0)) (eq-eqb (e .value) 0 (q .1)))))
       (given-intro (isMemberMark e) markTests
       (λ k. let q = r .member-mark (eqb-true (e .kind) 3 k) in
-      and-intro (and-intro (and-intro (eq-eqb (e .port) 0 (q .port-zero)) (le-leb 1 (e .owner) (q .owner-low))) (le-leb (e .owner) (e .value) (q .owner-le))) (lt-ltb (e .value) next (q .value-lt))))
+      and-intro (and-intro (and-intro (eq-eqb (e .port) 0 (q .port-zero)) (le-leb 1 (e .owner) (q .owner-low)))
+      (le-leb (e .owner) (e .value) (q .owner-le))) (lt-ltb (e .value) next (q .value-lt))))
 
 module _ (es : List Entry) where
   own-mark : (t : ℕ) → any (isOwnMark t) es ≡ true → HasOwnMark es t
@@ -99,7 +105,8 @@ module _ (z : Sizes) (s : State) where
   pub state-right : entriesOk z s ≡ true → StateRight z s
   unfolding entriesOk
   state-right h =
-      let (each, marks, own) = and-three (all (entryOk z (s .next)) (s .entries)) (distinct (markValues (s .entries))) (all (ownerOk (s .entries)) (s .entries)) h in
+      let (each, marks, own) = and-three (all (entryOk z (s .next)) (s .entries)) (distinct (markValues (s .entries)))
+      (all (ownerOk (s .entries)) (s .entries)) h in
       record {
         each = λ e m. entry-right z (s .next) e (all-each (entryOk z (s .next)) (s .entries) each e m);
         marks = marks;
@@ -113,7 +120,7 @@ module _ (z : Sizes) (s : State) where
       (all-intro (entryOk z (s .next)) (s .entries) (λ e m. entry-tests z (s .next) e (r .each e m)))
       (r .marks))
       (all-intro (ownerOk (s .entries)) (s .entries) (λ e m. by-bool (owned 0 e) (λ o. rw o)
-      (λ o. or-right (owned 0 e) (any (isOwnMark (e .owner)) (s .entries)) (own-test (s .entries) (e .owner) (r .own e m (eqb-false (e .owner) 0 o))))))
+      (λ o. or-right-true (owned 0 e) (own-test (s .entries) (e .owner) (r .own e m (eqb-false (e .owner) 0 o))))))
 
 -- ---- the four sorts of entry
 

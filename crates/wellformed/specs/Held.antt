@@ -24,7 +24,8 @@ use Rattle.wellformed.specs.Entries.{EntryRight, state-right, state-test
 use Rattle.wellformed.specs.Step.{accepted-move}
 use Rattle.wellformed.specs.Preservation.{rule-known, applied-keeps, applied-small}
 use Rattle.wellformed.specs.Bare.{bareState, entriesOk-same}
-use Rattle.wellformed.specs.RoundTrip.{bare-numbered, Fits, stateOf-stateWords, stateWords-stateOf, length-stateWords, entryCount-stateWords, nextOf-stateWords, next-stateOf, stateOf-small}
+use Rattle.wellformed.specs.RoundTrip.{bare-numbered, Fits, stateOf-stateWords, stateWords-stateOf, length-stateWords, entryCount-stateWords}
+use Rattle.wellformed.specs.RoundTrip.{nextOf-stateWords, next-stateOf, stateOf-small}
 
 -- what the states of a log keep: well formed, values small, few enough entries
 pub record Held (z : Sizes) (s : State) : Type 0 where
@@ -64,7 +65,8 @@ sizes-pass s h =
     let l = length-stateWords s in
     rw (entryCount-stateWords s, nextOf-stateWords s)
     (and-intro (le-leb 2 (length (stateWords s)) (omega arith))
-    (and-intro (and-intro (le-leb (length (s .entries)) 1024 (h .few)) (and-intro (le-leb 1 (s .next) (h .sound .next-low)) (le-leb (s .next) 65536 (h .sound .next-high))))
+    (and-intro (and-intro (le-leb (length (s .entries)) 1024 (h .few))
+    (and-intro (le-leb 1 (s .next) (h .sound .next-low)) (le-leb (s .next) 65536 (h .sound .next-high))))
     (eq-eqb (length (stateWords s)) (2 + 2 * length (s .entries)) l)))
 
 module _ (T : List ℕ) (table : tableVerdict T ≡ Allowed) where
@@ -81,7 +83,8 @@ module _ (T : List ℕ) (table : tableVerdict T ≡ Allowed) where
       (unless-intro StateContents (entriesOk-same (stateOf (stateWords s)) s (reread s h) (sizesOf T) ∙ state-tests (sizesOf T) s (h .sound .right))))
 
   -- an accepted move leaves such a state
-  pub step-holds : (ceiling i : ℕ) (s : State) (m : List ℕ) (s′ : State) → ceiling ≤ 1024 → Held (sizesOf T) s → stepWords ceiling (tableOf T) i s m ≡ to s′ → Held (sizesOf T) s′
+  pub step-holds : (ceiling i : ℕ) (s : State) (m : List ℕ) (s′ : State) → ceiling ≤ 1024 → Held (sizesOf T) s
+      → stepWords ceiling (tableOf T) i s m ≡ to s′ → Held (sizesOf T) s′
   step-holds ceiling i s m s′ c h e =
       let a = accepted-move ceiling (tableOf T) i s m s′ e in
       let k = rule-known (tableOf T) m (a .form) in
@@ -92,7 +95,8 @@ module _ (T : List ℕ) (table : tableVerdict T ≡ Allowed) where
         few = let l = a .fits in omega arith;
       }
 
-  pub run-holds : (ceiling i : ℕ) (s : State) (ms : List (List ℕ)) (s′ : State) → ceiling ≤ 1024 → Held (sizesOf T) s → run ceiling (tableOf T) i s ms ≡ ended s′ → Held (sizesOf T) s′
+  pub run-holds : (ceiling i : ℕ) (s : State) (ms : List (List ℕ)) (s′ : State) → ceiling ≤ 1024 → Held (sizesOf T) s
+      → run ceiling (tableOf T) i s ms ≡ ended s′ → Held (sizesOf T) s′
   unfolding run
   run-holds ceiling i s [] s′ c h e = subst (Held (sizesOf T)) (same e) h
     where

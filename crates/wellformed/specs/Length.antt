@@ -1,5 +1,5 @@
 -- How many entries a move leaves.
-use Prim.Native.Nat.{ℕ, suc, _+_, _-_, _≤_}
+use Prim.Native.Nat.{ℕ, suc, _+_, _≤_}
 use mathlib.Core.Bool.{Bool}
 use mathlib.Core.List.{List, [], _∷_, map}
 use mathlib.Core.Path.{_≡_, refl, sym, ap, _∙_}
@@ -19,7 +19,8 @@ pub length-products : (R : Rule) (s : State) (es : List Entry) (i q : ℕ) (atom
 length-products R s es i q [] = refl
 length-products R s es i q (a ∷ atoms) = ap suc (length-products R s es i (suc q) atoms)
 
-pub length-reacted : (R : Rule) (i : ℕ) (s : State) (ps : List ℕ) → length (reacted R i s ps .entries) ≡ length (without ps 0 (s .entries)) + length (productAtoms R)
+pub length-reacted : (R : Rule) (i : ℕ) (s : State) (ps : List ℕ)
+    → length (reacted R i s ps .entries) ≡ length (without ps 0 (s .entries)) + length (productAtoms R)
 unfolding reacted
 length-reacted R i s ps =
     length-append (map (merged (ownersAt s ps)) (without ps 0 (s .entries))) (products R s (picked s ps) i 0 (productAtoms R))
@@ -31,15 +32,6 @@ unfolding applied
 length-maker t i j s (react r ps) = length-reacted (ruleAt t r) i s ps ∙ sym (length-reacted (ruleAt t r) j s ps)
 length-maker t i j s (commit b) = refl
 length-maker t i j s (abort b) = refl
-
--- picks go, products come
-pub length-react : (t : Table) (i : ℕ) (s : State) (r : ℕ) (ps : List ℕ) → allowed t s (react r ps) ≡ Allowed
-    → length (applied t i s (react r ps) .entries) + length ps ≡ length (s .entries) + length (productAtoms (ruleAt t r))
-unfolding allowed applied
-length-react t i s r ps h =
-    let l = left-length (react-given (ruleAt t r) s ps h) in
-    let k = length-reacted (ruleAt t r) i s ps in
-    omega arith
 
 pub length-ended : (p : Entry → Bool) (b : ℕ) (s : State) → length (ended p b s .entries) ≤ length (s .entries)
 unfolding ended

@@ -10,7 +10,8 @@ use Rattle.semantics.specs.Table.{Table, sizesOf, tableOf}
 use Rattle.semantics.specs.State.{State, stateOf, stateWords}
 use Rattle.semantics.specs.Move.{unless, both, moveOk, moveOf, applied, Stepped, to, refused, steppedBy, step, within, stepWords, moveVerdict}
 use Rattle.semantics.specs.Log.{movesOf, logSizesOk, onward, run}
-use Rattle.semantics.specs.Answers.{tableVerdict, stateVerdict, Result, write, refuse, refuseMove, unlessDenied, hasWords, steppedResult, moveResult, ranResult, logVerdict, runOf, runResult}
+use Rattle.semantics.specs.Answers.{tableVerdict, stateVerdict, Result, write, refuse, refuseMove, unlessDenied, hasWords, steppedResult, moveResult}
+use Rattle.semantics.specs.Answers.{ranResult, logVerdict, runOf, runResult}
 use Rattle.semantics.specs.declared.Refusal.the-variants.{MoveForm, TargetTooShort, LogSizes}
 use Rattle.semantics.specs.declared.Verdict.{Verdict}
 use Rattle.semantics.specs.declared.Verdict.the-variants.{Allowed, Denied}
@@ -45,7 +46,8 @@ unfolding moveResult stepWords
 moveResult-step ceiling T S m target h l =
     rw (h, le-leb 2050 (length target) l) (go (moveOk (tableOf T) m) (within ceiling (step (tableOf T) 1 (stateOf S) (moveOf (tableOf T) m))))
   where
-    go : (b : Bool) (x : Stepped) → unlessDenied (both (unless b MoveForm) Allowed) (steppedResult (cond b x (refused MoveForm))) ≡ steppedResult (cond b x (refused MoveForm))
+    go : (b : Bool) (x : Stepped)
+        → unlessDenied (both (unless b MoveForm) Allowed) (steppedResult (cond b x (refused MoveForm))) ≡ steppedResult (cond b x (refused MoveForm))
     go true x = refl
     go false x = refl
 
@@ -67,7 +69,9 @@ steppedResult-same ceiling t i j s s′ m h =
         ∙ ap (λ (x : State). length (x .entries)) (applied-same s s′ h t 0 0 (moveOf t m))
         ∙ length-map (applied t 0 s′ (moveOf t m) .entries) bare
 
-    go : (b : Bool) (v : Verdict) → steppedResult (cond b (steppedBy v (applied t i s (moveOf t m))) (refused MoveForm)) ≡ steppedResult (cond b (steppedBy v (applied t j s′ (moveOf t m))) (refused MoveForm))
+    go : (b : Bool) (v : Verdict)
+        → steppedResult (cond b (steppedBy v (applied t i s (moveOf t m))) (refused MoveForm)) ≡ steppedResult
+        (cond b (steppedBy v (applied t j s′ (moveOf t m))) (refused MoveForm))
     go false v = refl
     go true (Denied r) = refl
     go true Allowed = ap write (words-same (applied t i s (moveOf t m)) (applied t j s′ (moveOf t m)) left)
@@ -75,7 +79,8 @@ steppedResult-same ceiling t i j s s′ m h =
 -- ---- a log
 
 module _ (ceiling : ℕ) (c : ceiling ≤ 1024) (T : List ℕ) (table : tableVerdict T ≡ Allowed) (target : List ℕ) (l : 2050 ≤ length target) where
-  run-held : (i : ℕ) (s : State) → Held (sizesOf T) s → (ms : List (List ℕ)) → ranResult (run ceiling (tableOf T) i s ms) ≡ oneByOneFrom i ceiling T (stateWords s) ms target
+  run-held : (i : ℕ) (s : State) → Held (sizesOf T) s → (ms : List (List ℕ))
+      → ranResult (run ceiling (tableOf T) i s ms) ≡ oneByOneFrom i ceiling T (stateWords s) ms target
   unfolding run
   run-held i s h [] = refl
   run-held i s h (m ∷ ms) =
@@ -88,7 +93,8 @@ module _ (ceiling : ℕ) (c : ceiling ≤ 1024) (T : List ℕ) (table : tableVer
 
       go : (x : Stepped) → stepWords ceiling (tableOf T) (suc i) s m ≡ x
           → ((s′ : State) → Held (sizesOf T) s′ → ranResult (run ceiling (tableOf T) (suc i) s′ ms) ≡ oneByOneFrom (suc i) ceiling T (stateWords s′) ms target)
-          → ranResult (onward x i (λ s′. run ceiling (tableOf T) (suc i) s′ ms)) ≡ thenOn (steppedResult x) i (λ ws. oneByOneFrom (suc i) ceiling T ws ms target)
+          → ranResult (onward x i (λ s′. run ceiling (tableOf T) (suc i) s′ ms)) ≡ thenOn (steppedResult x) i
+          (λ ws. oneByOneFrom (suc i) ceiling T ws ms target)
       go (to s′) e ih = ih s′ (step-holds T table ceiling (suc i) s m s′ c h e)
       go (refused r) e ih = refl
 

@@ -10,7 +10,8 @@ use lib.ListN.{length}
 use Rattle.lists.specs.Each.{All}
 use Rattle.semantics.specs.Table.{Table, ruleAt}
 use Rattle.semantics.specs.State.{State}
-use Rattle.semantics.specs.Move.{unless, firstFault, reactFaults, endFaults, Move, react, commit, abort, moveOk, moveOf, picksOk, ownersAt, ownersFit, hasId, isOpen, mayCommit, mayAbort, allowed, applied, Stepped, to, refused, steppedBy, stepWords, moveVerdict}
+use Rattle.semantics.specs.Move.{unless, firstFault, reactFaults, endFaults, Move, react, commit, abort, moveOk, moveOf, picksOk, ownersAt, ownersFit}
+use Rattle.semantics.specs.Move.{hasId, isOpen, mayCommit, mayAbort, allowed, applied, Stepped, to, refused, steppedBy, stepWords, moveVerdict}
 use Rattle.semantics.specs.Log.{stopped, onward, run}
 use Rattle.semantics.specs.Answers.{number}
 use Rattle.semantics.specs.declared.Refusal.{Refusal}

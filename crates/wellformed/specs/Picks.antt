@@ -24,7 +24,8 @@ pub onPorts-messages : (ports : List ℕ) (es : List Entry) → onPorts ports es
 onPorts-messages [] [] h e m = absurd m
 onPorts-messages [] (x ∷ es) h e m = absurd (false≢true h)
 onPorts-messages (p ∷ ps) [] h e m = absurd m
-onPorts-messages (p ∷ ps) (x ∷ es) h e (inl q) = ap (λ (x : Entry). x .kind) q ∙ eqb-true (x .kind) 0 (and-three (isMessage x) (eqb (x .port) p) (onPorts ps es) h .0)
+onPorts-messages (p ∷ ps) (x ∷ es) h e (inl q) =
+    ap (λ (x : Entry). x .kind) q ∙ eqb-true (x .kind) 0 (and-three (isMessage x) (eqb (x .port) p) (onPorts ps es) h .0)
 onPorts-messages (p ∷ ps) (x ∷ es) h e (inr m) = onPorts-messages ps es (and-three (isMessage x) (eqb (x .port) p) (onPorts ps es) h .2) e m
 
 pub onPorts-length : (ports : List ℕ) (es : List Entry) → onPorts ports es ≡ true → length es ≡ length ports
@@ -95,7 +96,8 @@ module _ {R : Rule} {s : State} {ps : List ℕ} (g : ReactGiven R s ps) where
   owners-positive c o m = go (eqb (R .class) 1) (rw (ne-eqb (R .class) 0 c) at (g .owners))
     where
       go : (b : Bool) → cond b (all (λ o. ltb 0 o && eqb o (least (ownersAt s ps))) (ownersAt s ps)) (all (λ o. ltb 0 o) (ownersAt s ps)) ≡ true → 1 ≤ o
-      go true h = ltb-true 0 o (and-left (ltb 0 o) (eqb o (least (ownersAt s ps))) (all-each (λ o. ltb 0 o && eqb o (least (ownersAt s ps))) (ownersAt s ps) h o m))
+      go true h =
+          ltb-true 0 o (and-left (ltb 0 o) (eqb o (least (ownersAt s ps))) (all-each (λ o. ltb 0 o && eqb o (least (ownersAt s ps))) (ownersAt s ps) h o m))
       go false h = ltb-true 0 o (all-each (λ o. ltb 0 o) (ownersAt s ps) h o m)
 
   pub home-zero : R .class ≡ 0 → least (ownersAt s ps) ≡ 0

@@ -35,8 +35,11 @@ unfolding moveOk moveOf
 rule-known t m h = go (eqb (headKind (getD m 0 0)) 0) (eqb (headKind (getD m 0 0)) 1)
     (and-three (eqb (length m) 5) (headOk t (getD m 0 0)) (all isZero (drop (picksUsed t (getD m 0 0)) (drop 1 m))) h .1)
   where
-    go : (a b : Bool) → cond a (ltb (headNumber (getD m 0 0)) (length (t .rules))) (leb (headKind (getD m 0 0)) 2 && leb 1 (headNumber (getD m 0 0)) && leb (headNumber (getD m 0 0)) 65535) ≡ true
-        → RuleKnown t (cond a (react (headNumber (getD m 0 0)) (take (picksUsed t (getD m 0 0)) (drop 1 m))) (cond b (commit (headNumber (getD m 0 0))) (abort (headNumber (getD m 0 0)))))
+    go : (a b : Bool)
+        → cond a (ltb (headNumber (getD m 0 0)) (length (t .rules)))
+        (leb (headKind (getD m 0 0)) 2 && leb 1 (headNumber (getD m 0 0)) && leb (headNumber (getD m 0 0)) 65535) ≡ true
+        → RuleKnown t (cond a (react (headNumber (getD m 0 0)) (take (picksUsed t (getD m 0 0)) (drop 1 m)))
+        (cond b (commit (headNumber (getD m 0 0))) (abort (headNumber (getD m 0 0)))))
     go true b k = ltb-true (headNumber (getD m 0 0)) (length (t .rules)) k
     go false true k = tt
     go false false k = tt
@@ -44,15 +47,18 @@ rule-known t m h = go (eqb (headKind (getD m 0 0)) 0) (eqb (headKind (getD m 0 0
 module _ {t : Table} (right : TableRight t) {s : State} (sound : Sound (t .sizes) s) (i : ℕ) where
   committed-global : (b : ℕ) → mayCommit t b s ≡ true → (e : Entry) → Among e (s .entries) → e .owner ≡ b → isMessage e ≡ true → (e .port < t .sizes .globals)
   committed-global b h e m o k =
-      let q = all-each (λ e. not (isAbortMark e) && (not (isMessage e) || ltb (e .port) (t .sizes .globals))) (entriesIn b s) h e (keep-among (owned b) (s .entries) e m (eq-eqb (e .owner) b o)) in
+      let q = all-each (λ e. not (isAbortMark e) && (not (isMessage e) || ltb (e .port) (t .sizes .globals))) (entriesIn b s) h e
+      (keep-among (owned b) (s .entries) e m (eq-eqb (e .owner) b o)) in
       ltb-true (e .port) (t .sizes .globals)
-      (given-holds (isMessage e) (ltb (e .port) (t .sizes .globals)) (and-right (not (isAbortMark e)) (not (isMessage e) || ltb (e .port) (t .sizes .globals)) q) k)
+      (given-holds (isMessage e) (ltb (e .port) (t .sizes .globals))
+      (and-right (not (isAbortMark e)) (not (isMessage e) || ltb (e .port) (t .sizes .globals)) q) k)
 
   pub applied-keeps : (m : Move) → RuleKnown t m → allowed t s m ≡ Allowed → Sound (t .sizes) (applied t i s m)
   unfolding allowed applied
   applied-keeps (react r ps) k h = react-keeps (right .rule r k) sound (react-given (ruleAt t r) s ps h) i
   applied-keeps (commit b) k h = ended-keeps sound isMessage b (λ e p q. let l = eqb-true (e .kind) 0 p in omega arith)
-      (committed-global b (unless-allowed (mayCommit t b s) EndNotAllowed (both-allowed (unless (isOpen b s) NoTransaction) (unless (mayCommit t b s) EndNotAllowed) h .1)))
+      (committed-global b (unless-allowed (mayCommit t b s) EndNotAllowed
+      (both-allowed (unless (isOpen b s) NoTransaction) (unless (mayCommit t b s) EndNotAllowed) h .1)))
   applied-keeps (abort b) k h = ended-keeps sound isCompensation b (λ e p q. let l = eqb-true (e .kind) 1 p in omega arith)
       (λ e m o p. sound .right .each e m .compensation (eqb-true (e .kind) 1 p))
 

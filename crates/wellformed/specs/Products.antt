@@ -16,7 +16,8 @@ use Rattle.semantics.specs.Move.{merged, valueIn, made, products}
 use Rattle.semantics.specs.declared.Atom.{Atom}
 
 module _ (R : Rule) (s : State) (es : List Entry) (i : ℕ) where
-  pub among-products : (q : ℕ) (atoms : List Atom) (e : Entry) → Among e (products R s es i q atoms) → (a : Atom) × (o : Origin) × Among a atoms × (e ≡ made R s es o a)
+  pub among-products : (q : ℕ) (atoms : List Atom) (e : Entry) → Among e (products R s es i q atoms)
+      → (a : Atom) × (o : Origin) × Among a atoms × (e ≡ made R s es o a)
   among-products q [] e m = absurd m
   among-products q (a ∷ atoms) e (inl k) = (a, record { maker = i; index = q }, inl refl, k)
   among-products q (a ∷ atoms) e (inr m) = let (b, o, n, k) = among-products (suc q) atoms e m in (b, o, inr n, k)
@@ -41,7 +42,8 @@ module _ (R : Rule) (s : State) (es : List Entry) (i : ℕ) where
       -- by the tests of the atom's role
       go : markValues (products R s es i (suc q) atoms) ≡ replicate (count (hasRole 2) atoms) (s .next) → (b c d : Bool) (e : Entry)
           → e .kind ≡ cond b 3 (cond c 1 (cond d 2 0)) → e .value ≡ cond b (s .next) (valueIn (map (λ e. e .value) es) (a .value))
-          → map (λ e. e .value) (keepIf (isMemberMark e) e (keep isMemberMark (products R s es i (suc q) atoms))) ≡ replicate (oneIf b + count (hasRole 2) atoms) (s .next)
+          → map (λ e. e .value) (keepIf (isMemberMark e) e (keep isMemberMark (products R s es i (suc q) atoms))) ≡ replicate
+          (oneIf b + count (hasRole 2) atoms) (s .next)
       go ih true c d e k v = rw (eq-eqb (e .kind) 3 k, v, ih) (more (count (hasRole 2) atoms))
       go ih false true d e k v = rw (ne-eqb (e .kind) 3 (λ q. omega arith), ih) (fewer (count (hasRole 2) atoms))
       go ih false false true e k v = rw (ne-eqb (e .kind) 3 (λ q. omega arith), ih) (fewer (count (hasRole 2) atoms))

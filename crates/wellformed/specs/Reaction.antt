@@ -3,7 +3,7 @@ use Prim.Native.Nat.{ℕ, zero, suc, _≤_, _<_}
 use mathlib.Core.Bool.{Bool, true, false, not, cond}
 use mathlib.Core.List.{List, _++_, map, map-append, append-nil}
 use mathlib.Core.Logic.{_⊎_, inl, inr, ⊎-elim}
-use mathlib.Core.Path.{_≡_, sym, ap, subst, _∙_}
+use mathlib.Core.Path.{_≡_, refl, sym, ap, subst, _∙_}
 use native.Mathlib.Omega.{arith}
 use lib.Dec.{ltb, eqb}
 use lib.ListN.{length, replicate}
@@ -165,10 +165,13 @@ module _ {z : Sizes} {R : Rule} (right : RuleRight z R) {s : State} (sound : Sou
     made-right = go (role-cases (a .role) (atom .role-le) (product-atom right a m .1))
       where
         role-cases : (n : ℕ) → n ≤ 5 → 1 ≤ n → (n ≡ 1) ⊎ (n ≡ 2) ⊎ (n ≡ 3) ⊎ (n ≡ 4) ⊎ (n ≡ 5)
-        role-cases n h l =
-            by-bool (eqb n 1) (λ q. inl (eqb-true n 1 q)) (λ a. by-bool (eqb n 2) (λ q. inr (inl (eqb-true n 2 q))) (λ b. by-bool (eqb n 3) (λ q. inr (inr (inl (eqb-true n 3 q))))
-            (λ c. by-bool (eqb n 4) (λ q. inr (inr (inr (inl (eqb-true n 4 q)))))
-            (λ d. inr (inr (inr (inr (let a = eqb-false n 1 a in let b = eqb-false n 2 b in let c = eqb-false n 3 c in let d = eqb-false n 4 d in omega arith))))))))
+        role-cases zero h l = absurd (omega arith)
+        role-cases (suc zero) h l = inl refl
+        role-cases (suc (suc zero)) h l = inr (inl refl)
+        role-cases (suc (suc (suc zero))) h l = inr (inr (inl refl))
+        role-cases (suc (suc (suc (suc zero)))) h l = inr (inr (inr (inl refl)))
+        role-cases (suc (suc (suc (suc (suc zero))))) h l = inr (inr (inr (inr refl)))
+        role-cases (suc (suc (suc (suc (suc (suc n)))))) h l = absurd (omega arith)
 
         go : (a .role ≡ 1) ⊎ (a .role ≡ 2) ⊎ (a .role ≡ 3) ⊎ (a .role ≡ 4) ⊎ (a .role ≡ 5) → EntryRight z next′ (e a o)
         go (inl q) = message-entry z next′ (e a o) (ap kindMade q) (atom .port-lt)
@@ -185,7 +188,8 @@ module _ {z : Sizes} {R : Rule} (right : RuleRight z R) {s : State} (sound : Sou
               owner-le = omega arith;
               value-lt = omega arith;
             })
-        go (inr (inr (inl q))) = message-entry z next′ (e a o) (ap kindMade q) (atom .port-lt) (λ h. absurd (let l = owner-positive (λ r. omega arith) in omega arith))
+        go (inr (inr (inl q))) =
+            message-entry z next′ (e a o) (ap kindMade q) (atom .port-lt) (λ h. absurd (let l = owner-positive (λ r. omega arith) in omega arith))
         go (inr (inr (inr (inl q)))) = compensation-entry z next′ (e a o) (ap kindMade q) (owner-positive (λ r. omega arith)) (atom .compensate-global q)
         go (inr (inr (inr (inr q)))) =
             let (p, v) = atom .mark-bare (inr q) in
@@ -239,7 +243,8 @@ module _ {z : Sizes} {R : Rule} (right : RuleRight z R) {s : State} (sound : Sou
       let l = sound .right .each e k .member-mark (eqb-true (e .kind) 3 t) .value-lt in omega arith)
 
   marks-distinct : distinct (markValues all-entries) ≡ true
-  marks-distinct = rw marks-all (go (count (hasRole 2) (productAtoms R)) (let l = count-keep-le (hasRole 2) (λ a. not (hasRole 0 a)) (R .atoms) in let h = right .begins-le in omega arith))
+  marks-distinct = rw marks-all (go (count (hasRole 2) (productAtoms R))
+      (let l = count-keep-le (hasRole 2) (λ a. not (hasRole 0 a)) (R .atoms) in let h = right .begins-le in omega arith))
     where
       go : (n : ℕ) → n ≤ 1 → distinct (markValues (s .entries) ++ replicate n (s .next)) ≡ true
       go zero h = rw (append-nil (markValues (s .entries))) (sound .right .marks)

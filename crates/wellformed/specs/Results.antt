@@ -7,7 +7,9 @@ use lib.ListN.{length, take, drop}
 use lib.Seq.{take-append-seam}
 use Rattle.semantics.specs.Answers.{number, answerOf, Result, write, refuse, refuseMove, outcomeOf, targetAfter, unlessDenied}
 use Rattle.semantics.specs.declared.Refusal.{Refusal}
-use Rattle.semantics.specs.declared.Refusal.the-variants.{TableSizes, TableContents, StateSizes, StateContents, MoveForm, TargetTooShort, WrongPick, WrongOwner, NoTransaction, EndNotAllowed, NoMoreIds, TooManyEntries, LogSizes, BeginEmits, TransactionOpen, SerialTooManyEntries}
+use Rattle.semantics.specs.declared.Refusal.the-variants.{TableSizes, TableContents, StateSizes, StateContents, MoveForm, TargetTooShort, WrongPick}
+use Rattle.semantics.specs.declared.Refusal.the-variants.{WrongOwner, NoTransaction, EndNotAllowed, NoMoreIds, TooManyEntries, LogSizes, BeginEmits}
+use Rattle.semantics.specs.declared.Refusal.the-variants.{TransactionOpen, SerialTooManyEntries}
 use Rattle.semantics.specs.declared.Verdict.{Verdict}
 use Rattle.semantics.specs.declared.Verdict.the-variants.{Allowed, Denied}
 

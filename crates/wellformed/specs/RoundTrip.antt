@@ -34,7 +34,8 @@ itemWord-fields w = omega arith
 -- the entries with origins as read from words: the first has the place q
 abbrev pub numbered : ℕ → List Entry → List Entry
 numbered q [] = []
-numbered q (e ∷ es) = record { origin = record { maker = 0; index = q }; owner = e .owner; kind = e .kind; port = e .port; value = e .value } ∷ numbered (suc q) es
+numbered q (e ∷ es) =
+    record { origin = record { maker = 0; index = q }; owner = e .owner; kind = e .kind; port = e .port; value = e .value } ∷ numbered (suc q) es
 
 pub bare-numbered : (q : ℕ) (es : List Entry) → map bare (numbered q es) ≡ map bare es
 bare-numbered q [] = refl
@@ -68,8 +69,10 @@ stateOf-stateWords s f = λ k. record { next = s .next; entries = entries k }
     two : (m : ℕ) → 2 + m ≡ suc (suc m)
     two m = omega arith
 
-    items : drop (2 + length (s .entries)) (length (s .entries) ∷ s .next ∷ map (λ e. e .owner) (s .entries) ++ map itemOf (s .entries)) ≡ map itemOf (s .entries)
-    items = rw (two (length (s .entries))) (drop-at (map (λ e. e .owner) (s .entries)) (map itemOf (s .entries)) (length (s .entries)) (length-map (s .entries) (λ e. e .owner)))
+    items : drop (2 + length (s .entries)) (length (s .entries) ∷ s .next ∷ map (λ e. e .owner) (s .entries) ++ map itemOf (s .entries)) ≡ map itemOf
+        (s .entries)
+    items = rw (two (length (s .entries)))
+        (drop-at (map (λ e. e .owner) (s .entries)) (map itemOf (s .entries)) (length (s .entries)) (length-map (s .entries) (λ e. e .owner)))
 
     entries : entriesOf 0 (take (length (s .entries)) (map (λ e. e .owner) (s .entries) ++ map itemOf (s .entries)))
         (drop (2 + length (s .entries)) (length (s .entries) ∷ s .next ∷ map (λ e. e .owner) (s .entries) ++ map itemOf (s .entries))) ≡ numbered 0 (s .entries)
@@ -120,7 +123,8 @@ stateWords-stateOf S h = go S (state-sized S h .size)
         let e : length (take n rest) ≡ length (drop n rest) = l ∙ sym (length-drop n rest ∙ other) in
         let two : 2 + n ≡ suc (suc n) = omega arith in
         let es = entriesOf 0 (take n rest) (drop n rest) in
-        rw two (λ k. count l e k ∷ next ∷ ((λ k. owners-entriesOf 0 (take n rest) (drop n rest) e k ++ words-entriesOf 0 (take n rest) (drop n rest) e k) ∙ take-append-drop n rest) k)
+        rw two (λ k. count l e k ∷ next ∷
+        ((λ k. owners-entriesOf 0 (take n rest) (drop n rest) e k ++ words-entriesOf 0 (take n rest) (drop n rest) e k) ∙ take-append-drop n rest) k)
       where
         shorter : min n (length rest) ≡ n
         shorter = omega arith
@@ -129,7 +133,8 @@ stateWords-stateOf S h = go S (state-sized S h .size)
         other = omega arith
 
         count : length (take n rest) ≡ n → length (take n rest) ≡ length (drop n rest) → length (entriesOf 0 (take n rest) (drop n rest)) ≡ n
-        count l e = sym (length-map (entriesOf 0 (take n rest) (drop n rest)) (λ e. e .owner)) ∙ ap length (owners-entriesOf 0 (take n rest) (drop n rest) e) ∙ l
+        count l e =
+            sym (length-map (entriesOf 0 (take n rest) (drop n rest)) (λ e. e .owner)) ∙ ap length (owners-entriesOf 0 (take n rest) (drop n rest) e) ∙ l
 
 -- a value read from words fits its field
 pub stateOf-small : (S : List ℕ) → Small (stateOf S .entries)

@@ -1,20 +1,22 @@
 -- What is true of every rule of an accepted table, as facts on the decoded rule.
 use Prim.Native.Nat.{ℕ, _+_, _≤_, _<_}
 use mathlib.Core.Bool.{Bool, true, false, _&&_, _||_, not, cond}
-use mathlib.Core.List.{List, map}
+use mathlib.Core.List.{List}
 use mathlib.Core.Logic.{_⊎_, inl, inr, ⊎-elim}
 use mathlib.Core.Path.{_≡_, refl, sym, ap, subst, _∙_}
 use native.Mathlib.Omega.{arith}
 use lib.Dec.{leb, ltb, eqb}
 use lib.ListN.{length, getD, length-map}
 use borrow.Author.Tests.{ltb-true, leb-true, eqb-true, eqb-false, eq-eqb, ne-eqb, le-leb, not-true}
-use Rattle.lists.specs.Lists.{any, count, keep, risesFrom}
-use Rattle.lists.specs.Choices.{by-bool, and-intro, and-left, and-right, and-three, or-cases, or-right, given-holds}
+use Rattle.lists.specs.Lists.{count, risesFrom}
+use Rattle.lists.specs.Tests.{or-right-true}
+use Rattle.lists.specs.Choices.{by-bool, and-intro, and-right, and-three, or-cases, given-holds}
 use Rattle.lists.specs.Members.{Among, all-each, any-some, any-intro, among-map, among-keep}
 use Rattle.lists.specs.Counting.{count-map, any-count}
 use Rattle.lists.specs.Rising.{rises-map}
 use Rattle.semantics.specs.Words.{atomRole, atomMode, portOf, valueOf}
-use Rattle.semantics.specs.Table.{Table, Rule, sizesOf, portCount, classOf, isRole, modeOk, markOk, atomOk, shapeOf, ruleOk, atomValue, atomOf, ruleOf, tableOf, ruleAt}
+use Rattle.semantics.specs.Table.{Table, Rule, sizesOf, portCount, classOf, isRole, modeOk, markOk, atomOk, shapeOf, atomValue, atomOf}
+use Rattle.semantics.specs.Table.{ruleOf, tableOf, ruleAt}
 use Rattle.semantics.specs.Table.{hasRole, consumed, productAtoms, begins}
 use Rattle.semantics.specs.Answers.{tableVerdict}
 use Rattle.semantics.specs.declared.Sizes.{Sizes}
@@ -22,7 +24,8 @@ use Rattle.semantics.specs.declared.Atom.{Atom}
 use Rattle.semantics.specs.declared.AtomValue.{AtomValue}
 use Rattle.semantics.specs.declared.AtomValue.the-variants.{Constant, Received}
 use Rattle.semantics.specs.declared.Verdict.the-variants.{Allowed}
-use Rattle.wellformed.specs.Tables.{well-formed, RuleFits, rule-fits, atom-fits, sizes-tableOf, length-rules, ruleAt-tableOf, wordsOfRule, rule-has, consumed-length}
+use Rattle.wellformed.specs.Tables.{well-formed, RuleFits, rule-fits, atom-fits, sizes-tableOf, length-rules, ruleAt-tableOf, wordsOfRule}
+use Rattle.wellformed.specs.Tables.{rule-has, consumed-length}
 
 -- what an atom's value needs of its rule
 abbrev pub ValueRight : ℕ → AtomValue → Type 0
@@ -73,7 +76,8 @@ module _ (z : Sizes) (ws : List ℕ) where
 
   mark-bare : (w : ℕ) → markOk w ≡ true → (atomRole w ≡ 2) ⊎ (atomRole w ≡ 5) → (atomOf w .port ≡ 0) × (atomOf w .value ≡ Constant 0)
   mark-bare w h r =
-      let role : isRole 2 w || isRole 5 w ≡ true = ⊎-elim (λ q. rw (eq-eqb (atomRole w) 2 q)) (λ q. or-right (isRole 2 w) (isRole 5 w) (eq-eqb (atomRole w) 5 q)) r in
+      let role : isRole 2 w || isRole 5 w ≡ true = ⊎-elim (λ q. rw (eq-eqb (atomRole w) 2 q))
+      (λ q. or-right-true (isRole 2 w) (eq-eqb (atomRole w) 5 q)) r in
       let k = given-holds (isRole 2 w || isRole 5 w) (eqb (atomMode w) 0 && eqb (portOf w) 0 && eqb (valueOf w) 0) h role in
       let (mode, port, value) = and-three (eqb (atomMode w) 0) (eqb (portOf w) 0) (eqb (valueOf w) 0) k in
       let m = eqb-true (atomMode w) 0 mode in
@@ -101,7 +105,8 @@ module _ (z : Sizes) (ws : List ℕ) where
             (given-holds (isRole 1 w && eqb (s .class) 0) global (f .emit) (and-intro (eq-eqb (atomRole w) 1 e) (eq-eqb (s .class) 0 c)));
         mark-bare = mark-bare w (f .mark);
         begun = λ c l. some-begins (leb-true 1 (s .begins)
-            (given-holds (eqb (s .class) 0 && leb 3 (atomRole w)) (leb 1 (s .begins)) (f .begin) (and-intro (eq-eqb (s .class) 0 c) (le-leb 3 (atomRole w) l))));
+            (given-holds (eqb (s .class) 0 && leb 3 (atomRole w)) (leb 1 (s .begins)) (f .begin)
+            (and-intro (eq-eqb (s .class) 0 c) (le-leb 3 (atomRole w) l))));
         inner = λ n. roles (given-holds (not (eqb (s .class) 0)) (isRole 0 w || isRole 1 w || isRole 5 w) (f .inner) (rw (ne-eqb (s .class) 0 n)));
         compensate-global = λ e. ltb-true (portOf w) (z .globals) (given-holds (isRole 4 w) global (f .compensate) (eq-eqb (atomRole w) 4 e));
       }

@@ -8,7 +8,8 @@ use Rattle.semantics.specs.Table.{tableOf}
 use Rattle.semantics.specs.State.{State, entryCount, stateOf, stateWords}
 use Rattle.semantics.specs.Move.{unless, both}
 use Rattle.semantics.specs.Log.{movesOf, logSizesOk, Ran, ended, stopped, run}
-use Rattle.semantics.specs.Answers.{stateVerdict, answerOf, Result, write, refuseMove, outcomeOf, unlessDenied, hasWords, ranResult, logVerdict, runOf, runResult}
+use Rattle.semantics.specs.Answers.{stateVerdict, answerOf, Result, write, refuseMove, outcomeOf, unlessDenied, hasWords, ranResult, logVerdict}
+use Rattle.semantics.specs.Answers.{runOf, runResult}
 use Rattle.semantics.specs.declared.Refusal.{Refusal}
 use Rattle.semantics.specs.declared.Refusal.the-variants.{LogSizes}
 use Rattle.semantics.specs.declared.Verdict.{Verdict}
@@ -52,7 +53,9 @@ run-refused ceiling T S L target i r h =
     (ranResult-refuse (runOf ceiling T S L) i r (unlessDenied-refuse (both (logVerdict T S L) (hasWords 2050 target)) (ranResult (runOf ceiling T S L)) i r h))
 
 -- so have single calls one after another: no later one is refused for its table, its state or its target (1 to 4, 6)
-pub one-by-one-refused : (ceiling : ℕ) → ceiling ≤ 1024 → (T S target : List ℕ) → stateVerdict T S ≡ Allowed → 2050 ≤ length target → (ms : List (List ℕ)) (i : ℕ) (r : Refusal)
+pub one-by-one-refused : (ceiling : ℕ) → ceiling ≤ 1024 → (T S target : List ℕ) → stateVerdict T S ≡ Allowed → 2050 ≤ length target
+    → (ms : List (List ℕ)) (i : ℕ) (r : Refusal)
     → oneByOne ceiling T S ms target ≡ refuseMove i r → OwnNumber r
 one-by-one-refused ceiling c T S target h l ms i r e =
-    stopped-number ceiling (tableOf T) 0 (stateOf S) ms i r (ranResult-refuse (run ceiling (tableOf T) 0 (stateOf S) ms) i r (run-one-by-one ceiling c T S target h l ms ∙ e))
+    stopped-number ceiling (tableOf T) 0 (stateOf S) ms i r
+    (ranResult-refuse (run ceiling (tableOf T) 0 (stateOf S) ms) i r (run-one-by-one ceiling c T S target h l ms ∙ e))

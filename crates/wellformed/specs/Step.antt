@@ -16,7 +16,8 @@ use Rattle.semantics.specs.declared.Verdict.{Verdict}
 use Rattle.semantics.specs.declared.Verdict.the-variants.{Allowed, Denied}
 use Rattle.wellformed.specs.Length.{length-maker}
 
-within-step : (ceiling : ℕ) (v : Verdict) (s : State) → within ceiling (steppedBy v s) ≡ steppedBy (both v (unless (leb (length (s .entries)) ceiling) TooManyEntries)) s
+within-step : (ceiling : ℕ) (v : Verdict) (s : State)
+    → within ceiling (steppedBy v s) ≡ steppedBy (both v (unless (leb (length (s .entries)) ceiling) TooManyEntries)) s
 within-step ceiling Allowed s = go (leb (length (s .entries)) ceiling)
   where
     go : (b : Bool) → cond b (to s) (refused TooManyEntries) ≡ steppedBy (unless b TooManyEntries) s
@@ -31,7 +32,8 @@ unfolding stepWords step moveVerdict
 stepWords-verdict ceiling t i s m =
     ap (λ (x : Stepped). cond (moveOk t m) x (refused MoveForm))
     (within-step ceiling (allowed t s (moveOf t m)) (applied t i s (moveOf t m))
-    ∙ ap (λ (n : ℕ). steppedBy (both (allowed t s (moveOf t m)) (unless (leb n ceiling) TooManyEntries)) (applied t i s (moveOf t m))) (length-maker t i 0 s (moveOf t m)))
+    ∙ ap (λ (n : ℕ). steppedBy (both (allowed t s (moveOf t m)) (unless (leb n ceiling) TooManyEntries)) (applied t i s (moveOf t m)))
+    (length-maker t i 0 s (moveOf t m)))
 
 pub refused≢to : {r : Refusal} {s : State} → refused r ≡ to s → ⊥
 refused≢to h = let z : _≡_ {A = ℕ} 0 1 = cc in omega arith
@@ -43,11 +45,13 @@ pub record AcceptedMove (ceiling : ℕ) (t : Table) (i : ℕ) (s : State) (m : L
   pub fits : length (s′ .entries) ≤ ceiling
 
 -- what an accepted move has passed, and what it leaves
-pub accepted-move : (ceiling : ℕ) (t : Table) (i : ℕ) (s : State) (m : List ℕ) (s′ : State) → stepWords ceiling t i s m ≡ to s′ → AcceptedMove ceiling t i s m s′
+pub accepted-move : (ceiling : ℕ) (t : Table) (i : ℕ) (s : State) (m : List ℕ) (s′ : State) → stepWords ceiling t i s m ≡ to s′
+    → AcceptedMove ceiling t i s m s′
 unfolding stepWords step
 accepted-move ceiling t i s m s′ = go (moveOk t m) refl (allowed t s (moveOf t m)) refl (leb (length (applied t i s (moveOf t m) .entries)) ceiling) refl
   where
-    go : (b : Bool) → moveOk t m ≡ b → (v : Verdict) → allowed t s (moveOf t m) ≡ v → (c : Bool) → leb (length (applied t i s (moveOf t m) .entries)) ceiling ≡ c
+    go : (b : Bool) → moveOk t m ≡ b → (v : Verdict) → allowed t s (moveOf t m) ≡ v → (c : Bool)
+        → leb (length (applied t i s (moveOf t m) .entries)) ceiling ≡ c
         → cond b (within ceiling (steppedBy v (applied t i s (moveOf t m)))) (refused MoveForm) ≡ to s′ → AcceptedMove ceiling t i s m s′
     go false p v q c l h = absurd (refused≢to h)
     go true p (Denied r) q c l h = absurd (refused≢to h)

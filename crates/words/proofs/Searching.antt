@@ -1,16 +1,13 @@
 -- The search, chunk by chunk: none before a place has the word.
-use Prim.Native.Nat.{ℕ, _+_, _-_, _%_, _≤_, _<_}
-use mathlib.Core.Bool.{false, true≢false}
+use Prim.Native.Nat.{ℕ, _+_, _%_, _≤_, _<_}
+use mathlib.Core.Bool.{false}
 use mathlib.Core.List.{List}
-use mathlib.Core.Path.{_≡_, refl, sym, ap, subst, _∙_}
-use native.Mathlib.Nat.{zero-add}
+use mathlib.Core.Path.{_≡_}
 use native.Mathlib.Omega.{arith}
-use borrow.Author.Tests.{ltb-true, ltb-false, eq-eqb}
-use lib.Dec.{ltb, eqb}
+use borrow.Author.Tests.{ltb-true, ltb-false}
+use lib.Dec.{ltb}
 use lib.ListN.{length, getD}
 use Rattle.lists.specs.Choices.{by-bool}
-use Rattle.lists.specs.Members.{Among, any-intro, getD-among}
-use Rattle.lists.specs.Rows.{rows, length-rows, getD-rows}
 use Rattle.words.specs.Search.{inChunk, chunk-lacks}
 
 -- no word before a place, in whole chunks, is x

@@ -26,7 +26,13 @@ module _ (from old : List ℕ) (n : ℕ) (h : n ≤ length from) where
   copied-at at r e =
       let all : length (drop at old) ≤ length old - at = omega (arith, length-drop at old) in
       let value : take at old ++ (over (take n from) (take (length old - at) (drop at old)) ++ drop (length old - at) (drop at old)) ≡ paste old at from n =
-      rw (take-all (length old - at) (drop at old) all, drop-of-length-le (drop at old) all, append-nil (over (take n from) (drop at old)), length-take-le n from h, drop-drop n at old)
+      rw (
+        take-all (length old - at) (drop at old) all,
+        drop-of-length-le (drop at old) all,
+        append-nil (over (take n from) (drop at old)),
+        length-take-le n from h,
+        drop-drop n at old,
+      )
       (sym (append-assoc (take at old) (take n from) (drop (at + n) old))) in
       record {
         value = rw e value;

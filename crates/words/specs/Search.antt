@@ -22,8 +22,10 @@ unfolding inChunk
 chunk-lacks words from x h j low high e =
     let f : ℕ → ℕ = λ j. getD words (from + j) 0 in
     let at : from + (j - from) ≡ j = omega arith in
-    let there : getD (rows f 0 32) (j - from) 0 ≡ x = getD-rows 0 f 0 32 (j - from) (omega arith) ∙ ap f (zero-add (j - from)) ∙ ap (λ (k : ℕ). getD words k 0) at ∙ e in
-    let among : Among x (rows f 0 32) = subst (λ (w : ℕ). Among w (rows f 0 32)) there (getD-among 0 (rows f 0 32) (j - from) (omega (arith, length-rows f 0 32))) in
+    let there : getD (rows f 0 32) (j - from) 0 ≡ x = getD-rows 0 f 0 32 (j - from) (omega arith) ∙ ap f (zero-add (j - from))
+    ∙ ap (λ (k : ℕ). getD words k 0) at ∙ e in
+    let among : Among x (rows f 0 32) = subst (λ (w : ℕ). Among w (rows f 0 32)) there
+    (getD-among 0 (rows f 0 32) (j - from) (omega (arith, length-rows f 0 32))) in
     true≢false (sym (any-intro (λ w. eqb w x) (rows f 0 32) x among (eq-eqb x x refl)) ∙ h)
 
 -- the chunk from a place on ends at r, of n places

@@ -7,7 +7,8 @@ returns : tie.Need-returns
 returns c ws =
     let used = c .before .before in
     let start = used .before .before .before .before .before .before .before in
-    words-made (used .before .before .before .head-at .ensures) (used .before .head-again .ensures ws) (used .picks-used .ensures) (c .before .wanted-at .ensures)
+    words-made (used .before .before .before .head-at .ensures) (used .before .head-again .ensures ws) (used .picks-used .ensures)
+    (c .before .wanted-at .ensures)
     (c .places-of .ensures (start .args .owners .now) ws)
 
 pub again-at-spec : {M : Type 1} → statement M

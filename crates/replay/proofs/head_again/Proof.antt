@@ -14,7 +14,8 @@ returns-2 c ws =
     let kind = owner .before .before .before in
     let a = kind .before .args in
     c .head-of .ensures ∙ (rw (c .before .before .number-of .ensures)
-    (head-commit _ _ _ (λ e. owner .before .before .if1 .left (kind .kind-of .ensures ∙ e)) (owner .owner-at .ensures ws (a .origins .now)) (owner .before .place-of .ensures .0 (a .owners .now) ws)
+    (head-commit _ _ _ (λ e. owner .before .before .if1 .left (kind .kind-of .ensures ∙ e)) (owner .owner-at .ensures ws (a .origins .now))
+    (owner .before .place-of .ensures .0 (a .owners .now) ws)
     (sym (kind .kind-of .ensures) ∙ c .before .if2 .taken)))
 
 returns-3 : tie.Need-returns-3
@@ -23,11 +24,13 @@ returns-3 c ws =
     let kind = owner .before .before .before in
     let a = kind .before .args in
     c .head-of2 .ensures ∙ (rw (c .before .before .number-of .ensures)
-    (head-abort _ _ _ (λ e. owner .before .before .if1 .left (kind .kind-of .ensures ∙ e)) (owner .owner-at .ensures ws (a .origins .now)) (owner .before .place-of .ensures .0 (a .owners .now) ws)
+    (head-abort _ _ _ (λ e. owner .before .before .if1 .left (kind .kind-of .ensures ∙ e)) (owner .owner-at .ensures ws (a .origins .now))
+    (owner .before .place-of .ensures .0 (a .owners .now) ws)
     (λ e. c .before .if2 .left (kind .kind-of .ensures ∙ e))))
 
 pub head-again-spec : {M : Type 1} → statement M
 head-again-spec =
     tie.close
-    (tie.spec (λ c κs. search needs) returns (λ c κs. search needs) (λ c κs. search needs) (λ c κs. search needs) (λ c κs. (omega arith, omega (arith, c .before .number-of .ensures)))
+    (tie.spec (λ c κs. search needs) returns (λ c κs. search needs) (λ c κs. search needs) (λ c κs. search needs)
+    (λ c κs. (omega arith, omega (arith, c .before .number-of .ensures)))
     (λ c κs. (omega arith, omega (arith, c .before .number-of .ensures))) returns-2 returns-3)

@@ -18,8 +18,11 @@ returns-2 : tie.Need-returns-2
 returns-2 c =
     let kind = c .before .before .before .before .before in
     let t = kind .before .before .args .table .now in
-    let e = ap (λ (z : Sizes). z .rules) (c .before .before .sizes-of .ensures) in
-    (used-no-rule t _ (sym (kind .kind-of .ensures) ∙ c .before .before .before .before .if1 .left) (omega (arith, e, c .before .before .before .number-of .ensures, c .if2 .taken)), omega arith)
+    let e = ap (λ (z : Sizes). z .rules) (c .before .before .sizes-of .ensures) in (
+      used-no-rule t _ (sym (kind .kind-of .ensures) ∙ c .before .before .before .before .if1 .left)
+          (omega (arith, e, c .before .before .before .number-of .ensures, c .if2 .taken)),
+      omega arith,
+    )
 
 consumes-at-requires : tie.Need-consumes-at-requires
 consumes-at-requires c κs =
@@ -30,9 +33,13 @@ returns-3 : tie.Need-returns-3
 returns-3 c =
     let kind = c .before .before .before .before .before .before in
     let a = kind .before .before .args in
-    let number = c .before .before .before .before .number-of .ensures in
-    ((rw number at (c .consumes-at .ensures .0)) ∙ sym (used-rule (tableOf (a .table .now)) (a .head) (sym (kind .kind-of .ensures) ∙ c .before .before .before .before .before .if1 .left)), c .consumes-at .ensures .1)
+    let number = c .before .before .before .before .number-of .ensures in (
+      (rw number at (c .consumes-at .ensures .0)) ∙ sym (used-rule (tableOf (a .table .now)) (a .head)
+          (sym (kind .kind-of .ensures) ∙ c .before .before .before .before .before .if1 .left)),
+      c .consumes-at .ensures .1,
+    )
 
 pub picks-used-spec : {M : Type 1} → statement M
 picks-used-spec =
-    tie.close (tie.spec (λ c κs. search needs) returns (λ c κs. search needs) (λ c κs. well-formed _ (c .before .before .before .before .pre .table) .sizes .long) returns-2 consumes-at-requires returns-3)
+    tie.close (tie.spec (λ c κs. search needs) returns (λ c κs. search needs)
+    (λ c κs. well-formed _ (c .before .before .before .before .pre .table) .sizes .long) returns-2 consumes-at-requires returns-3)

@@ -1,8 +1,7 @@
-use mathlib.Core.Path.{ap, _∙_}
+use mathlib.Core.Path.{_∙_}
 use native.Mathlib.Omega.{arith}
 use borrow.Author.Needs.{needs}
-use Rattle.wellformed.specs.States.{state-sized}
-use Rattle.state.specs.Owners.{someOwned, open-words}
+use Rattle.state.specs.Owners.{open-words}
 use Rattle.calls.proofs.serials.open_in.Statement.{statement}
 use Rattle.calls.proofs.serials.open_in.Tie as tie
 

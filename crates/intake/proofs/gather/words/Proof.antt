@@ -5,13 +5,13 @@ use native.Mathlib.Numerals.{add-one}
 use native.Mathlib.Omega.{arith}
 use borrow.Author.Needs.{needs}
 use lib.ListN.{length, length-set}
-use Rattle.intake.proofs.Bytewise.{wordAfter, targetAfter, after-fits, gathered}
+use Rattle.intake.proofs.Bytewise.{wordAfter, gatheredAfter, after-fits, gathered}
 use Rattle.intake.proofs.gather.words.Statement.{statement}
 use Rattle.intake.proofs.gather.words.Tie as tie
 
 abbrev Inv-loop : tie.InvT-loop
 Inv-loop bytes target₀ n word₀ i₀ target word i =
-    (i ≤ 4 * n) × (length target ≡ length target₀) × (word ≡ wordAfter bytes i) × (target ≡ targetAfter bytes target₀ i)
+    (i ≤ 4 * n) × (length target ≡ length target₀) × (word ≡ wordAfter bytes i) × (target ≡ gatheredAfter bytes target₀ i)
 
 abbrev μ-loop : tie.MeasureT-loop
 μ-loop bytes target₀ n word₀ i₀ target word i = 4 * n - i

@@ -7,8 +7,8 @@ use Rattle.intake.proofs.parts.split.Tie as tie
 
 returns : tie.Need-returns
 returns c =
-    let k = c .before .before .before .before in
-    split-as _ _ _ (k .before .before .cuts-of .ensures) (c .verdict-of .ensures) (k .check .result) (k .check .ensures) refl
+    let k = c .before .before .before in
+    split-as _ _ _ (k .before .before .before .cuts-of .ensures) (k .ready .result) (k .ready .ensures) refl (c .verdict-of .ensures)
 
 pub split-spec : {M : Type 1} → statement M
 split-spec =
@@ -16,11 +16,11 @@ split-spec =
     (tie.spec
     (λ c κs. search needs)
     (λ c. search needs)
+    (λ c. search needs)
+    (λ c. search needs)
+    (λ c. search needs)
+    (λ c. search needs)
     (λ c κs. search needs)
-    (λ c. search needs)
-    (λ c. search needs)
-    (λ c. search needs)
-    (λ c. search needs)
     (λ c. search needs)
     (λ c. search needs)
     (λ c. search needs)

@@ -8,7 +8,8 @@ returns-2 : tie.Need-returns-2
 returns-2 c =
     let a = c .before .before .args in
     let p = c .before .before .pre in
-    chunk-unnoted (a .owners .now) (a .items .now) (a .origins .now) (a .id) (a .place) (a .from) (a .to) (p .1) (p .2) (sym (c .before .chunk-has .ensures) ∙ c .if1 .left) (p .4)
+    chunk-unnoted (a .owners .now) (a .items .now) (a .origins .now) (a .id) (a .place) (a .from) (a .to) (p .1) (p .2)
+    (sym (c .before .chunk-has .ensures) ∙ c .if1 .left) (p .4)
 
 pub note-chunk-spec : {M : Type 1} → statement M
 note-chunk-spec =

@@ -52,4 +52,5 @@ note-ends-spec =
     (λ c. (c .pre .0, omega arith, λ l. omega arith, no-rows _ _ _ _ (c .pre .1)))
     (λ c κs. (c .loop-test .taken, c .before .loop .inv .0 .fits))
     note-chunk-requires
-    (λ c. let to = c .before .before .chunk-end .ensures in omega (arith, to .more, to .within, c .before .before .before .loop-test .taken)) loop-again returns)
+    (λ c. let to = c .before .before .chunk-end .ensures in omega
+    (arith, to .more, to .within, c .before .before .before .loop-test .taken)) loop-again returns)

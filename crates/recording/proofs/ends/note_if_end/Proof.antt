@@ -16,4 +16,5 @@ note-if-end-spec =
     (λ c κs. let start = c .before .before .before .before in (start .pre .0, start .pre .2))
     (λ c.
     let kind = c .before .before .before .before in
-    rw (ne-eqb _ _ (λ e. c .before .before .before .if1 .left (kind .kind-of .ensures ∙ e))) (rw (c .before .before .number-of .ensures) at (c .note-ends .ensures))))
+    rw (ne-eqb _ _ (λ e. c .before .before .before .if1 .left (kind .kind-of .ensures ∙ e)))
+    (rw (c .before .before .number-of .ensures) at (c .note-ends .ensures))))

@@ -27,7 +27,8 @@ loop-again c =
       lent,
       omega arith,
       omega arith,
-      rows-noted _ (a .id) (a .place) (a .from) (l .i) (l .i + 1) low (omega arith) noted (row-noted (a .owners .now) (a .items .now) (a .origins .now) (a .id) (a .place) (l .i) (read .begun-by .ensures) (c .note-end .ensures)),
+      rows-noted _ (a .id) (a .place) (a .from) (l .i) (l .i + 1) low (omega arith) noted
+          (row-noted (a .owners .now) (a .items .now) (a .origins .now) (a .id) (a .place) (l .i) (read .begun-by .ensures) (c .note-end .ensures)),
     )
 
 returns : tie.Need-returns Inv μ

@@ -13,4 +13,7 @@ note-begin-spec =
     (λ c. (rw (eq-eqb _ _ (c .if1 .taken)), rw (eq-eqb _ _ (c .if1 .taken))))
     (λ c. search needs) (λ c. search needs) (λ c κs. (omega arith, omega arith)) (λ c. search needs) (λ c. search needs) (λ c. search needs)
     (λ c. search needs) (λ c. search needs) (λ c. search needs)
-    (λ c. (rw (ne-eqb _ _ (c .before .if1 .left), c .origin-of .ensures ∙ add-zero _), rw (ne-eqb _ _ (c .before .if1 .left), c .origin-of .ensures ∙ add-zero _))))
+    (λ c. (
+      rw (ne-eqb _ _ (c .before .if1 .left), c .origin-of .ensures ∙ add-zero _),
+      rw (ne-eqb _ _ (c .before .if1 .left), c .origin-of .ensures ∙ add-zero _),
+    )))

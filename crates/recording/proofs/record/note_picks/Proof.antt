@@ -21,7 +21,8 @@ returns c =
     let first = second .before in
     let a = first .before .before .args in
     let e : first .word-at .result ∷ second .word-at2 .result ∷ third .word-at3 .result ∷ fourth .word-at4 .result ∷ [] ≡ wordsAt (a .column .now) (a .t2) =
-    rw (first .word-at .ensures, second .word-at2 .ensures, third .word-at3 .ensures, fourth .word-at4 .ensures) (four-words (a .column .now) (a .t2) (four-picks (first .before .before))) in
+    rw (first .word-at .ensures, second .word-at2 .ensures, third .word-at3 .ensures, fourth .word-at4 .ensures)
+    (four-words (a .column .now) (a .t2) (four-picks (first .before .before))) in
     subst (λ (found : List ℕ). Pasted (a .wanted .now) (4 * a .i) found 4 (put .put-picks .last .0)) e (put .put-picks .ensures)
 
 pub note-picks-spec : {M : Type 1} → statement M

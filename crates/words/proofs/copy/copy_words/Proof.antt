@@ -1,11 +1,10 @@
 -- `copy_words` meets its contract: i words are copied.
 use Prim.Native.Nat.{_-_}
-use mathlib.Core.Path.{_≡_, _∙_}
+use mathlib.Core.Path.{_∙_}
 use mathlib.Core.List.{[]}
 use native.Mathlib.Nat.{zero-add}
 use native.Mathlib.Omega.{arith}
 use borrow.Author.Needs.{needs}
-use lib.ListN.{length}
 use Rattle.lists.specs.Over.{Pasting, pasting-start, pasting-next, pasting-done, over-column}
 use Rattle.words.proofs.copy.copy_words.Statement.{statement}
 use Rattle.words.proofs.copy.copy_words.Tie as tie

@@ -31,4 +31,5 @@ returns c = finding-done (rows-tails _ _) (c .before .loop .inv .2) (c .loop-tes
 pub chunk-has-spec : {M : Type 1} → statement M
 chunk-has-spec =
     tie.close
-    (tie.spec Inv μ (λ c. (c .pre .0, c .pre .1, finding-start _ _ _)) (λ c. search needs) (λ c. search needs) (λ c. search needs) (λ c. search needs) (λ c. search needs) loop-again returns)
+    (tie.spec Inv μ (λ c. (c .pre .0, c .pre .1, finding-start _ _ _)) (λ c. search needs) (λ c. search needs) (λ c. search needs) (λ c. search needs)
+    (λ c. search needs) loop-again returns)

@@ -1,0 +1,51 @@
+-- `run_and_store` meets its contract (`Running`).
+use native.Mathlib.Omega.{arith}
+use Rattle.ready.specs.Ready.{ready-sizes}
+use Rattle.run.specs.Whole.{words-prepared, loaded-workable}
+use Rattle.calls.proofs.Running.{finish-refused, finish-written}
+use borrow.Author.Needs.{needs}
+use Rattle.calls.proofs.logs.run_and_store.Statement.{statement}
+use Rattle.calls.proofs.logs.run_and_store.Tie as tie
+
+load-requires : tie.Need-load-requires
+load-requires c κs =
+    let p = c .before .before .before .before .before .before .before .before .before .before .before .pre in
+    (ready-sizes (p .ready), search needs)
+
+run-log-requires : tie.Need-run-log-requires
+run-log-requires c κs =
+    let p = c .before .before .before .before .before .before .before .before .before .before .before .before .before .before .before .pre in
+    let loaded = c .before .before .before .load .ensures in
+    record { prepared = words-prepared _ _ (p .ready .accepted) (p .ready .starts) (p .sizes); workable = loaded-workable _ (ready-sizes (p .ready)) loaded }
+
+returns : tie.Need-returns
+returns c =
+    let ran = c .before .before .before in
+    finish-refused _ _ _ _ (ran .before .before .before .before .load .ensures) (ran .run-log .ensures) (c .before .verdict .given .1)
+
+store-requires : tie.Need-store-requires
+store-requires c κs =
+    let ran = c .before .before .before .before .before in
+    let w = ran .run-log .ensures .workable in
+    let p = ran .before .before .before .before .before .before .before .before .before .before .before .before .before .before .before .before .pre in
+    (record { owners = w .arrays .owners; items = w .arrays .items; fits = w .bounds .fits }, omega (arith, w .bounds .fits, p .room))
+
+returns-2 : tie.Need-returns-2
+returns-2 c =
+    let ran = c .before .before .before .before .before .before .before .before in
+    finish-written _ _ _ _ (ran .before .before .before .before .load .ensures) (ran .run-log .ensures)
+    (c .before .before .before .before .before .before .enum-told .given .1) (c .before .before .store .ensures _)
+
+pub run-and-store-spec : {M : Type 1} → statement M
+run-and-store-spec =
+    tie.close
+    (tie.spec
+    (λ c κs. search needs)
+    load-requires
+    run-log-requires
+    (λ c. search needs)
+    returns
+    (λ c. search needs)
+    store-requires
+    (λ c. search needs)
+    returns-2)

@@ -1,0 +1,51 @@
+-- `make_and_store` meets its contract (`Moving`).
+use native.Mathlib.Omega.{arith}
+use Rattle.ready.specs.Ready.{ready-sizes}
+use Rattle.run.specs.Whole.{words-indexed, loaded-workable}
+use Rattle.calls.proofs.Moving.{moved-refused, moved-written}
+use borrow.Author.Needs.{needs}
+use Rattle.calls.proofs.moves.make_and_store.Statement.{statement}
+use Rattle.calls.proofs.moves.make_and_store.Tie as tie
+
+load-requires : tie.Need-load-requires
+load-requires c κs =
+    let p = c .before .before .before .before .before .before .before .before .before .before .pre in
+    (ready-sizes (p .ready), search needs)
+
+make-requires : tie.Need-make-requires
+make-requires c κs =
+    let p = c .before .before .before .before .before .before .before .before .before .before .before .before .before .before .pre in
+    let loaded = c .before .before .before .load .ensures in
+    record { indexed = words-indexed _ _ (p .ready .accepted) (p .ready .starts); maker-fits = omega arith; workable = loaded-workable _ (ready-sizes (p .ready)) loaded }
+
+returns : tie.Need-returns
+returns c =
+    let made = c .before .before .before in
+    moved-refused _ _ _ _ (made .before .before .before .before .load .ensures) (made .make .ensures) (c .before .verdict .given .1)
+
+store-requires : tie.Need-store-requires
+store-requires c κs =
+    let made = c .before .before .before .before .before in
+    let w = made .make .ensures .workable in
+    let p = made .before .before .before .before .before .before .before .before .before .before .before .before .before .before .before .pre in
+    (record { owners = w .arrays .owners; items = w .arrays .items; fits = w .bounds .fits }, omega (arith, w .bounds .fits, p .room))
+
+returns-2 : tie.Need-returns-2
+returns-2 c =
+    let made = c .before .before .before .before .before .before .before .before in
+    moved-written _ _ _ _ (made .before .before .before .before .load .ensures) (made .make .ensures)
+    (c .before .before .before .before .before .before .enum-told .given .1) (c .before .before .store .ensures _)
+
+pub make-and-store-spec : {M : Type 1} → statement M
+make-and-store-spec =
+    tie.close
+    (tie.spec
+    (λ c κs. search needs)
+    load-requires
+    make-requires
+    (λ c. search needs)
+    returns
+    (λ c. search needs)
+    store-requires
+    (λ c. search needs)
+    returns-2)
