@@ -9,7 +9,7 @@ use Rattle.semantics.specs.Answers.{Result, stateRoom, lineCeiling, runOf, ranR
 use Rattle.ready.specs.Ready.{Ready}
 
 -- all that is tested before the log is run
-pub record Runnable (t index s l target : List ℕ) : Type 0 where
+pub record LogReady (t index s l target : List ℕ) : Type 0 where
   pub ready : Ready t s index
   pub sizes : logSizesOk l ≡ true
   pub room : stateRoom ≤ length target

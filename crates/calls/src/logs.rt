@@ -1,7 +1,7 @@
 // The run of a log.
 ghost use mathlib.Core.Path.{_≡_};
 ghost use Rattle.semantics.specs.Answers.{answerOf, runLog, runLogTarget};
-ghost use Rattle.calls.specs.Logs.{Runnable, runMade};
+ghost use Rattle.calls.specs.Logs.{LogReady, runMade};
 ghost use Rattle.calls.specs.Results.{ComesTo};
 use ready::ready;
 use run::run_log;
@@ -18,7 +18,7 @@ fn run_and_store<'a>(
     log: &'a [u32],
     target: &mut [u32],
 ) -> Outcome
-    requires { ⌜ Runnable (now table) (now starts) (now state) (now log) (now target) ⌝ }
+    requires { ⌜ LogReady (now table) (now starts) (now state) (now log) (now target) ⌝ }
     ensures { λ r. ⌜ ComesTo (runMade (now (table .entry)) (now (state .entry)) (now (log .entry))) (now (target .entry)) (now (target .exit)) r ⌝ }
 {
     let s = State::empty();

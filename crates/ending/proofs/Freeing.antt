@@ -1,5 +1,5 @@
 -- An entry that stays when a transaction ends.
-use Prim.Native.Nat.{ℕ, _%_, _^_}
+use Prim.Native.Nat.{ℕ}
 use mathlib.Core.Path.{_≡_, refl}
 use mathlib.Core.Bool.{Bool, true, false, _&&_, _||_, not, cond, false≢true}
 use native.Mathlib.Omega.{arith}
@@ -9,25 +9,27 @@ use Rattle.lists.specs.Tests.{or-true}
 use Rattle.semantics.specs.Words.{itemKind, portOf, valueOf}
 use Rattle.semantics.specs.State.{Entry, owned}
 use Rattle.semantics.specs.Move.{toGlobal, freed}
+use Rattle.words.specs.Item.{asMessage}
 use Rattle.state.specs.Working.{entryFrom}
 
 -- an item without its kind is a message on the same port with the same value
-freed-item : (o x g : ℕ) → entryFrom 0 (x % 2 ^ 24) g ≡ toGlobal (entryFrom o x g)
+freed-item : (o x g : ℕ) → entryFrom 0 (asMessage x) g ≡ toGlobal (entryFrom o x g)
 freed-item o x g =
-    let k : itemKind (x % 2 ^ 24) ≡ 0 = omega arith in
-    let p : portOf (x % 2 ^ 24) ≡ portOf x = omega arith in
-    let v : valueOf (x % 2 ^ 24) ≡ valueOf x = omega arith in
+    let k : itemKind (asMessage x) ≡ 0 = omega arith in
+    let p : portOf (asMessage x) ≡ portOf x = omega arith in
+    let v : valueOf (asMessage x) ≡ valueOf x = omega arith in
     rw (k, p, v)
 
 pub freed-entry : (id kind o x g : ℕ) → not (eqb o id) || eqb (itemKind x) kind ≡ true
-    → entryFrom (cond (eqb o id) 0 o) (cond (eqb o id) (x % 2 ^ 24) x) g ≡ freed (λ e. eqb (e .kind) kind) id (entryFrom o x g)
+    → entryFrom (cond (eqb o id) 0 o) (cond (eqb o id) (asMessage x) x) g ≡ freed (λ e. eqb (e .kind) kind) id (entryFrom o x g)
 freed-entry id kind o x g = go (eqb o id) (eqb (itemKind x) kind)
   where
-    go : (a b : Bool) → not a || b ≡ true → entryFrom (cond a 0 o) (cond a (x % 2 ^ 24) x) g ≡ cond (a && b) (toGlobal (entryFrom o x g)) (entryFrom o x g)
+    go : (a b : Bool) → not a || b ≡ true → entryFrom (cond a 0 o) (cond a (asMessage x) x) g ≡ cond (a && b) (toGlobal (entryFrom o x g)) (entryFrom o x g)
     go true true h = freed-item o x g
     go true false h = absurd (false≢true h)
     go false b h = refl
 
 -- what it does not own stays as it is
-pub stays-as-is : (id kind : ℕ) (e : Entry) → not (owned id e) ≡ true → (not (owned id e) || eqb (e .kind) kind ≡ true) × (e ≡ freed (λ e. eqb (e .kind) kind) id e)
+pub stays-as-is : (id kind : ℕ) (e : Entry) → not (owned id e) ≡ true
+    → (not (owned id e) || eqb (e .kind) kind ≡ true) × (e ≡ freed (λ e. eqb (e .kind) kind) id e)
 stays-as-is id kind e h = (or-true (eqb (e .kind) kind) h, rw (not-true (owned id e) h))

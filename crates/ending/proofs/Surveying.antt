@@ -35,14 +35,16 @@ surveying-start id globals row n = record {
 
 module _ {id globals : ℕ} {row : ℕ → Entry} {n : ℕ} {o a m : Bool} {i : ℕ} (s : Surveying id globals row n o a m i) where
   pub surveying-next : i < n
-      → Surveying id globals row n (o || owned id (row i)) (a || owned id (row i) && isAbortMark (row i)) (m || owned id (row i) && inside globals (row i)) (i + 1)
+      → Surveying id globals row n (o || owned id (row i)) (a || owned id (row i) && isAbortMark (row i))
+      (m || owned id (row i) && inside globals (row i)) (i + 1)
   surveying-next l = record {
     open-so-far = finding-next (rows-tails row n) (s .open-so-far) l;
     aborting-so-far = finding-next (rows-tails row n) (s .aborting-so-far) l;
     inside-so-far = finding-next (rows-tails row n) (s .inside-so-far) l;
   }
 
-  pub surveying-done : n ≤ i → (next : ℕ) → Surveyed (record { «open» = o; aborting = a; inside = m }) (record { next = next; entries = rows row 0 n }) id globals
+  pub surveying-done : n ≤ i → (next : ℕ) → Surveyed (record { «open» = o; aborting = a; inside = m })
+      (record { next = next; entries = rows row 0 n }) id globals
   surveying-done l next = record {
     open-is = finding-done (rows-tails row n) (s .open-so-far) l;
     aborting-is = finding-done (rows-tails row n) (s .aborting-so-far) l ∙ any-keep isAbortMark (owned id) (rows row 0 n);
@@ -50,7 +52,8 @@ module _ {id globals : ℕ} {row : ℕ → Entry} {n : ℕ} {o a m : Bool} {i : 
   }
 
 -- the loop may begin at the first entry owned
-pub surveying-from : (id globals : ℕ) (row : ℕ → Entry) (n i : ℕ) → i ≤ n → allBelow i (λ k. not (owned id (row k))) ≡ true → Surveying id globals row n false false false i
+pub surveying-from : (id globals : ℕ) (row : ℕ → Entry) (n i : ℕ) → i ≤ n → allBelow i (λ k. not (owned id (row k))) ≡ true
+    → Surveying id globals row n false false false i
 surveying-from id globals row n zero l none = surveying-start id globals row n
 surveying-from id globals row n (suc i) l none =
     let (a, b) = and-both (allBelow i (λ k. not (owned id (row k)))) (not (owned id (row i))) none in
@@ -69,7 +72,8 @@ on-global globals e = go (isMessage e) (ltb (e .port) globals) refl
     go false b h = refl
 
 pub end-found : {r : Survey} {s : State} {id globals : ℕ} → Surveyed r s id globals → (kind : ℕ)
-    → both (unless (ltb 0 id && r .open) NoTransaction) (unless (cond (eqb kind 1) (not (r .aborting || r .inside)) (r .aborting)) EndNotAllowed) ≡ endVerdict kind globals id s
+    → both (unless (ltb 0 id && r .open) NoTransaction) (unless (cond (eqb kind 1) (not (r .aborting || r .inside)) (r .aborting)) EndNotAllowed)
+    ≡ endVerdict kind globals id s
 unfolding endVerdict
 end-found {id = id} {globals = globals} f kind =
     rw (f .open-is, f .aborting-is, f .inside-is, all-neither isAbortMark (inside globals) _ (λ e. ap (λ b. not (isAbortMark e) && b) (on-global globals e)) _)

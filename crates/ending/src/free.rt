@@ -1,5 +1,6 @@
 // What the end of a transaction leaves.
-ghost use Prim.Native.Nat.{_%_, _^_, _≤_};
+ghost use Prim.Native.Nat.{_≤_};
+ghost use Rattle.words.specs.Item.{asMessage};
 ghost use mathlib.Core.Path.{_≡_};
 ghost use mathlib.Core.Bool.{not, cond, _||_};
 ghost use lib.Dec.{eqb};
@@ -21,7 +22,7 @@ fn owner_after(owner: u32, id: u32) -> u32
 
 // The item of an entry that stays: what is freed becomes a message.
 fn item_after(owner: u32, item: u32, id: u32) -> u32
-    ensures { λ r. ⌜ r ≡ cond (eqb owner id) (item % 2 ^ 24) item ⌝ }
+    ensures { λ r. ⌜ r ≡ cond (eqb owner id) (asMessage item) item ⌝ }
 {
     if owner == id {
         item::as_message(item)

@@ -47,7 +47,8 @@ module _ (ws : List ℕ) (v : ℕ) (small : v < 65536) (sized : length ws ≡ 10
 
   -- Its bits, in the order of the contract; the shift loses nothing.
   word-bit : (k : ℕ) → bit word k ≡ (eqb k (v % 64) || bit (getD ws (v / 64) 0) k)
-  word-bit k = rw (bit-or, shl-exact {a = 1} 1 (v % 64) 64 (omega arith) (omega arith), one-mul, bit-pow) (or-comm (bit (getD ws (v / 64) 0) k) (eqb k (v % 64)))
+  word-bit k = rw (bit-or, shl-exact {a = 1} 1 (v % 64) 64 (omega arith) (omega arith), one-mul, bit-pow)
+      (or-comm (bit (getD ws (v / 64) 0) k) (eqb k (v % 64)))
 
   -- One number after the store: in v's word its bit decides, any other word is as it was.
   has-stored : (u : ℕ) (t : Bool) → eqb (u / 64) (v / 64) ≡ t → has (set ws (v / 64) word) u ≡ (eqb u v || has ws u)

@@ -26,6 +26,10 @@ or-true b e = rw e
 pub or-false : {a : Bool} (b : Bool) → a ≡ false → a || b ≡ b
 or-false b e = rw e
 
+pub or-end : (a : Bool) → a || false ≡ a
+or-end true = refl
+or-end false = refl
+
 pub or-right-true : (a : Bool) {b : Bool} → b ≡ true → a || b ≡ true
 or-right-true true e = refl
 or-right-true false e = e

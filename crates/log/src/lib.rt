@@ -1,8 +1,7 @@
 // A log: its form, and the words of each of its moves.
-ghost use Prim.Native.Nat.{ℕ, _+_, _*_, _<_};
+ghost use Prim.Native.Nat.{_+_, _*_, _<_};
 ghost use mathlib.Core.Path.{_≡_};
-ghost use mathlib.Core.Bool.{true};
-ghost use lib.ListN.{length, getD, take, drop};
+ghost use lib.ListN.{getD, take, drop};
 ghost use Rattle.semantics.specs.Log.{moveCount, moveAt, logSizesOk};
 ghost use Rattle.words.specs.Head.{wordsIn};
 ghost use Rattle.log.specs.Form.{Place};

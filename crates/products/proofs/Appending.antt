@@ -14,20 +14,21 @@ use Rattle.semantics.specs.declared.Atom.{Atom}
 use Rattle.rules.specs.declared.decode.Rule.{Rule}
 use Rattle.state.specs.Working.{entryFrom, rowOf, held}
 use Rattle.state.specs.Arrays.{Arrays, HoldsIn, stored-sized, stored-before, holds-of}
-use Rattle.products.specs.Narrow.{Ready}
+use Rattle.products.specs.Narrow.{Applicable}
 use Rattle.products.specs.Products.{ownerOfRole, ItemMade, productFrom, productsFrom}
 use Rattle.reaction.specs.Decoded.{blank}
 use Rattle.reaction.specs.Decoded.{makingAtoms, makingCount}
 
 -- Before product q of a reaction that is appended from place `at` on; `all` is what is to be made.
 pub record Making (x : Rule) (next home maker : ℕ) (got : List ℕ) (at q : ℕ) (os ws gs : List ℕ) (all : List Entry) : Type 0 where
-  pub ready : Ready x next maker
+  pub ready : Applicable x next maker
   pub arrays : Arrays os ws gs
   pub room : at + makingCount x ≤ 1024
-  pub ahead : Ahead (λ j. drop j (makingAtoms x)) (makingCount x) (λ atoms. rows (rowOf os ws gs) 0 (at + q) ++ productsFrom (x .class) next home got maker q atoms) q all
+  pub ahead : Ahead (λ j. drop j (makingAtoms x)) (makingCount x)
+      (λ atoms. rows (rowOf os ws gs) 0 (at + q) ++ productsFrom (x .class) next home got maker q atoms) q all
 
 module _ (x : Rule) (next home maker : ℕ) (got : List ℕ) where
-  pub making-start : (os ws gs : List ℕ) (at : ℕ) → Ready x next maker → Arrays os ws gs → at + makingCount x ≤ 1024
+  pub making-start : (os ws gs : List ℕ) (at : ℕ) → Applicable x next maker → Arrays os ws gs → at + makingCount x ≤ 1024
       → Making x next home maker got at 0 os ws gs (rows (rowOf os ws gs) 0 at ++ productsFrom (x .class) next home got maker 0 (makingAtoms x))
   making-start os ws gs at r a h = record { ready = r; arrays = a; room = h; ahead = record { within = omega arith; so-far = rw (add-zero at) } }
 

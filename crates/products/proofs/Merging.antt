@@ -1,8 +1,8 @@
 -- The owners found put under one of them, by four comparisons.
 use Prim.Native.Nat.{ℕ, _<_}
-use mathlib.Core.Path.{_≡_, refl, sym, ap, _∙_}
+use mathlib.Core.Path.{_≡_, sym, ap, _∙_}
 use native.Mathlib.Omega.{arith}
-use mathlib.Core.Bool.{Bool, true, false, _&&_, _||_, cond}
+use mathlib.Core.Bool.{Bool, true, _&&_, cond}
 use mathlib.Core.List.{List, [], _∷_, map}
 use borrow.Author.Tests.{eqb-true}
 use lib.Dec.{eqb}
@@ -14,10 +14,6 @@ use Rattle.semantics.specs.Move.{merged}
 use Rattle.state.specs.Working.{rowOf}
 use Rattle.products.specs.Products.{mergedOwner}
 use Rattle.reaction.specs.Four.{four-places}
-
-pub or-end : (b : Bool) → b || false ≡ b
-or-end true = refl
-or-end false = refl
 
 -- four that have the same elements
 pub four-merged : (few os : List ℕ) (home o : ℕ) → length few ≡ 4 → ((x : ℕ) → isIn x few ≡ isIn x os)

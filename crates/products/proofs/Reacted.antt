@@ -77,25 +77,38 @@ module _ (x : Rule) (d : Decodes x (ruleIn x)) (picks : List ℕ) (four : length
       rw (products-from (ruleIn x) σ (picked σ ps) i 0 (productAtoms (ruleIn x)), d .legal .products, least-is)
       (products-same (x .class) next (least (ownersAt σ ps)) (map valueOf found) (map (λ e. e .value) (picked σ ps)) (values-found e h) i 0 (makingAtoms x))
 
-  reacted-is : (i home : ℕ) {found received : List ℕ} {es : List Entry} → found ≡ fourAt os ps → received ≡ fourAt ws ps → home ≡ least (take (x .consumes) found)
+  reacted-is : (i home : ℕ) {found received : List ℕ} {es : List Entry} → found ≡ fourAt os ps → received ≡ fourAt ws ps
+      → home ≡ least (take (x .consumes) found)
       → es ≡ map (merged (take (x .consumes) found)) (without ps 0 (rows (rowOf os ws gs) 0 n))
-      → _≡_ {A = State} (record { next = nextAfter (x .begins) next; entries = es ++ productsFrom (x .class) next home (map valueOf received) i 0 (makingAtoms x) })
+      → _≡_ {A = State} (record {
+        next = nextAfter (x .begins) next;
+        entries =
+            es ++ productsFrom (x .class) next home (map valueOf received) i 0 (makingAtoms x);
+      })
       (reacted (ruleIn x) i (stateIn (held os ws gs at)) ps)
   unfolding stateIn reacted
   reacted-is i home {received = received} {es = es} ef er home-is left =
       let placed = places x d picks four os ws gs at (given .0 .ports) in
       let owners = owners-found x d picks four os ws gs at ef placed in
-      let kept : es ≡ map (merged (ownersAt σ ps)) (without ps 0 (σ .entries)) = left ∙ ap (λ (fs : List ℕ). map (merged fs) (without ps 0 (σ .entries))) owners in
-      let new : productsFrom (x .class) next home (map valueOf received) i 0 (makingAtoms x) ≡ products (ruleIn x) σ (picked σ ps) i 0 (productAtoms (ruleIn x)) =
+      let kept : es ≡ map (merged (ownersAt σ ps)) (without ps 0 (σ .entries)) = left
+      ∙ ap (λ (fs : List ℕ). map (merged fs) (without ps 0 (σ .entries))) owners in
+      let new : productsFrom (x .class) next home (map valueOf received) i 0 (makingAtoms x)
+      ≡ products (ruleIn x) σ (picked σ ps) i 0 (productAtoms (ruleIn x)) =
       products-found i home er placed (home-is ∙ ap least owners) in
       λ j. record { next = nextAfter (d .begins j) next; entries = kept j ++ new j }
 
   -- the picks taken out (os₁ ws₁ gs₁), the owners merged (os₂), the products appended
-  pub reacted-holds : (i home : ℕ) {found received : List ℕ} (os₁ ws₁ gs₁ os₂ : List ℕ) {s : columns.State} → found ≡ fourAt os ps → received ≡ fourAt ws ps → home ≡ least (take (x .consumes) found)
+  pub reacted-holds : (i home : ℕ) {found received : List ℕ} (os₁ ws₁ gs₁ os₂ : List ℕ) {s : columns.State} → found ≡ fourAt os ps
+      → received ≡ fourAt ws ps → home ≡ least (take (x .consumes) found)
       → rows (rowOf os₁ ws₁ gs₁) 0 (n - x .consumes) ≡ without ps 0 (rows (rowOf os ws gs) 0 n)
       → ((j : ℕ) → j < n - x .consumes → getD os₂ j 0 ≡ mergedOwner (take (x .consumes) found) home (getD os₁ j 0))
-      → HoldsIn s (record { next = nextAfter (x .begins) next; entries = rows (rowOf os₂ ws₁ gs₁) 0 (n - x .consumes) ++ productsFrom (x .class) next home (map valueOf received) i 0 (makingAtoms x) })
+      → HoldsIn s (record {
+        next = nextAfter (x .begins) next;
+        entries =
+            rows (rowOf os₂ ws₁ gs₁) 0 (n - x .consumes) ++ productsFrom (x .class) next home (map valueOf received) i 0 (makingAtoms x);
+      })
       → HoldsIn s (reacted (ruleIn x) i (stateIn (held os ws gs at)) ps)
   reacted-holds i home {found} os₁ ws₁ gs₁ os₂ {s} ef er home-is out same h =
-      let left = merged-rows os₁ os₂ ws₁ gs₁ (take (x .consumes) found) home (n - x .consumes) home-is same ∙ ap (map (merged (take (x .consumes) found))) out in
+      let left = merged-rows os₁ os₂ ws₁ gs₁ (take (x .consumes) found) home (n - x .consumes) home-is same
+      ∙ ap (map (merged (take (x .consumes) found))) out in
       subst (λ (τ : State). HoldsIn s τ) (reacted-is i home ef er home-is left) h

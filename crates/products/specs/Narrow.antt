@@ -25,7 +25,7 @@ pub record Narrow (a : Atom) : Type 0 where
   pub value : narrowValue (a .value)
 
 -- a rule that the code can react by, from a state of this next id, as this maker
-pub record Ready (x : Rule) (next maker : ℕ) : Type 0 where
+pub record Applicable (x : Rule) (next maker : ℕ) : Type 0 where
   pub rule : Decodes x (ruleIn x)
   pub narrow : (a : Atom) → Among a (ruleIn x .atoms) → Narrow a
   pub limit : next ≤ 65536
@@ -37,7 +37,7 @@ narrow-value n (Received i) h = tt
 
 -- every rule of an accepted table is
 pub rule-ready : (t : List ℕ) → tableVerdict t ≡ Allowed → (r : ℕ) → r < sizesOf t .rules → (x : Rule) → Decodes x (ruleAt (tableOf t) r)
-    → (next maker : ℕ) → next ≤ 65536 → maker ≤ 1024 → Ready x next maker
+    → (next maker : ℕ) → next ≤ 65536 → maker ≤ 1024 → Applicable x next maker
 rule-ready t h r l x d next maker n m =
     let right = rules-right t h r l in
     let ports = well-formed t h .sizes .ports in

@@ -48,7 +48,8 @@ productFrom class next home got o a = record {
 
 abbrev pub productsFrom : ℕ → ℕ → ℕ → List ℕ → ℕ → ℕ → List Atom → List Entry
 productsFrom class next home got i q [] = []
-productsFrom class next home got i q (a ∷ rest) = productFrom class next home got (record { maker = i; index = q }) a ∷ productsFrom class next home got i (suc q) rest
+productsFrom class next home got i q (a ∷ rest) = productFrom class next home got (record { maker = i; index = q }) a ∷ productsFrom class next home
+    got i (suc q) rest
 
 -- lent columns with the products appended
 abbrev pub appended : Rule → ℕ → List ℕ → ℕ → columns.State → State

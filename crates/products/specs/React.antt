@@ -10,11 +10,11 @@ use Rattle.state.specs.Working.{stateIn}
 use Rattle.state.specs.Arrays.{Arrays}
 use Rattle.reaction.specs.Decoded.{ruleIn}
 use Rattle.reaction.specs.Verdict.{reactVerdict}
-use Rattle.products.specs.Narrow.{Ready}
+use Rattle.products.specs.Narrow.{Applicable}
 
 -- the rule may react at these picks, as this maker
 pub record Permitted (x : Rule) (picks : List ℕ) (maker : ℕ) (s : State) : Type 0 where
   pub arrays : Arrays (s .owners) (s .items) (s .origins)
   pub fits : s .len ≤ 1024
-  pub ready : Ready x (s .next) maker
+  pub ready : Applicable x (s .next) maker
   pub verdict : reactVerdict 1024 (ruleIn x) (stateIn s) (take (x .consumes) picks) ≡ Allowed

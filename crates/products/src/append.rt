@@ -8,7 +8,7 @@ ghost use Rattle.semantics.specs.Move.{kindMade};
 ghost use Rattle.state.specs.Working.{held};
 ghost use Rattle.state.specs.Arrays.{Arrays, HoldsIn};
 ghost use Rattle.reaction.specs.Decoded.{makingCount};
-ghost use Rattle.products.specs.Narrow.{narrowValue, Narrow, Ready};
+ghost use Rattle.products.specs.Narrow.{narrowValue, Narrow, Applicable};
 ghost use Rattle.products.specs.Products.{ownerOfRole, nextAfter, valueMade, ItemMade, appended};
 use rules::decode::Rule;
 use semantics::Atom;
@@ -96,7 +96,7 @@ pub fn append_products(
 ) -> Extent
     requires columns { ⌜ Arrays (now owners) (now items) (now origins) ⌝ }
     requires room { ⌜ at .len + makingCount rule ≤ 1024 ⌝ }
-    requires rule { ⌜ Ready rule (at .next) maker × (rule .begins ≡ true → at .next < 65536) ⌝ }
+    requires rule { ⌜ Applicable rule (at .next) maker × (rule .begins ≡ true → at .next < 65536) ⌝ }
     ensures { λ r. ⌜ HoldsIn (held (now (owners .exit)) (now (items .exit)) (now (origins .exit)) r)
         (appended rule home received maker (held (now (owners .entry)) (now (items .entry)) (now (origins .entry)) at)) ⌝ }
 {

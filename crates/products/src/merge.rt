@@ -1,5 +1,5 @@
 // The owners of a reaction's picks put under one of them.
-ghost use Prim.Native.Nat.{ℕ, _+_, _-_, _≤_, _<_};
+ghost use Prim.Native.Nat.{ℕ, _≤_, _<_};
 ghost use mathlib.Core.Path.{_≡_};
 ghost use mathlib.Core.List.{[], _∷_};
 ghost use lib.ListN.{length, getD, take};
@@ -19,7 +19,8 @@ fn merged_owner(owner: u32, a: u32, b: u32, c: u32, d: u32, home: u32) -> u32
 // All entries of the owners found go under the smallest of them, home, not only the picked ones.
 pub fn merge(owners: &mut [u32; 1024], n: usize, found: [u32; 4], k: usize, home: u32)
     requires { ⌜ (length (now owners) ≡ 1024) × (n ≤ 1024) × (1 ≤ k) × (k ≤ 4) ⌝ }
-    ensures { λ _. ⌜ (length (now (owners .exit)) ≡ 1024) × ((j : ℕ) → j < n → getD (now (owners .exit)) j 0 ≡ mergedOwner (take k found) home (getD (now (owners .entry)) j 0)) ⌝ }
+    ensures { λ _. ⌜ (length (now (owners .exit)) ≡ 1024)
+        × ((j : ℕ) → j < n → getD (now (owners .exit)) j 0 ≡ mergedOwner (take k found) home (getD (now (owners .entry)) j 0)) ⌝ }
 {
     let few = repeated(found, k);
     let a = few[0];

@@ -27,7 +27,8 @@ three false true z = refl
 three false false true = refl
 three false false false = refl
 
-four : (x y z u v w : Bool) → not x && (not y && not z) && (not u && not v && not w) ≡ not (x || (y || (u || false))) && (not (z || (v || false)) && (not (w || false) && (true && true)))
+four : (x y z u v w : Bool) → not x && (not y && not z) && (not u && not v && not w)
+    ≡ not (x || (y || (u || false))) && (not (z || (v || false)) && (not (w || false) && (true && true)))
 four true y z u v w = refl
 four false true z u v w = refl
 four false false true true v w = refl
@@ -52,11 +53,13 @@ pairs-differ (a ∷ b ∷ c ∷ []) k l h = absurd (omega arith)
 pairs-differ (a ∷ b ∷ c ∷ d ∷ e ∷ f) k l h = absurd (omega arith)
 
 pub four-repeated : (f : List ℕ) (k : ℕ) → length f ≡ 4 → 1 ≤ k → k ≤ 4 → (x : ℕ)
-    → isIn x (getD f 0 0 ∷ cond (ltb 1 k) (getD f 1 0) (getD f 0 0) ∷ cond (ltb 2 k) (getD f 2 0) (getD f 0 0) ∷ cond (ltb 3 k) (getD f 3 0) (getD f 0 0) ∷ []) ≡ isIn x (take k f)
+    → isIn x (getD f 0 0 ∷ cond (ltb 1 k) (getD f 1 0) (getD f 0 0) ∷ cond (ltb 2 k) (getD f 2 0) (getD f 0 0) ∷ cond (ltb 3 k) (getD f 3 0)
+    (getD f 0 0) ∷ []) ≡ isIn x (take k f)
 four-repeated f k l h u x = go k h u ∙ sym (ap (λ g. isIn x (take k g)) (four-places f l))
   where
     go : (k : ℕ) → 1 ≤ k → k ≤ 4
-        → isIn x (getD f 0 0 ∷ cond (ltb 1 k) (getD f 1 0) (getD f 0 0) ∷ cond (ltb 2 k) (getD f 2 0) (getD f 0 0) ∷ cond (ltb 3 k) (getD f 3 0) (getD f 0 0) ∷ [])
+        → isIn x (getD f 0 0 ∷ cond (ltb 1 k) (getD f 1 0) (getD f 0 0) ∷ cond (ltb 2 k) (getD f 2 0) (getD f 0 0) ∷ cond (ltb 3 k) (getD f 3 0)
+        (getD f 0 0) ∷ [])
         ≡ isIn x (take k (getD f 0 0 ∷ getD f 1 0 ∷ getD f 2 0 ∷ getD f 3 0 ∷ []))
     go zero h u = absurd (omega arith)
     go (suc zero) h u = by-bool (eqb x (getD f 0 0)) (λ e. rw e) (λ e. rw e)

@@ -26,12 +26,14 @@ use Rattle.reaction.specs.Four.{four-places}
 
 -- a column at the first k of four picks, one by one
 pub four-at : (xs picks : List ℕ) (k : ℕ) → length picks ≡ 4 → k ≤ 4
-    → cond (ltb 0 k) (getD xs (getD picks 0 0) 0) 0 ∷ cond (ltb 1 k) (getD xs (getD picks 1 0) 0) 0 ∷ cond (ltb 2 k) (getD xs (getD picks 2 0) 0) 0 ∷ cond (ltb 3 k) (getD xs (getD picks 3 0) 0) 0 ∷ []
+    → cond (ltb 0 k) (getD xs (getD picks 0 0) 0) 0 ∷ cond (ltb 1 k) (getD xs (getD picks 1 0) 0) 0 ∷ cond (ltb 2 k) (getD xs (getD picks 2 0) 0)
+    0 ∷ cond (ltb 3 k) (getD xs (getD picks 3 0) 0) 0 ∷ []
     ≡ fourAt xs (take k picks)
 four-at xs picks k l h = go k h ∙ sym (ap (λ ps. fourAt xs (take k ps)) (four-places picks l))
   where
     go : (k : ℕ) → k ≤ 4
-        → cond (ltb 0 k) (getD xs (getD picks 0 0) 0) 0 ∷ cond (ltb 1 k) (getD xs (getD picks 1 0) 0) 0 ∷ cond (ltb 2 k) (getD xs (getD picks 2 0) 0) 0 ∷ cond (ltb 3 k) (getD xs (getD picks 3 0) 0) 0 ∷ []
+        → cond (ltb 0 k) (getD xs (getD picks 0 0) 0) 0 ∷ cond (ltb 1 k) (getD xs (getD picks 1 0) 0) 0 ∷ cond (ltb 2 k) (getD xs (getD picks 2 0) 0)
+        0 ∷ cond (ltb 3 k) (getD xs (getD picks 3 0) 0) 0 ∷ []
         ≡ fourAt xs (take k (getD picks 0 0 ∷ getD picks 1 0 ∷ getD picks 2 0 ∷ getD picks 3 0 ∷ []))
     go zero h = refl
     go (suc zero) h = refl
@@ -65,7 +67,8 @@ ports-each os ws gs n ports picks k l m =
 
 -- the ports of the first four atoms, of which those of the consumes count
 pub ports-four : (x : Rule) → Decodes x (ruleIn x)
-    → take (x .consumes) (getD (x .atoms) 0 blank .port ∷ getD (x .atoms) 1 blank .port ∷ getD (x .atoms) 2 blank .port ∷ getD (x .atoms) 3 blank .port ∷ []) ≡ consumed (ruleIn x)
+    → take (x .consumes) (getD (x .atoms) 0 blank .port ∷ getD (x .atoms) 1 blank .port ∷ getD (x .atoms) 2 blank .port ∷ getD (x .atoms) 3
+    blank .port ∷ []) ≡ consumed (ruleIn x)
 ports-four x d =
     let k = x .consumes in
     ap (λ atoms. take k (map (λ a. a .port) atoms)) (take-four (x .atoms) 0 blank (omega (arith, d .room)))

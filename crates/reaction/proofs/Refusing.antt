@@ -23,11 +23,13 @@ use Rattle.reaction.specs.Places.{entries}
 use Rattle.semantics.specs.Table as rules
 use Rattle.semantics.specs.State as semantics
 
-pub picks-found : (r : rules.Rule) (s : semantics.State) (ps : List ℕ) {a b : Bool} {ports : List ℕ} → a ≡ distinct ps → b ≡ onPorts ports (picked s ps) → ports ≡ consumed r
+pub picks-found : (r : rules.Rule) (s : semantics.State) (ps : List ℕ) {a b : Bool} {ports : List ℕ} → a ≡ distinct ps
+    → b ≡ onPorts ports (picked s ps) → ports ≡ consumed r
     → a && b ≡ picksOk r s ps
 picks-found r s ps p q e = rw (p, q, e)
 
-pub picks-parts : (r : rules.Rule) (s : semantics.State) (ps : List ℕ) → picksOk r s ps ≡ true → (distinct ps ≡ true) × (onPorts (consumed r) (picked s ps) ≡ true)
+pub picks-parts : (r : rules.Rule) (s : semantics.State) (ps : List ℕ) → picksOk r s ps ≡ true
+    → (distinct ps ≡ true) × (onPorts (consumed r) (picked s ps) ≡ true)
 picks-parts r s ps h = and-both (distinct ps) (onPorts (consumed r) (picked s ps)) h
 
 module _ (ceiling : ℕ) (r : rules.Rule) (s : semantics.State) (ps : List ℕ) where

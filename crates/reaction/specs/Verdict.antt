@@ -33,7 +33,8 @@ ownerFits class one o = cond (eqb class 0) (eqb o 0) (cond (eqb class 1) (ltb 0 
 unfoldable pub reactVerdict : ℕ → rules.Rule → State → List ℕ → Verdict
 reactVerdict ceiling r s ps = both (reactAllowed r s ps) (unless (leb (length (reacted r 0 s ps .entries)) ceiling) TooManyEntries)
 
-pub react-verdict-is : (ceiling : ℕ) (t : rules.Table) (s : State) (k : ℕ) (ps : List ℕ) → moveVerdict ceiling t s (react k ps) ≡ reactVerdict ceiling (rules.ruleAt t k) s ps
+pub react-verdict-is : (ceiling : ℕ) (t : rules.Table) (s : State) (k : ℕ) (ps : List ℕ)
+    → moveVerdict ceiling t s (react k ps) ≡ reactVerdict ceiling (rules.ruleAt t k) s ps
 unfolding moveVerdict allowed applied reactVerdict
 react-verdict-is ceiling t s k ps = refl
 
@@ -60,4 +61,11 @@ module _ (x : Rule) (d : Decodes x (ruleIn x)) (picks : List ℕ) (four : length
     picks-fit g = omega (arith, left-length g, count-picks x d picks four, length-rows (rowOf os ws gs) 0 n)
 
     pub count-left : (i : ℕ) → ReactGiven (ruleIn x) σ ps → length (reacted (ruleIn x) i σ ps .entries) ≡ n - x .consumes + makingCount x
-    count-left i g = omega (arith, length-reacted (ruleIn x) i σ ps, count-products x d, left-length g, count-picks x d picks four, length-rows (rowOf os ws gs) 0 n)
+    count-left i g = omega (
+      arith,
+      length-reacted (ruleIn x) i σ ps,
+      count-products x d,
+      left-length g,
+      count-picks x d picks four,
+      length-rows (rowOf os ws gs) 0 n,
+    )

@@ -28,7 +28,8 @@ use words::item::port_of;
 // Whether a message on this port stands at place p.
 fn message_on(items: &[u32; 1024], n: usize, p: usize, port: u16) -> bool
     requires { ⌜ (n ≤ 1024) × (length (now items) ≡ 1024) ⌝ }
-    ensures { λ r. ⌜ ((os gs : List ℕ) → r ≡ isMessage (entryAt (rows (rowOf os (now (items .entry)) gs) 0 n) p) && eqb (entryAt (rows (rowOf os (now (items .entry)) gs) 0 n) p .port) port) ⌝ }
+    ensures { λ r. ⌜ ((os gs : List ℕ) → r ≡ isMessage (entryAt (rows (rowOf os (now (items .entry)) gs) 0 n) p)
+        && eqb (entryAt (rows (rowOf os (now (items .entry)) gs) 0 n) p .port) port) ⌝ }
 {
     if n <= p {
         return false;

@@ -16,7 +16,6 @@ use Rattle.semantics.specs.Move.{to, moveOf, picksUsed, applied, step, stepWord
 use Rattle.semantics.specs.Log.{moveCount, moveAt, movesOf}
 use Rattle.semantics.specs.Serial.{Act, picksOf, membersOf, after, acts}
 use Rattle.semantics.specs.declared.Refusal.{Refusal}
-use Rattle.semantics.specs.declared.Verdict.{Verdict}
 use Rattle.semantics.specs.declared.Verdict.the-variants.{Allowed, Denied}
 use Rattle.wellformed.specs.Verdicts.{denied≢allowed}
 use Rattle.wellformed.specs.Tables.{sizes-tableOf}
@@ -64,7 +63,8 @@ endAfter-more : (p e : ℕ) (xs : List Act) (a : Act) → endAfter p e (xs ++ a 
 endAfter-more p e [] a = refl
 endAfter-more p e (x ∷ xs) a = endAfter-more p (cond (endsBegun p x) (x .place) e) xs a
 
-after-accepted : (ceiling : ℕ) (t : Table) (i : ℕ) (s : semantics.State) (w : List ℕ) (s′ : semantics.State) → stepWords ceiling t i s w ≡ to s′ → after t i s (moveOf t w) ≡ s′
+after-accepted : (ceiling : ℕ) (t : Table) (i : ℕ) (s : semantics.State) (w : List ℕ) (s′ : semantics.State) → stepWords ceiling t i s w ≡ to s′
+    → after t i s (moveOf t w) ≡ s′
 unfolding after step
 after-accepted ceiling t i s w s′ e = let a = accepted-move ceiling t i s w s′ e in rw (a .allows, a .result)
 
@@ -95,7 +95,8 @@ pub record Recording (T index l : List ℕ) (s₀ : State) (ceiling : ℕ) (befo
   pub held : Held (sizesOf T) (stateIn s)
   pub tracked : Tracked (s₀ .next) begun i (stateIn s)
   made : List Act
-  so-far : made ++ acts (tableOf T) i (stateIn s) (map (moveOf (tableOf T)) (movesFrom l i)) ≡ acts (tableOf T) 0 (stateIn s₀) (map (moveOf (tableOf T)) (movesOf l))
+  so-far : made ++ acts (tableOf T) i (stateIn s) (map (moveOf (tableOf T)) (movesFrom l i))
+      ≡ acts (tableOf T) 0 (stateIn s₀) (map (moveOf (tableOf T)) (movesOf l))
   each : All (Done (tableOf T) l origins members i) made
   ends : (p : ℕ) → p < 1024 → getD ended p 0 ≡ endAfter p (getD before p 0) made
 
@@ -142,9 +143,11 @@ module _ {T index l : List ℕ} {s₀ : State} {ceiling : ℕ} {before : List �
 
     -- a move is noted, decided and made
     module _ (more : i < moveCount l) {head : ℕ} {picks : List ℕ} (words : head ∷ picks ≡ moveAt l i) (four : length picks ≡ 4)
-        {origins′ members₁ ended′ : List ℕ} (noted : MoveNoted (s .owners) (s .items) (s .origins) (s .len) begun (s₀ .next) head picks i origins members ended origins′ members₁ ended′)
+        {origins′ members₁ ended′ : List ℕ} (noted : MoveNoted (s .owners) (s .items) (s .origins) (s .len) begun (s₀ .next) head picks i origins
+        members ended origins′ members₁ ended′)
         {x : Made} {s′ : State} (step : MadeAs x ceiling (tableOf T) (i + 1) (head ∷ picks) s s′)
-        {begun′ members′ : List ℕ} (marked : (begun′ ≡ ifGrown (s .next) (s′ .next) begun (s .next - s₀ .next) ((i + 1) * 1024)) × (members′ ≡ ifGrown (s .next) (s′ .next) members₁ i ((i + 1) * 1024)))
+        {begun′ members′ : List ℕ} (marked : (begun′ ≡ ifGrown (s .next) (s′ .next) begun (s .next - s₀ .next) ((i + 1) * 1024))
+        × (members′ ≡ ifGrown (s .next) (s′ .next) members₁ i ((i + 1) * 1024)))
       where
         place-fits : i < 1024
         place-fits = recording-place more
@@ -152,7 +155,8 @@ module _ {T index l : List ℕ} {s₀ : State} {ceiling : ℕ} {before : List �
         of-log : MadeAs x ceiling (tableOf T) (i + 1) (moveAt l i) s s′
         of-log = rw (← words) step
 
-        members-are : members′ ≡ cond (eqb (s .next) (s′ .next)) (set members i (markBy begun (s₀ .next) (concernedBy (s .owners) head picks))) (set (set members i (markBy begun (s₀ .next) (concernedBy (s .owners) head picks))) i ((i + 1) * 1024))
+        members-are : members′ ≡ cond (eqb (s .next) (s′ .next)) (set members i (markBy begun (s₀ .next) (concernedBy (s .owners) head picks)))
+            (set (set members i (markBy begun (s₀ .next) (concernedBy (s .owners) head picks))) i ((i + 1) * 1024))
         members-are = marked .1 ∙ rw (noted .member)
 
         row-room : 4 * i + 4 ≤ length origins
@@ -190,7 +194,12 @@ module _ {T index l : List ℕ} {s₀ : State} {ceiling : ℕ} {before : List �
           }
 
           act : Act
-          act = record { place = i; move = moveOf (tableOf T) (head ∷ picks); picks = picksOf (stateIn s) (moveOf (tableOf T) (head ∷ picks)); members = membersOf (tableOf T) i (stateIn s) (moveOf (tableOf T) (head ∷ picks)) }
+          act = record {
+            place = i;
+            move = moveOf (tableOf T) (head ∷ picks);
+            picks = picksOf (stateIn s) (moveOf (tableOf T) (head ∷ picks));
+            members = membersOf (tableOf T) i (stateIn s) (moveOf (tableOf T) (head ∷ picks));
+          }
 
           act-picks : act .picks ≡ map originOf (wordsAt (s .origins) (take (picksUsed (tableOf T) head) picks))
           unfolding act
@@ -199,13 +208,19 @@ module _ {T index l : List ℕ} {s₀ : State} {ceiling : ℕ} {before : List �
           act-count : length (act .picks) ≡ picksUsed (tableOf T) head
           act-count =
               let u = picksUsed (tableOf T) head in
-              ap length act-picks ∙ length-map (wordsAt (s .origins) (take u picks)) originOf ∙ length-map (take u picks) (λ p. getD (s .origins) p 0) ∙ length-take-le u picks (omega (arith, used-few legal))
+              ap length act-picks ∙ length-map (wordsAt (s .origins) (take u picks)) originOf
+              ∙ length-map (take u picks) (λ p. getD (s .origins) p 0) ∙ length-take-le u picks (omega (arith, used-few legal))
 
           act-member : OneOf (getD members′ i 0) (act .members)
           unfolding act stateIn
           act-member =
-              let next : applied (tableOf T) (suc i) (stateIn s) (moveOf (tableOf T) (head ∷ picks)) .next ≡ s′ .next = ap (λ (x : semantics.State). x .next) (passed .result) in
-              rw (members-are, grown-here members i (markBy begun (s₀ .next) (concernedBy (s .owners) head picks)) ((i + 1) * 1024) (eqb (s .next) (s′ .next)) (omega (arith, h .room .members, place-fits)))
+              let next : applied (tableOf T) (suc i) (stateIn s) (moveOf (tableOf T) (head ∷ picks)) .next ≡ s′ .next =
+              ap (λ (x : semantics.State). x .next) (passed .result) in
+              rw (
+                members-are,
+                grown-here members i (markBy begun (s₀ .next) (concernedBy (s .owners) head picks)) ((i + 1) * 1024)
+                    (eqb (s .next) (s′ .next)) (omega (arith, h .room .members, place-fits)),
+              )
               (rw next at (member-noted s legal (h .tracked)))
 
           act-done : Done (tableOf T) l origins′ members′ (i + 1) act
@@ -215,7 +230,8 @@ module _ {T index l : List ℕ} {s₀ : State} {ceiling : ℕ} {before : List �
             few = omega (arith, act-count, used-few legal);
             recorded = record {
               move = ap (moveOf (tableOf T)) words;
-              picks = act-picks ∙ ap (map originOf) (sym (ap (λ (n : ℕ). take n (drop (4 * i) origins′)) act-count ∙ picks-here (s .origins) picks i (noted .picked) row-room four (picksUsed (tableOf T) head) (used-few legal)));
+              picks = act-picks ∙ ap (map originOf) (sym (ap (λ (n : ℕ). take n (drop (4 * i) origins′)) act-count
+                  ∙ picks-here (s .origins) picks i (noted .picked) row-room four (picksUsed (tableOf T) head) (used-few legal)));
               some = act-member .some;
               none = act-member .none;
             };
@@ -227,10 +243,16 @@ module _ {T index l : List ℕ} {s₀ : State} {ceiling : ℕ} {before : List �
               noted .ends .each p q
               ∙ rw (endAfter-more p (getD before p 0) (h .made) act, ends-marks (tableOf T) i (stateIn s) head picks p, h .ends p q)
 
-          acts-onward : acts (tableOf T) i (stateIn s) (map (moveOf (tableOf T)) (movesFrom l i)) ≡ act ∷ acts (tableOf T) (i + 1) (stateIn s′) (map (moveOf (tableOf T)) (movesFrom l (i + 1)))
+          acts-onward : acts (tableOf T) i (stateIn s) (map (moveOf (tableOf T)) (movesFrom l i))
+              ≡ act ∷ acts (tableOf T) (i + 1) (stateIn s′) (map (moveOf (tableOf T)) (movesFrom l (i + 1)))
           unfolding act acts
           acts-onward =
-              rw (moves-tails l .more i more, ← words, add-one i, after-accepted ceiling (tableOf T) (suc i) (stateIn s) (head ∷ picks) (stateIn s′) (rw (add-one i) at stepped))
+              rw (
+                moves-tails l .more i more,
+                ← words,
+                add-one i,
+                after-accepted ceiling (tableOf T) (suc i) (stateIn s) (head ∷ picks) (stateIn s′) (rw (add-one i) at stepped),
+              )
 
           pub recording-next : Recording T index l s₀ ceiling before (i + 1) begun′ origins′ members′ ended′ s′
           unfolding stateIn
@@ -238,13 +260,17 @@ module _ {T index l : List ℕ} {s₀ : State} {ceiling : ℕ} {before : List �
             asked = h .asked;
             room = recording-room;
             reached = reached-made (h .reached) more of-log ok;
-            held = step-holds T (h .asked .prepared .indexed .table) ceiling (i + 1) (stateIn s) (head ∷ picks) (stateIn s′) (h .reached .workable .limit) (h .held) stepped;
+            held = step-holds T (h .asked .prepared .indexed .table) ceiling (i + 1) (stateIn s) (head ∷ picks) (stateIn s′)
+                (h .reached .workable .limit) (h .held) stepped;
             tracked = subst (λ (x : semantics.State). Tracked (s₀ .next) begun′ (i + 1) x) (passed .result)
-                (rw (marked .0, ← ap (λ (x : semantics.State). x .next) (passed .result)) (tracked-next (h .tracked) place-fits (tableOf T) (table-shaped (tableOf T) (legal .table) (legal .quiet)) (moveOf (tableOf T) (head ∷ picks))));
+                (rw (marked .0, ← ap (λ (x : semantics.State). x .next) (passed .result))
+                (tracked-next (h .tracked) place-fits (tableOf T) (table-shaped (tableOf T) (legal .table) (legal .quiet))
+                (moveOf (tableOf T) (head ∷ picks))));
             made = h .made ++ act ∷ [];
             so-far = append-assoc (h .made) (act ∷ []) _ ∙ ap (λ (xs : List Act). h .made ++ xs) (sym acts-onward) ∙ h .so-far;
             each = All-append _ (h .made) (act ∷ [])
                 (All-map (done-kept (tableOf T) l origins origins′ members members′ i (picks-before (s .origins) picks i (noted .picked) row-room four)
-                (λ p q. ap (λ (xs : List ℕ). getD xs p 0) members-are ∙ grown-other members i _ _ (eqb (s .next) (s′ .next)) p (λ z. omega arith))) (h .made) (h .each)) (act-done, tt);
+                (λ p q. ap (λ (xs : List ℕ). getD xs p 0) members-are ∙ grown-other members i _ _ (eqb (s .next) (s′ .next)) p (λ z. omega arith)))
+                (h .made) (h .each)) (act-done, tt);
             ends = act-ends;
           }

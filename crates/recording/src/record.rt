@@ -8,6 +8,7 @@ ghost use lib.ListN.{length, getD};
 ghost use Rattle.lists.specs.Over.{Pasted};
 ghost use Rattle.semantics.specs.Table.{tableOf};
 ghost use Rattle.state.specs.Working.{held};
+ghost use Rattle.words.specs.Origin.{firstProduct};
 ghost use Rattle.recording.specs.Marks.{Lent};
 ghost use Rattle.recording.specs.Recordings.{wordsAt, concernedBy, markBy, MoveNoted, ifGrown, Recordable, RecordRoom, RecordedAs};
 use crate::ends::note_if_end;
@@ -107,8 +108,10 @@ fn note_begin(
     next: u32,
     after: u32,
 )
-    requires { ⌜ (length (now begun) ≡ 1024) × (length (now members) ≡ 1024) × (i < 1024) × (first ≤ next) × (next < first + 1024) ⌝ }
-    ensures { λ _. ⌜ (now (begun .exit) ≡ ifGrown next after (now (begun .entry)) (next - first) ((i + 1) * 1024)) × (now (members .exit) ≡ ifGrown next after (now (members .entry)) i ((i + 1) * 1024)) ⌝ }
+    requires { ⌜ (length (now begun) ≡ 1024) × (length (now members) ≡ 1024) × (i < 1024)
+        × (first ≤ next) × (next < first + 1024) ⌝ }
+    ensures { λ _. ⌜ (now (begun .exit) ≡ ifGrown next after (now (begun .entry)) (next - first) (firstProduct i))
+        × (now (members .exit) ≡ ifGrown next after (now (members .entry)) i (firstProduct i)) ⌝ }
 {
     if next == after {
         return;

@@ -28,7 +28,8 @@ use Rattle.replay.specs.Replay.{Words, Arranged}
 use Rattle.replay.proofs.WordsAgain.{again-words}
 
 -- `rest` is left of the acts xs at the state c, and the rows of the others are written
-pub record Replaying (ceiling : ℕ) (t : Table) (start : State) (l order origins members : List ℕ) (xs rest : List Act) (j : ℕ) (c : State) (out : List ℕ) : Type 0 where
+pub record Replaying (ceiling : ℕ) (t : Table) (start : State) (l order origins members : List ℕ) (xs rest : List Act) (j : ℕ) (c : State)
+    (out : List ℕ) : Type 0 where
   pub places : map (λ a. a .place) rest ≡ drop j (take (moveCount l) order)
   pub recorded : All (Recorded t l origins members) rest
   pub replays : Replays t c rest
@@ -90,15 +91,18 @@ module _ (ceiling : ℕ) (t : Table) (start : State) (l order origins members : 
           let words = again-words (r .recorded .0) g (sym place) w in
           let maker : getD order j 0 + 1 ≡ suc (a .place) = omega arith in
           let next : s ≡ after t (suc (a .place)) c m =
-          sym (accepted-move ceiling t (getD order j 0 + 1) c (head ∷ picks) s e .result) ∙ rw (maker, words, g .words) (sym (after-allowed t (suc (a .place)) c m (g .allows))) in (
+          sym (accepted-move ceiling t (getD order j 0 + 1) c (head ∷ picks) s e .result)
+          ∙ rw (maker, words, g .words) (sym (after-allowed t (suc (a .place)) c m (g .allows))) in (
             rest,
             record {
               places = tail-eq (r .places ∙ ahead);
               recorded = r .recorded .1;
               replays = rw next (r .replays .1);
               fitting = rw next (sym (and-true _ (le-leb (length (c .entries)) ceiling n)) ∙ r .fitting);
-              heads = rw (next, row-first out (moveCount l) j head picks more room four, head-eq words) (append-snoc (take (1 + j) out) (headOf m) _ ∙ r .heads);
-              picks = rw (next, row-second out (moveCount l) j head picks more room four, tail-eq words) (append-assoc (take (4 * j) (drop (1 + moveCount l) out)) (fourPicks m) _ ∙ r .picks);
+              heads = rw (next, row-first out (moveCount l) j head picks more room four, head-eq words)
+                  (append-snoc (take (1 + j) out) (headOf m) _ ∙ r .heads);
+              picks = rw (next, row-second out (moveCount l) j head picks more room four, tail-eq words)
+                  (append-assoc (take (4 * j) (drop (1 + moveCount l) out)) (fourPicks m) _ ∙ r .picks);
             },
           )
 

@@ -26,7 +26,8 @@ use Rattle.replay.specs.Replay.{placeIn, Words, Replayable, Arranged, Re
 use Rattle.replay.proofs.Replaying.{Replaying, replaying-start, replaying-denied, replaying-next, replaying-end}
 
 -- j moves are written; `first` is the target with the count alone
-pub record Going (T index : List ℕ) (start : State) (l order origins members : List ℕ) (ceiling : ℕ) (first : List ℕ) (j : ℕ) (s : State) (out : List ℕ) : Type 0 where
+pub record Going (T index : List ℕ) (start : State) (l order origins members : List ℕ) (ceiling : ℕ) (first : List ℕ) (j : ℕ) (s : State)
+    (out : List ℕ) : Type 0 where
   pub given : Replayable T index start l order origins members ceiling first
   pub within : j ≤ moveCount l
   pub workable : Workable s ceiling
@@ -94,7 +95,8 @@ module _ {T index : List ℕ} {start : State} {l order origins members : List �
             tail = ap (drop (1 + 5 * moveCount l)) e ∙ row-rest out (moveCount l) j head picks more going-room four ∙ g .tail;
             acts = λ xs h.
                 let (rest, r) = g .acts xs h in
-                let (left, q) = replaying-next ceiling (tableOf T) (stateIn start) l order origins members xs more few w rest r (rw ok at (made .step)) fit going-room four in
+                let (left, q) = replaying-next ceiling (tableOf T) (stateIn start) l order origins members xs more few w rest r
+                (rw ok at (made .step)) fit going-room four in
                 (left, subst (Replaying ceiling (tableOf T) (stateIn start) l order origins members xs left (j + 1) (stateIn s′)) (sym e) q);
           }
 

@@ -129,7 +129,9 @@ fn again_at<'a>(
     p: usize,
 ) -> MoveWords
     requires { ⌜ Readable (now table) (now starts) (now log) (now wanted) (now members) × Columns (now owners) (now origins) n × (p < moveCount (now log)) ⌝ }
-    ensures { λ r. ⌜ ((ws : List ℕ) → Words (tableOf (now (table .entry))) (rows (rowOf (now (owners .entry)) ws (now (origins .entry))) 0 n) (now (log .entry)) (now (wanted .entry)) (now (members .entry)) p (r .head) (r .picks)) ⌝ }
+    ensures { λ r. ⌜ ((ws : List ℕ) → Words (tableOf (now (table .entry)))
+        (rows (rowOf (now (owners .entry)) ws (now (origins .entry))) 0 n)
+        (now (log .entry)) (now (wanted .entry)) (now (members .entry)) p (r .head) (r .picks)) ⌝ }
 {
     let was = head_at(log, p);
     let head = head_again(owners, origins, n, was, members[p]);
@@ -167,7 +169,8 @@ pub fn replay<'a>(
 ) -> bool
     requires { ⌜ Replayable (now table) (now starts) (held (now owners) (now items) (now origins) start)
         (now log) (now order) (now wanted) (now members) ceiling (now out) ⌝ }
-    ensures { λ r. ⌜ ReplayedAs r ceiling (tableOf (now (table .entry))) (stateIn (held (now (owners .entry)) (now (items .entry)) (now (origins .entry)) start))
+    ensures { λ r. ⌜ ReplayedAs r ceiling (tableOf (now (table .entry)))
+        (stateIn (held (now (owners .entry)) (now (items .entry)) (now (origins .entry)) start))
         (now (log .entry)) (now (order .entry)) (now (wanted .entry)) (now (members .entry)) (now (out .entry)) (now (out .exit)) ⌝ }
 {
     let k = log[0] as usize;

@@ -10,7 +10,7 @@ use Rattle.semantics.specs.Table.{tableOf}
 use Rattle.semantics.specs.State.{stateOf, stateSizesOk}
 use Rattle.semantics.specs.Log.{movesOf}
 use Rattle.semantics.specs.Answers.{lineCeiling}
-use Rattle.semantics.specs.Program.{Line, linesFrom, lines, firstLine, wordsOf, partsOf}
+use Rattle.semantics.specs.Program.{Line, linesFrom, lines, firstLine, wordsOf}
 use Rattle.semantics.specs.declared.Refusal.{Refusal}
 use Rattle.semantics.specs.declared.Verdict.the-variants.{Allowed, Denied}
 use Rattle.intake.specs.Gather.{Gathered, gathered-all}
@@ -30,7 +30,8 @@ use Rattle.report.specs.Shown.{Shows, FiguresOf}
 -- ---- the lines of three parts
 
 -- there is room for the lines of any log
-pub traceable : {t index l : List ℕ} → Prepared t index l → (st : List ℕ) → stateSizesOk st ≡ true → {s : State} → HoldsIn s (stateOf st) → {target : List ℕ} → length target ≡ 4096
+pub traceable : {t index l : List ℕ} → Prepared t index l → (st : List ℕ) → stateSizesOk st ≡ true → {s : State} → HoldsIn s (stateOf st)
+    → {target : List ℕ} → length target ≡ 4096
     → Traceable t index l s target
 traceable p st z h n = loaded-traceable st z h p (omega (arith, p .log .few))
 

@@ -13,13 +13,13 @@ abbrev pub firstIn : Figures → FirstLine
 firstIn f = record { moves = f .moves; entries = f .entries; next = f .next }
 
 -- the words of the lines after the first, as `print_lines` reads them
-abbrev pub linesIn : Figures → List ℕ
-linesIn f = take (4 * f .count) (f .lines)
+abbrev pub shownLines : Figures → List ℕ
+shownLines f = take (4 * f .count) (f .lines)
 
 pub record Shows (p : Parts) (f : Figures) : Type 0 where
   pub first : firstIn f ≡ firstLine p
   pub count : f .count ≡ length (lines p)
-  pub further : linesIn f ≡ lineWords (lines p)
+  pub further : shownLines f ≡ lineWords (lines p)
 
 -- the figures of an input of these words and so many bytes
 pub record FiguresOf (ws : List ℕ) (bytes : ℕ) (f : Figures) : Type 0 where

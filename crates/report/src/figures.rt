@@ -44,7 +44,8 @@ fn of_parts<'a>(
     log: &'a [u32],
 ) -> Figures
     requires { ⌜ Prepared (now table) (now starts) (now log) × (stateSizesOk (now state) ≡ true) ⌝ }
-    ensures { λ f. ⌜ (f .verdict ≡ Allowed) × (4 * f .count ≤ length (f .lines)) × Shows (record { table = now (table .entry); state = now (state .entry); log = now (log .entry) }) f ⌝ }
+    ensures { λ f. ⌜ (f .verdict ≡ Allowed) × (4 * f .count ≤ length (f .lines))
+        × Shows (record { table = now (table .entry); state = now (state .entry); log = now (log .entry) }) f ⌝ }
 {
     let s = State::empty();
     let mut owners = s.owners;

@@ -77,7 +77,8 @@ abbrev ifMade : Verdict → List Line → List Line
 ifMade Allowed xs = xs
 ifMade (Denied q) xs = []
 
-made-lines : (v : Verdict) {x : Made} {ceiling : ℕ} {t : Table} {i : ℕ} {w : List ℕ} {s s′ : State} → x .verdict ≡ v → MadeAs x ceiling t (i + 1) w s s′ → (rest : List (List ℕ))
+made-lines : (v : Verdict) {x : Made} {ceiling : ℕ} {t : Table} {i : ℕ} {w : List ℕ} {s s′ : State} → x .verdict ≡ v
+    → MadeAs x ceiling t (i + 1) w s s′ → (rest : List (List ℕ))
     → linesFrom ceiling t i (stateIn s) (w ∷ rest) ≡ lineOf i (answerIn v) (stateIn s′) ∷ ifMade v (linesFrom ceiling t (i + 1) (stateIn s′) rest)
 unfolding linesFrom
 made-lines Allowed {i = i} e m rest = rw (rw (add-one i, e) at (m .step), add-one i)
@@ -131,7 +132,8 @@ module _ {t : Table} {l : List ℕ} {start : State} {before : List ℕ} {i : ℕ
     count-new = omega (arith, length-append (h .made) (line ∷ []), h .count)
 
     lines-on : {u : Verdict} → x .verdict ≡ u → (ms : List (List ℕ))
-        → h .made ++ linesFrom lineCeiling t i (stateIn s) (moveAt l i ∷ ms) ≡ (h .made ++ line ∷ []) ++ ifMade u (linesFrom lineCeiling t (i + 1) (stateIn s′) ms)
+        → h .made ++ linesFrom lineCeiling t i (stateIn s) (moveAt l i ∷ ms)
+        ≡ (h .made ++ line ∷ []) ++ ifMade u (linesFrom lineCeiling t (i + 1) (stateIn s′) ms)
     unfolding line
     lines-on {u} e ms =
         ap (λ (xs : List Line). h .made ++ xs) (made-lines (x .verdict) refl m ms)

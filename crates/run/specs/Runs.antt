@@ -96,7 +96,8 @@ module _ (ceiling : ℕ) (t : Table) where
   run-append i s [] ys s′ h = rw (add-zero i, ended-same h)
   run-append i s (m ∷ xs) ys s′ h = go (stepWords ceiling t (suc i) s m) (λ x. run-append (suc i) x xs ys s′) h
     where
-      go : (x : Stepped) → ((x : semantics.State) → run ceiling t (suc i) x xs ≡ ended s′ → run ceiling t (suc i) x (xs ++ ys) ≡ run ceiling t (suc i + length xs) s′ ys)
+      go : (x : Stepped) → ((x : semantics.State) → run ceiling t (suc i) x xs ≡ ended s′
+          → run ceiling t (suc i) x (xs ++ ys) ≡ run ceiling t (suc i + length xs) s′ ys)
           → onward x i (λ x. run ceiling t (suc i) x xs) ≡ ended s′
           → onward x i (λ x. run ceiling t (suc i) x (xs ++ ys)) ≡ run ceiling t (i + suc (length xs)) s′ ys
       go (to x) ih k =
@@ -122,7 +123,8 @@ module _ {ceiling : ℕ} {t : Table} {l : List ℕ} {start : State} {i : ℕ} {s
       run-append ceiling t 0 (stateIn start) (movesBefore l i) ms (stateIn s) (r .so-far) ∙ ap (λ (n : ℕ). run ceiling t n (stateIn s) ms) e
 
   module _ (more : i < moveCount l) {x : Made} {s′ : State} (made : MadeAs x ceiling t (i + 1) (moveAt l i) s s′) where
-    step-from : (ms : List (List ℕ)) → run ceiling t 0 (stateIn start) (movesBefore l i ++ moveAt l i ∷ ms) ≡ onward (steppedBy (x .verdict) (stateIn s′)) i (λ x. run ceiling t (suc i) x ms)
+    step-from : (ms : List (List ℕ)) → run ceiling t 0 (stateIn start) (movesBefore l i ++ moveAt l i ∷ ms)
+        ≡ onward (steppedBy (x .verdict) (stateIn s′)) i (λ x. run ceiling t (suc i) x ms)
     unfolding run
     step-from ms =
         let step = rw (add-one i) at (made .step) in
@@ -140,7 +142,8 @@ module _ {ceiling : ℕ} {t : Table} {l : List ℕ} {start : State} {i : ℕ} {s
     -- a refused one
     pub reached-refused : {q : Refusal} → x .verdict ≡ Denied q → {ran : code.Ran} → ran .verdict ≡ x .verdict → ran .place ≡ i → RanAs ran ceiling t l start s′
     reached-refused {q} e v p = record {
-      value = sym (ap (run ceiling t 0 (stateIn start)) (moves-split l i (r .within) ∙ rw (moves-tails l .more i more)) ∙ step-from (movesFrom l (i + 1)) ∙ rw (v, p, e));
+      value = sym (ap (run ceiling t 0 (stateIn start)) (moves-split l i (r .within) ∙ rw (moves-tails l .more i more))
+          ∙ step-from (movesFrom l (i + 1)) ∙ rw (v, p, e));
       reached = rw (made .same q e, p) (r .so-far);
       workable = made .workable;
     }

@@ -47,7 +47,8 @@ pub fn trace<'a>(
     lines: &mut [u32],
 ) -> usize
     requires { ⌜ Traceable (now table) (now starts) (now log) (held (now owners) (now items) (now origins) start) (now lines) ⌝ }
-    ensures { λ r. ⌜ TracedAs (linesIn (tableOf (now (table .entry))) (now (log .entry)) (held (now (owners .entry)) (now (items .entry)) (now (origins .entry)) start))
+    ensures { λ r. ⌜ TracedAs (linesIn (tableOf (now (table .entry))) (now (log .entry))
+        (held (now (owners .entry)) (now (items .entry)) (now (origins .entry)) start))
         (now (lines .entry)) (now (lines .exit)) r ⌝ }
 {
     let moves = count_of(log);

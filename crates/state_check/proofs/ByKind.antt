@@ -15,7 +15,8 @@ use Rattle.state_check.specs.Check.{messageFits, otherFits, markFits}
 -- ---- the parts of `entryOk`, by kind
 
 -- a: the owner is 0; b, c: the port is a global one, is one at all; x, y: the rest that is asked of abort marks and of member marks
-ok-message : (a b c x y : Bool) → (b ≡ true → c ≡ true) → true && given a (true && b) && given true c && given false b && given false x && given false y ≡ cond a b c
+ok-message : (a b c x y : Bool) → (b ≡ true → c ≡ true) → true && given a (true && b) && given true c && given false b && given false x && given
+    false y ≡ cond a b c
 ok-message true true c x y f = rw (f refl)
 ok-message true false c x y f = refl
 ok-message false b true x y f = refl

@@ -82,12 +82,14 @@ module _ (z : Sizes) (next : ℕ) (e : Entry) {met own : List ℕ} where
       entering (by-kind z next e ∙ or-true _ h) (new-other met e k) (entered-other k m o)
 
   module _ (h : messageFits z e ≡ false) where
-    pub enter-mark : {r : Bool} {met' own' : List ℕ} → isMemberMark e ≡ true → Entering r (markFits next e) e met own met' own' → Entering r (entryOk z next e) e met own met' own'
+    pub enter-mark : {r : Bool} {met' own' : List ℕ} → isMemberMark e ≡ true → Entering r (markFits next e) e met own met' own'
+        → Entering r (entryOk z next e) e met own met' own'
     enter-mark k t =
         let same : entryOk z next e ≡ markFits next e = by-kind z next e ∙ rw (h, k) in
         record { answer = rw same (t .answer); sets = t .sets }
 
-    pub enter-other : {r : Bool} → isMemberMark e ≡ false → r ≡ otherFits z e → length met ≡ 1024 → length own ≡ 1024 → Entering r (entryOk z next e) e met own met own
+    pub enter-other : {r : Bool} → isMemberMark e ≡ false → r ≡ otherFits z e → length met ≡ 1024 → length own ≡ 1024
+        → Entering r (entryOk z next e) e met own met own
     enter-other k f m o =
         let same : entryOk z next e ≡ otherFits z e = by-kind z next e ∙ rw (h, k) in
         record { answer = f ∙ rw (same, new-other met e k) (sym (and-true (otherFits z e))); sets = λ q. entered-other k m o }
@@ -166,7 +168,8 @@ none-own put = record { size = put .size; holds = λ u. rw (put .holds u, empty 
 
 -- ---- the two passes decide what 01 asks of all entries
 
-module _ {z : Sizes} {s os ws own : List ℕ} {r : Bool} (o : Column os (ownersOf s) s) (w : Column ws (itemsOf s) s) (t : AllEntered r z (nextOf s) (entriesOf 0 os ws) own) where
+module _ {z : Sizes} {s os ws own : List ℕ} {r : Bool} (o : Column os (ownersOf s) s) (w : Column ws (itemsOf s) s)
+    (t : AllEntered r z (nextOf s) (entriesOf 0 os ws) own) where
   columns : entriesOf 0 os ws ≡ entriesOf 0 (ownersOf s) (itemsOf s)
   columns = rw (o .value, w .value)
 

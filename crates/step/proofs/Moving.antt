@@ -73,7 +73,8 @@ module _ {T : List ℕ} {x : Rule} {head : ℕ} {picks : List ℕ} (g : Chosen T
               ∙ verdict-higher ceiling (tableOf T) (stateIn (held os ws gs at)) (moveOf (tableOf T) (head ∷ picks)) (sym verdict-is ∙ h) 1024 (w .limit);
         }
 
-        pub reaction-made : (i : ℕ) {made : Made} → made .verdict ≡ r → {s′ : State} → HoldsIn s′ (reacted (ruleIn x) i (stateIn (held os ws gs at)) (take (x .consumes) picks))
+        pub reaction-made : (i : ℕ) {made : Made} → made .verdict ≡ r → {s′ : State}
+            → HoldsIn s′ (reacted (ruleIn x) i (stateIn (held os ws gs at)) (take (x .consumes) picks))
             → MadeAs made ceiling (tableOf T) i (head ∷ picks) (held os ws gs at) s′
         reaction-made i v m = made-allowed w form (v ∙ h) (sym verdict-is ∙ h) (rw (applied-react is-move i (stateIn (held os ws gs at)) (g .kind)) m)
 
@@ -98,7 +99,8 @@ end-formed t head picks four k e h =
     }
 
 -- with its kind and its id as they were read
-module _ {t : Table} {head : ℕ} {picks : List ℕ} (g : Ending t head picks) {ceiling : ℕ} {os ws gs : List ℕ} {at : Extent} (w : Workable (held os ws gs at) ceiling)
+module _ {t : Table} {head : ℕ} {picks : List ℕ} (g : Ending t head picks) {ceiling : ℕ} {os ws gs : List ℕ} {at : Extent}
+    (w : Workable (held os ws gs at) ceiling)
     {globals kind id : ℕ} (same : globals ≡ t .sizes .globals) (k : kind ≡ headKind head) (n : id ≡ headNumber head)
     {r : Verdict} (e : r ≡ endVerdict kind globals id (stateFrom os ws gs at)) where
   end-verdict-is : r ≡ moveVerdict ceiling t (stateIn (held os ws gs at)) (moveOf t (head ∷ picks))

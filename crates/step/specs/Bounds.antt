@@ -50,7 +50,8 @@ module _ (ceiling : ℕ) (t : Table) (s : semantics.State) (m : Move) (h : moveV
   -- what is allowed under a ceiling is allowed under a higher one
   pub verdict-higher : (high : ℕ) → ceiling ≤ high → moveVerdict high t s m ≡ Allowed
   unfolding moveVerdict
-  verdict-higher high l = let n = verdict-fits 0 in both-intro verdict-allows (unless-intro TooManyEntries (le-leb (length (applied t 0 s m .entries)) high (omega arith)))
+  verdict-higher high l = let n = verdict-fits 0 in both-intro verdict-allows
+      (unless-intro TooManyEntries (le-leb (length (applied t 0 s m .entries)) high (omega arith)))
 
   pub applied-bounded : s .next ≤ 65536 → (i : ℕ) {s′ : State} → Holds s′ (applied t i s m) → Bounded s′ ceiling
   applied-bounded n i k = record {

@@ -8,7 +8,6 @@ use Rattle.semantics.specs.Move.{moveOk, moveOf, applied, refused, steppedBy, s
 use Rattle.semantics.specs.Answers.{tableVerdict}
 use Rattle.semantics.specs.declared.Refusal.{Refusal}
 use Rattle.semantics.specs.declared.Refusal.the-variants.{MoveForm}
-use Rattle.semantics.specs.declared.Verdict.{Verdict}
 use Rattle.semantics.specs.declared.Verdict.the-variants.{Allowed, Denied}
 use Rattle.wellformed.specs.Verdicts.{denied≢allowed}
 use Rattle.wellformed.specs.Step.{stepWords-verdict}

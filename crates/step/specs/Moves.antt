@@ -67,7 +67,8 @@ module _ (t : List ℕ) {z : Sizes} (e : z ≡ sizesOf t) where
         let l : length (tableOf t .rules) ≤ headNumber head = omega (arith, rules-read, length-rules t) in
         sym (and-false _ (le-ltb _ _ l)) ∙ form-react (tableOf t) head picks four k
 
-    pub form-rule : headNumber head < z .rules → all isZero (drop (length (consumed (ruleAt (tableOf t) (headNumber head)))) picks) ≡ moveOk (tableOf t) (head ∷ picks)
+    pub form-rule : headNumber head < z .rules → all isZero (drop (length (consumed (ruleAt (tableOf t) (headNumber head)))) picks)
+        ≡ moveOk (tableOf t) (head ∷ picks)
     form-rule h =
         let l : headNumber head < length (tableOf t .rules) = omega (arith, rules-read, length-rules t) in
         sym (and-true _ (lt-ltb _ _ l)) ∙ form-react (tableOf t) head picks four k
@@ -103,7 +104,8 @@ both-end (Denied r) = refl
 -- an end adds no entries
 module _ (ceiling : ℕ) (t : Table) (s : semantics.State) (room : length (s .entries) ≤ ceiling) where
   end-verdict : (b : ℕ) (c : Bool)
-      → both (unless (isOpen b s) NoTransaction) (unless (cond c (mayCommit t b s) (mayAbort b s)) EndNotAllowed) ≡ moveVerdict ceiling t s (cond c (commit b) (abort b))
+      → both (unless (isOpen b s) NoTransaction) (unless (cond c (mayCommit t b s) (mayAbort b s)) EndNotAllowed)
+      ≡ moveVerdict ceiling t s (cond c (commit b) (abort b))
   unfolding moveVerdict allowed
   end-verdict b true =
       let few : length (applied t 0 s (commit b) .entries) ≤ ceiling = omega (arith, length-commit t 0 s b) in

@@ -7,3 +7,7 @@ originOf o = record { maker = o / 1024; index = o % 1024 }
 
 abbrev pub originWord : ℕ → ℕ → ℕ
 originWord maker index = maker * 1024 + index
+
+-- the first product of the move at place i: maker i + 1, index 0
+abbrev pub firstProduct : ℕ → ℕ
+firstProduct i = (i + 1) * 1024

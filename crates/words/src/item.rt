@@ -1,8 +1,9 @@
 // An item, kind × 2^24 + port × 2^16 + value; and its kinds.
-ghost use Prim.Native.Nat.{ℕ, _%_, _^_, _<_};
+ghost use Prim.Native.Nat.{ℕ, _<_};
 ghost use mathlib.Core.Path.{_≡_};
 ghost use mathlib.Core.Bool.{_&&_};
 ghost use lib.Dec.{eqb, ltb};
+ghost use Rattle.words.specs.Item.{asMessage};
 ghost use Rattle.semantics.specs.Words.{itemKind, itemWord, portOf, valueOf};
 
 // 01's note
@@ -54,7 +55,7 @@ pub fn item_of(kind: u32, port: u32, value: u32) -> u32
 
 // The same port and value as a message.
 pub fn as_message(item: u32) -> u32
-    ensures { λ r. ⌜ r ≡ item % 2 ^ 24 ⌝ }
+    ensures { λ r. ⌜ r ≡ asMessage item ⌝ }
 {
     item % 16777216
 }

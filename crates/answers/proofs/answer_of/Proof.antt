@@ -1,4 +1,4 @@
-use mathlib.Core.Path.{sym, ap, _∙_}
+use mathlib.Core.Path.{sym, ap}
 use Rattle.semantics.specs.Answers.{answerOf}
 use borrow.Author.Needs.{needs}
 use Rattle.answers.proofs.answer_of.Statement.{statement}

@@ -28,8 +28,11 @@ again-at-requires : tie.Need-again-at-requires Inv μ
 again-at-requires c κs =
     let turn = c .before .before .before in
     let g = turn .before .loop .inv in
-    let a = g .workable .arrays in
-    (g .given .read, record { owners = a .owners; items = a .origins; fits = omega (arith, g .workable .bounds .fits, g .workable .limit) }, g .given .places _ (turn .loop-test .taken))
+    let a = g .workable .arrays in (
+      g .given .read,
+      record { owners = a .owners; items = a .origins; fits = omega (arith, g .workable .bounds .fits, g .workable .limit) },
+      g .given .places _ (turn .loop-test .taken),
+    )
 
 put-move-requires : tie.Need-put-move-requires Inv μ
 put-move-requires c κs =
@@ -57,7 +60,8 @@ returns c =
     let read = put .before .before in
     let turn = read .before .before .before .before in
     let l = turn .before .loop in
-    going-denied (l .inv) (turn .loop-test .taken) (read .again-at .ensures (l .items)) (put .put-move .ensures) (m .make .ensures) (c .enum-told .given .1) refl
+    going-denied (l .inv) (turn .loop-test .taken) (read .again-at .ensures (l .items)) (put .put-move .ensures) (m .make .ensures)
+    (c .enum-told .given .1) refl
 
 loop-again : tie.Need-loop-again Inv μ
 unfolding stateIn
@@ -67,7 +71,8 @@ loop-again c =
     let read = put .before .before in
     let turn = read .before .before .before .before in
     let l = turn .before .loop in
-    going-next (l .inv) (turn .loop-test .taken) (read .again-at .ensures (l .items)) (put .put-move .ensures) (m .make .ensures) (c .before .enum-told2 .given .1)
+    going-next (l .inv) (turn .loop-test .taken) (read .again-at .ensures (l .items)) (put .put-move .ensures) (m .make .ensures)
+    (c .before .enum-told2 .given .1)
 
 returns-2 : tie.Need-returns-2 Inv μ
 returns-2 c = going-end (c .before .loop .inv) (c .loop-test .left) refl
@@ -80,5 +85,10 @@ replay-spec =
     (λ c. search needs) (λ c. search needs) (λ c. omega (arith, place-small (c .before))) again-at-requires put-move-requires
     (λ c. omega (arith, place-small (turn-of c))) (λ c. omega (arith, place-small (turn-of c))) make-requires
     (λ c. search needs) same-length returns (λ c. search needs)
-    (λ c. omega (arith, turn-of (c .before .before .before .before) .loop-test .taken, turn-of (c .before .before .before .before) .before .loop .inv .given .read .log .few))
-    (λ c. omega (arith, turn-of (c .before .before .before .before) .loop-test .taken)) loop-again (λ c. simp length-set at (c .before .loop .inv .size)) returns-2)
+    (λ c. omega (
+      arith,
+      turn-of (c .before .before .before .before) .loop-test .taken,
+      turn-of (c .before .before .before .before) .before .loop .inv .given .read .log .few,
+    ))
+    (λ c. omega (arith, turn-of (c .before .before .before .before) .loop-test .taken)) loop-again
+    (λ c. simp length-set at (c .before .loop .inv .size)) returns-2)

@@ -55,6 +55,7 @@ run-log-spec =
     tie.close
     (tie.spec
     Inv μ (λ c κs. search needs) loop-holds make-at-requires (λ c. search needs)
-    (λ c. let turn = c .before .before .before .before .before .before .before in let v = turn .before .loop .inv in omega (arith, more turn, v .1, v .0 .log .few))
+    (λ c. let turn = c .before .before .before .before .before .before .before in let v = turn .before .loop .inv in
+    omega (arith, more turn, v .1, v .0 .log .few))
     returns (λ c. search needs) (λ c. search needs) (λ c. search needs) loop-again
     (λ c. let v = c .before .loop .inv in omega (arith, v .1, v .2 .within, v .0 .log .few)) returns-2)

@@ -35,8 +35,10 @@ returns c =
     let sizes = count .before .before .pre .1 in
     let (n, q) = count .entry-count .ensures in
     loaded q n
-    (rw (owners .owners-of .ensures .value) at (copied-column _ _ _ _ (owners-whole owners) (sizes .owners) (within count) (items .before .copy-words .ensures)))
-    (rw (items .items-of .ensures .value) at (copied-column _ _ _ _ (items-whole items) (sizes .items) (within count) (c .before .before .before .copy-words2 .ensures)))
+    (rw (owners .owners-of .ensures .value) at (copied-column _ _ _ _ (owners-whole owners) (sizes .owners) (within count)
+    (items .before .copy-words .ensures)))
+    (rw (items .items-of .ensures .value) at (copied-column _ _ _ _ (items-whole items) (sizes .items) (within count)
+    (c .before .before .before .copy-words2 .ensures)))
     (c .before .number-column .ensures)
 
 pub load-spec : {M : Type 1} → statement M

@@ -11,7 +11,8 @@ slice-write-target-2 : tie.Need-slice-write-target-2
 slice-write-target-2 c = simp length-set (omega arith)
 
 copy-words-at-requires : tie.Need-copy-words-at-requires
-copy-words-at-requires c κs = let start = c .before .before .before .pre in (omega (arith, start .0 .fits, start .0 .owners), simp length-set (omega (arith, start .1)))
+copy-words-at-requires c κs = let start = c .before .before .before .pre in
+    (omega (arith, start .0 .fits, start .0 .owners), simp length-set (omega (arith, start .1)))
 
 copy-words-at-requires-2 : tie.Need-copy-words-at-requires-2
 copy-words-at-requires-2 c κs =
@@ -20,13 +21,15 @@ copy-words-at-requires-2 c κs =
     (omega (arith, start .0 .fits, start .0 .items), omega (arith, start .1, simp length-set at (first .copy-words-at .ensures .size)))
 
 same-length : tie.Need-same-length
-same-length c = simp length-set at (c .before .before .copy-words-at2 .ensures .size ∙ c .before .before .before .before .before .before .before .copy-words-at .ensures .size)
+same-length c = simp length-set at (c .before .before .copy-words-at2 .ensures .size
+    ∙ c .before .before .before .before .before .before .before .copy-words-at .ensures .size)
 
 returns : tie.Need-returns
 returns c =
     let first = c .before .before .before .before .before .before .before in
     let start = first .before .before .before .before .pre in
-    λ gs. stored-words _ _ _ _ (start .0 .owners) (start .0 .items) (start .0 .fits) (start .1) (first .copy-words-at .ensures) (c .before .before .copy-words-at2 .ensures)
+    λ gs. stored-words _ _ _ _ (start .0 .owners) (start .0 .items) (start .0 .fits) (start .1) (first .copy-words-at .ensures)
+    (c .before .before .copy-words-at2 .ensures)
 
 pub store-spec : {M : Type 1} → statement M
 store-spec =

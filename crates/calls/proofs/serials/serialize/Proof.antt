@@ -81,7 +81,8 @@ returns-6 : tie.Need-returns-6
 returns-6 c =
     let long = c .before .before .before .before .before .before .before .before .before .before .before in
     let a = start long .args in
-    let quiet = sym (c .before .before .before .before .before .before .before .before .begins-emit .ensures) ∙ c .before .before .before .before .before .before .before .if3 .left in
+    let quiet = sym (c .before .before .before .before .before .before .before .before .begins-emit .ensures)
+    ∙ c .before .before .before .before .before .before .before .if3 .left in
     let closed = sym (c .before .before .before .before .before .before .open-in .ensures) ∙ c .before .before .before .before .before .if4 .left in
     serial-done (a .table .now) (a .state .now) (a .log .now) (a .target .now) (ok long) (sizes long) (room long) quiet closed
     (c .before .before .serialize-log .ensures)

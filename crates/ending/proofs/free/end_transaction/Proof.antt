@@ -1,17 +1,14 @@
 -- `end_transaction` meets its contract: the compaction that frees the transaction's entries of one kind and leaves its others out.
 use borrow.Author.Needs.{needs}
 use Prim.Native.Nat.{_-_}
-use mathlib.Core.Path.{refl, ap}
 use mathlib.Core.Bool.{_||_, not}
 use lib.Dec.{eqb}
 use lib.ListN.{getD}
 use Rattle.lists.specs.Sift.{sift-keep}
 use Rattle.lists.specs.Walk.{below-each}
-use Rattle.semantics.specs.State as semantics
 use Rattle.semantics.specs.State.{owned}
 use Rattle.semantics.specs.Move.{freed, ended}
 use Rattle.state.specs.Working.{held, stateIn}
-use Rattle.state.specs.Arrays.{holds-of}
 use Rattle.state.specs.Compact.{Compacting, compacting-from, compacting-turn, compacting-done}
 use Rattle.ending.proofs.Freeing.{freed-entry, stays-as-is}
 use Rattle.ending.proofs.free.end_transaction.Statement.{statement}
@@ -19,7 +16,8 @@ use Rattle.ending.proofs.free.end_transaction.Tie as tie
 
 abbrev Inv : tie.InvT-loop
 Inv owners₀ items₀ origins₀ from id kind n next i₀ w₀ owners items origins i w =
-    Compacting (λ p e. not (owned id e) || eqb (e .kind) kind) (freed (λ e. eqb (e .kind) kind) id) (held owners items origins (record { len = n; next = next })) n i w
+    Compacting (λ p e. not (owned id e) || eqb (e .kind) kind) (freed (λ e. eqb (e .kind) kind) id)
+    (held owners items origins (record { len = n; next = next })) n i w
     (ended (λ e. eqb (e .kind) kind) id (stateIn (held owners₀ items₀ origins₀ (record { len = n; next = next }))))
 
 abbrev μ : tie.MeasureT-loop
@@ -31,7 +29,8 @@ loop-holds c =
     let a = c .args in
     let s = held (a .owners .now) (a .items .now) (a .origins .now) (a .at) in
     compacting-from _ _ s _
-    (sift-keep (λ e. not (owned (a .id) e) || eqb (e .kind) (a .kind)) (freed (λ e. eqb (e .kind) (a .kind)) (a .id)) 0 (stateIn s .entries)) (c .pre .0) (c .pre .1) (a .from) (c .pre .2 .within)
+    (sift-keep (λ e. not (owned (a .id) e) || eqb (e .kind) (a .kind)) (freed (λ e. eqb (e .kind) (a .kind)) (a .id)) 0 (stateIn s .entries))
+    (c .pre .0) (c .pre .1) (a .from) (c .pre .2 .within)
     (λ k l. stays-as-is (a .id) (a .kind) _ (below-each _ (a .from) k (c .pre .2 .none) l))
 
 loop-again : tie.Need-loop-again Inv μ

@@ -9,7 +9,14 @@ unfolding atomOk
 returns c =
     let value = c .before .before .before .before .before in
     let mode = value .before .before in
-    rw (c .value-ok .ensures, c .before .class-of .ensures, value .value-of .ensures, value .before .port-of .ensures, mode .mode-of .ensures, mode .before .role-of .ensures)
+    rw (
+      c .value-ok .ensures,
+      c .before .class-of .ensures,
+      value .value-of .ensures,
+      value .before .port-of .ensures,
+      mode .mode-of .ensures,
+      mode .before .role-of .ensures,
+    )
 
 pub atom-ok-spec : {M : Type 1} → statement M
 atom-ok-spec =

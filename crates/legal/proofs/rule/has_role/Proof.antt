@@ -22,10 +22,12 @@ loop-holds : tie.Need-loop-holds Inv μ
 loop-holds c = ahead-start _ _ _
 
 returns : tie.Need-returns Inv μ
-returns c = ahead-here (slice-tails 0 _) (c .before .before .before .before .loop .inv) (search needs) true (λ xs. or-true _ (eq-eqb _ _ (sym (c .before .role-of .ensures) ∙ c .if1 .taken)))
+returns c = ahead-here (slice-tails 0 _) (c .before .before .before .before .loop .inv) (search needs) true
+    (λ xs. or-true _ (eq-eqb _ _ (sym (c .before .role-of .ensures) ∙ c .if1 .taken)))
 
 loop-again : tie.Need-loop-again Inv μ
-loop-again c = ahead-next (slice-tails 0 _) (c .before .before .before .before .loop .inv) (search needs) _ (λ xs. or-false _ (ne-eqb _ _ (λ e. c .if1 .left (c .before .role-of .ensures ∙ e))))
+loop-again c = ahead-next (slice-tails 0 _) (c .before .before .before .before .loop .inv) (search needs) _
+    (λ xs. or-false _ (ne-eqb _ _ (λ e. c .if1 .left (c .before .role-of .ensures ∙ e))))
 
 returns-2 : tie.Need-returns-2 Inv μ
 returns-2 c = ahead-done (slice-tails 0 _) (c .before .loop .inv) (search needs)

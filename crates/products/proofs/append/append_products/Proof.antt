@@ -41,7 +41,8 @@ loop-again c =
     let l = c .before .before .before .before .before in
     let a = l .before .args in
     rw (c .origin-of .ensures)
-    (making-next (a .t5) _ (a .home) (a .maker) _ (l .loop .inv) (c .before .before .before .before .loop-test .taken) _ _ (c .before .before .owner-made .ensures) (c .before .item-made .ensures))
+    (making-next (a .t5) _ (a .home) (a .maker) _ (l .loop .inv) (c .before .before .before .before .loop-test .taken) _ _
+    (c .before .before .owner-made .ensures) (c .before .item-made .ensures))
 
 returns : tie.Need-returns Inv μ
 returns c =
@@ -53,5 +54,7 @@ append-products-spec =
     tie.close
     (tie.spec Inv μ sub-made loop-holds (λ c. search needs) (λ c. search needs) (λ c. search needs) (λ c. search needs) (λ c κs. search needs)
     (λ c. search needs) (λ c. search needs) item-made-requires (λ c. search needs) (λ c. search needs) (λ c. search needs)
-    (λ c κs. let start = c .before .before .before .before .before in (start .pre .1 .1 .0 .makers, omega (arith, start .pre .1 .0, c .before .before .before .loop-test .taken)))
-    (λ c. search needs) (λ c. search needs) (λ c. search needs) (λ c. search needs) loop-again (λ c. search needs) (λ c κs. c .before .before .pre .1 .1 .0 .limit) returns)
+    (λ c κs. let start = c .before .before .before .before .before in
+    (start .pre .1 .1 .0 .makers, omega (arith, start .pre .1 .0, c .before .before .before .loop-test .taken)))
+    (λ c. search needs) (λ c. search needs) (λ c. search needs) (λ c. search needs) loop-again (λ c. search needs)
+    (λ c κs. c .before .before .pre .1 .1 .0 .limit) returns)

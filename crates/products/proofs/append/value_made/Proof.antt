@@ -20,17 +20,23 @@ returns-2 c =
 returns-3 : tie.Need-returns-3
 returns-3 c =
     let received = c .before .before .before .value2 .given .1 in
-    let items = c .before .before .before .before .before .before .before .args .t2 in
-    (rw (ne-eqb _ _ (c .before .before .before .before .before .if1 .left), received) (c .value-of .ensures ∙ sym (List·getD-map valueOf items _ 0)), omega (arith, c .value-of .ensures))
+    let items = c .before .before .before .before .before .before .before .args .t2 in (
+      rw (ne-eqb _ _ (c .before .before .before .before .before .if1 .left), received) (c .value-of .ensures ∙ sym (List·getD-map valueOf items _ 0)),
+      omega (arith, c .value-of .ensures),
+    )
 
 returns-4 : tie.Need-returns-4
 returns-4 c =
     let received = c .before .before .value2 .given .1 in
-    let items = c .before .before .before .before .before .before .args .t2 in
-    (rw (ne-eqb _ _ (c .before .before .before .before .if1 .left), received) (sym (List·getD-eq-default (map valueOf items) 0 (omega (arith, length-map items valueOf)))), search needs)
+    let items = c .before .before .before .before .before .before .args .t2 in (
+      rw (ne-eqb _ _ (c .before .before .before .before .if1 .left), received)
+          (sym (List·getD-eq-default (map valueOf items) 0 (omega (arith, length-map items valueOf)))),
+      search needs,
+    )
 
 pub value-made-spec : {M : Type 1} → statement M
 value-made-spec =
     tie.close
-    (tie.spec returns (λ c. search needs) (λ c. search needs) (λ c. search needs) (λ c. search needs) (λ c. search needs) (λ c. search needs) (λ c κs. search needs)
+    (tie.spec returns (λ c. search needs) (λ c. search needs) (λ c. search needs) (λ c. search needs) (λ c. search needs) (λ c. search needs)
+    (λ c κs. search needs)
     returns-2 returns-3 returns-4)

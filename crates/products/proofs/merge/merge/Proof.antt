@@ -12,7 +12,8 @@ use Rattle.products.proofs.merge.merge.Statement.{statement}
 use Rattle.products.proofs.merge.merge.Tie as tie
 
 abbrev Inv : tie.InvT-loop
-Inv owners₀ n k home a b c d j₀ owners j = Writing 0 (λ i. mergedOwner (a ∷ b ∷ c ∷ d ∷ []) home (getD owners₀ i 0)) j owners₀ owners × (length owners₀ ≡ 1024) × (n ≤ 1024)
+Inv owners₀ n k home a b c d j₀ owners j = Writing 0 (λ i. mergedOwner (a ∷ b ∷ c ∷ d ∷ []) home (getD owners₀ i 0)) j owners₀ owners
+    × (length owners₀ ≡ 1024) × (n ≤ 1024)
 
 abbrev μ : tie.MeasureT-loop
 μ owners₀ n k home a b c d j₀ owners j = n - j
@@ -20,8 +21,11 @@ abbrev μ : tie.MeasureT-loop
 returns : tie.Need-returns Inv μ
 returns c =
     let a = c .before .before .args in
-    let few = c .before .repeated in
-    (c .before .before .pre .0, λ j h. none-merged _ _ _ _ (a .home) _ (c .if1 .taken) ∙ four-merged (few .result) (take (a .k) (a .found)) (a .home) _ (search needs) (few .ensures))
+    let few = c .before .repeated in (
+      c .before .before .pre .0,
+      λ j h. none-merged _ _ _ _ (a .home) _ (c .if1 .taken)
+          ∙ four-merged (few .result) (take (a .k) (a .found)) (a .home) _ (search needs) (few .ensures),
+    )
 
 loop-holds : tie.Need-loop-holds Inv μ
 loop-holds c = (writing-start 0 _ 0 _ (λ i h. absurd (omega arith)), search needs, search needs)
@@ -36,8 +40,11 @@ returns-2 : tie.Need-returns-2 Inv μ
 returns-2 c =
     let a = c .before .before .before .before .args in
     let few = c .before .before .before .repeated in
-    let v = c .before .loop .inv in
-    (v .0 .size ∙ v .1, λ j h. v .0 .done j (omega (arith, c .loop-test .left)) ∙ four-merged (few .result) (take (a .k) (a .found)) (a .home) _ (search needs) (few .ensures))
+    let v = c .before .loop .inv in (
+      v .0 .size ∙ v .1,
+      λ j h. v .0 .done j (omega (arith, c .loop-test .left))
+          ∙ four-merged (few .result) (take (a .k) (a .found)) (a .home) _ (search needs) (few .ensures),
+    )
 
 pub merge-spec : {M : Type 1} → statement M
 merge-spec =

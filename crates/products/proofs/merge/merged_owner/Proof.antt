@@ -1,4 +1,4 @@
-use Rattle.products.proofs.Merging.{or-end}
+use Rattle.lists.specs.Tests.{or-end}
 use Rattle.products.proofs.merge.merged_owner.Statement.{statement}
 use Rattle.products.proofs.merge.merged_owner.Tie as tie
 

@@ -49,12 +49,15 @@ returns c =
     let start = received .before .before .before .before in
     let a = start .args in
     let l = removed .remove .last in
-    reacted-holds (a .rule) (start .pre .ready .rule) (a .picks) (four start) (a .owners .now) (a .items .now) (a .origins .now) (a .at) (start .pre .verdict) (a .maker) (found .smallest .result)
-    (l .0) (l .1 .0) (l .1 .1 .0) (merged .merge .last .0) (received .before .before .at-picks .ensures) (received .at-picks2 .ensures) (found .smallest .ensures)
+    reacted-holds (a .rule) (start .pre .ready .rule) (a .picks) (four start) (a .owners .now) (a .items .now) (a .origins .now) (a .at)
+    (start .pre .verdict) (a .maker) (found .smallest .result)
+    (l .0) (l .1 .0) (l .1 .1 .0) (merged .merge .last .0) (received .before .before .at-picks .ensures) (received .at-picks2 .ensures)
+    (found .smallest .ensures)
     (removed .remove .ensures .1) (merged .merge .ensures .1) (c .append-products .ensures)
 
 pub react-spec : {M : Type 1} → statement M
 react-spec =
     tie.close
     (tie.spec at-picks-requires at-picks-requires-2 (λ c κs. search needs) remove-requires
-    (λ c. facts (c .before .before .before .before .before .before .before .before .before .before) .enough) (λ c κs. search needs) append-products-requires returns)
+    (λ c. facts (c .before .before .before .before .before .before .before .before .before .before) .enough) (λ c κs. search needs)
+    append-products-requires returns)

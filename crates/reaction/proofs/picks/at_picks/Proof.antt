@@ -29,5 +29,6 @@ pub at-picks-spec : {M : Type 1} → statement M
 at-picks-spec =
     tie.close
     (tie.spec
-    (λ c. search needs) (λ c κs. (c .pre .1, place c 0)) (λ c. search needs) (λ c κs. (c .before .pre .1, place (c .before) 1)) (λ c. search needs) (λ c κs. (c .before .before .pre .1, place (c .before .before) 2))
+    (λ c. search needs) (λ c κs. (c .pre .1, place c 0)) (λ c. search needs) (λ c κs. (c .before .pre .1, place (c .before) 1)) (λ c. search needs)
+    (λ c κs. (c .before .before .pre .1, place (c .before .before) 2))
     (λ c. search needs) (λ c κs. (c .before .before .before .pre .1, place (c .before .before .before) 3)) returns)

@@ -16,7 +16,8 @@ use Rattle.reaction.proofs.verdict.on_ports.Tie as tie
 abbrev Inv : tie.InvT-loop
 Inv items n k ports picks i₀ i =
     (n ≤ 1024) × (length items ≡ 1024) × (k ≤ 4) × (length picks ≡ 4) × (length ports ≡ 4)
-    × ((os gs : List ℕ) → Ahead (rowsFrom (λ j. j) k) k (all (pickFits os items gs n ports picks)) i (all (pickFits os items gs n ports picks) (rowsFrom (λ j. j) k 0)))
+    × ((os gs : List ℕ) → Ahead (rowsFrom (λ j. j) k) k (all (pickFits os items gs n ports picks)) i
+    (all (pickFits os items gs n ports picks) (rowsFrom (λ j. j) k 0)))
 
 abbrev μ : tie.MeasureT-loop
 μ items n k ports picks i₀ i = k - i
@@ -39,7 +40,8 @@ loop-again c =
       v .2,
       v .3,
       v .4,
-      λ os gs. each-next (rows-tails _ _) (v .5 os gs) (c .before .before .loop-test .taken) (sym (c .before .message-on .ensures os gs) ∙ not-false _ (c .if1 .left)),
+      λ os gs. each-next (rows-tails _ _) (v .5 os gs) (c .before .before .loop-test .taken)
+          (sym (c .before .message-on .ensures os gs) ∙ not-false _ (c .if1 .left)),
     )
 
 returns-2 : tie.Need-returns-2 Inv μ

@@ -36,14 +36,16 @@ returns c =
     let l = c .before .before .before .before .loop in
     let start = c .before .before .before .before .before .before in
     let a = start .args in
-    each-fails (prefix-tails 0 (a .t3) (a .k) (omega arith)) (l .inv .0) (c .before .before .before .loop-test .taken) (sym (c .before .owner-fits .ensures) ∙ not-true _ (c .if1 .taken))
+    each-fails (prefix-tails 0 (a .t3) (a .k) (omega arith)) (l .inv .0) (c .before .before .before .loop-test .taken)
+    (sym (c .before .owner-fits .ensures) ∙ not-true _ (c .if1 .taken))
     ∙ owners-picked (a .class) (a .owners .now) (a .t3) (a .k) (start .pre .0) (omega arith)
 
 loop-again : tie.Need-loop-again Inv μ
 loop-again c =
     let l = c .before .before .before .before .loop in
     let a = c .before .before .before .before .before .before .args in (
-      each-next (prefix-tails 0 (a .t3) (a .k) (omega arith)) (l .inv .0) (c .before .before .before .loop-test .taken) (sym (c .before .owner-fits .ensures) ∙ not-false _ (c .if1 .left)),
+      each-next (prefix-tails 0 (a .t3) (a .k) (omega arith)) (l .inv .0) (c .before .before .before .loop-test .taken)
+          (sym (c .before .owner-fits .ensures) ∙ not-false _ (c .if1 .left)),
       l .inv .1,
       l .inv .2,
       l .inv .3,

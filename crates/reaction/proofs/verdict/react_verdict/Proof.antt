@@ -37,8 +37,10 @@ allowed c = placed (c .before .before .before .before)
 
 -- ---- what each test says
 
-picks : (c : tie.After-on-ports) (gs : List ℕ) → c .before .before .all-differ .result && c .on-ports .result ≡ picksOk (ruleIn (tested c .args .rule)) (σ (tested c) gs) (ps (tested c))
-picks c gs = picks-found (ruleIn (tested c .args .rule)) (σ (tested c) gs) (ps (tested c)) (c .before .before .all-differ .ensures) (c .on-ports .ensures (tested c .args .owners .now) gs) (c .before .consume-ports .ensures .0)
+picks : (c : tie.After-on-ports) (gs : List ℕ) → c .before .before .all-differ .result && c .on-ports .result
+    ≡ picksOk (ruleIn (tested c .args .rule)) (σ (tested c) gs) (ps (tested c))
+picks c gs = picks-found (ruleIn (tested c .args .rule)) (σ (tested c) gs) (ps (tested c)) (c .before .before .all-differ .ensures)
+    (c .on-ports .ensures (tested c .args .owners .now) gs) (c .before .consume-ports .ensures .0)
 
 picks-pass : (c : tie.Else1) (gs : List ℕ) → picksOk (ruleIn (tested (c .before) .args .rule)) (σ (tested (c .before)) gs) (ps (tested (c .before))) ≡ true
 picks-pass c gs = sym (picks (c .before) gs) ∙ not-false _ (c .if1 .left)
@@ -47,12 +49,14 @@ in-place : (c : tie.Else1) → Places (tested (c .before) .args .at .len) (ps (t
 in-place c =
     let start = tested (c .before) in
     let a = start .args in
-    places (a .rule) (start .pre .1) (a .picks) (search needs) (a .owners .now) (a .items .now) [] (a .at) (picks-parts (ruleIn (a .rule)) (σ start []) (ps start) (picks-pass c []) .1)
+    places (a .rule) (start .pre .1) (a .picks) (search needs) (a .owners .now) (a .items .now) [] (a .at)
+    (picks-parts (ruleIn (a .rule)) (σ start []) (ps start) (picks-pass c []) .1)
 
 owners : (c : tie.After-owners-fit) (gs : List ℕ) → c .owners-fit .result ≡ ownersFit (placed c .args .rule .class) (ownersAt (σ (placed c) gs) (ps (placed c)))
 owners c gs =
     let a = placed c .args in
-    c .owners-fit .ensures ∙ ap (ownersFit (a .rule .class)) (sym (owners-at (a .owners .now) (a .items .now) gs (a .at .len) (ps (placed c)) (in-place (c .before))))
+    c .owners-fit .ensures ∙ ap (ownersFit (a .rule .class)) (sym
+    (owners-at (a .owners .now) (a .items .now) gs (a .at .len) (ps (placed c)) (in-place (c .before))))
 
 given : (c : tie.Else3) (gs : List ℕ) → ReactGiven (ruleIn (allowed c .args .rule)) (σ (allowed c) gs) (ps (allowed c))
 given c gs =

@@ -17,7 +17,8 @@ Inv table starts owners₀ items₀ origins₀ log ceiling wanted₀ members₀ 
     × Recording table starts log (held owners₀ items₀ origins₀ left₀) ceiling ended₀ i begun wanted members ended (held owners items origins left)
 
 abbrev μ : tie.MeasureT-loop
-μ table starts owners₀ items₀ origins₀ log ceiling wanted₀ members₀ ended₀ begun₀ first k left₀ i₀ owners items origins wanted members ended begun left i = k - i
+μ table starts owners₀ items₀ origins₀ log ceiling wanted₀ members₀ ended₀ begun₀ first k left₀ i₀ owners items origins wanted members ended begun
+    left i = k - i
 
 loop-holds : tie.Need-loop-holds Inv μ
 loop-holds c =
@@ -77,7 +78,8 @@ returns c =
     let read = told-read c in
     let h = turn read .before .loop .inv .2 in
     let marked = c .before .before .note-begin .ensures in (
-      recording-refused (turn read .before .loop .inv .2) (more (turn read)) (words read) (four read) (noted .note-move .ensures) (made .make .ensures) marked (c .enum-told .given .1) refl refl,
+      recording-refused (turn read .before .loop .inv .2) (more (turn read)) (words read) (four read) (noted .note-move .ensures)
+          (made .make .ensures) marked (c .enum-told .given .1) refl refl,
       recording-room h (more (turn read)) (words read) (four read) (noted .note-move .ensures) (made .make .ensures) marked,
     )
 
@@ -89,7 +91,8 @@ loop-again c =
     let v = turn read .before .loop .inv in (
       v .0,
       noted .note-move .ensures .picked .size ∙ v .1,
-      recording-next (v .2) (more (turn read)) (words read) (four read) (noted .note-move .ensures) (made .make .ensures) (c .before .before .note-begin .ensures) (c .enum-told2 .given .1),
+      recording-next (v .2) (more (turn read)) (words read) (four read) (noted .note-move .ensures) (made .make .ensures)
+          (c .before .before .note-begin .ensures) (c .enum-told2 .given .1),
     )
 
 returns-2 : tie.Need-returns-2 Inv μ
@@ -103,7 +106,8 @@ record-spec =
     note-move-requires
     (λ c. omega (arith, small (turn (read-of c)))) (λ c. omega (arith, small (turn (read-of c)))) make-requires note-begin-requires
     (λ c. search needs) (λ c. omega (arith, small (turn (told-read c))))
-    (λ c. c .before .before .before .before .before .before .before .before .before .before .before .before .note-move .ensures .picked .size ∙ turn (told-read c) .before .loop .inv .1)
+    (λ c. c .before .before .before .before .before .before .before .before .before .before .before .before .note-move .ensures .picked .size
+    ∙ turn (told-read c) .before .loop .inv .1)
     returns (λ c. search needs)
     (λ c. omega (arith, small (turn (made-read c)))) (λ c. omega (arith, turn (made-read c) .loop-test .taken)) loop-again
     (λ c. omega (arith, c .before .loop .inv .2 .reached .within, c .before .loop .inv .2 .asked .prepared .log .few))

@@ -16,12 +16,14 @@ trace-requires c κs =
 
 shared-slice-read-t24 : tie.Need-shared-slice-read-t24
 shared-slice-read-t24 c =
-    let pre = c .before .before .before .before .before .before .before .before .before .before .before .before .before .before .before .before .before .before .before .pre in
+    let read = c .before .before .before .before .before .before .before .before .before in
+    let pre = read .before .before .before .before .before .before .before .before .before .before .pre in
     omega (arith, States.state-sized _ (pre .1) .size)
 
 shared-slice-read-t26 : tie.Need-shared-slice-read-t26
 shared-slice-read-t26 c =
-    let pre = c .before .before .before .before .before .before .before .before .before .before .before .before .before .before .before .before .before .before .before .before .pre in
+    let read = c .before .before .before .before .before .before .before .before .before .before in
+    let pre = read .before .before .before .before .before .before .before .before .before .before .pre in
     omega (arith, States.state-sized _ (pre .1) .size)
 
 returns : tie.Need-returns
@@ -33,4 +35,5 @@ returns c =
 pub of-parts-spec : {M : Type 1} → statement M
 of-parts-spec =
     tie.close
-    (tie.spec (λ c κs. search needs) (λ c κs. search needs) (λ c. search needs) trace-requires (λ c. search needs) shared-slice-read-t24 shared-slice-read-t26 returns)
+    (tie.spec (λ c κs. search needs) (λ c κs. search needs) (λ c. search needs) trace-requires (λ c. search needs) shared-slice-read-t24
+    shared-slice-read-t26 returns)

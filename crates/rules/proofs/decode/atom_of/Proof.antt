@@ -8,4 +8,5 @@ returns : tie.Need-returns
 returns c = rw (c .before .before .value-of .ensures, c .before .role-of .ensures, c .port-of .ensures)
 
 pub atom-of-spec : {M : Type 1} → statement M
-atom-of-spec = tie.close (tie.spec (λ c κs. search needs) (λ c κs. search needs) (λ c. omega (arith, c .role-of .ensures)) (λ c κs. search needs) (λ c. omega (arith, c .port-of .ensures)) returns)
+atom-of-spec = tie.close (tie.spec (λ c κs. search needs) (λ c κs. search needs) (λ c. omega (arith, c .role-of .ensures)) (λ c κs. search needs)
+    (λ c. omega (arith, c .port-of .ensures)) returns)

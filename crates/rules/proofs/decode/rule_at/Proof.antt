@@ -23,7 +23,8 @@ rule-of-requires c κs =
 returns : tie.Need-returns
 returns c =
     let p = c .before .before .before .before .before .pre in
-    let same = cut-rule _ _ _ (p .0) (p .1) (p .2) (c .before .before .atom-words-of .ensures) (c .before .before .before .sizes-of .ensures) (c .before .rule-words .ensures) in
+    let same = cut-rule _ _ _ (p .0) (p .1) (p .2) (c .before .before .atom-words-of .ensures) (c .before .before .before .sizes-of .ensures)
+    (c .before .rule-words .ensures) in
     rw same at (c .rule-of .ensures)
 
 pub rule-at-spec : {M : Type 1} → statement M

@@ -29,12 +29,14 @@ rule-words-requires c κs = trying-within (c .before .loop .inv) (c .loop-test .
 returns : tie.Need-returns Inv μ
 returns c =
     let l = c .before .before .before .before .loop in
-    trying-here (l .inv) (c .before .before .before .loop-test .taken) (c .before .before .rule-words .ensures) (c .before .rule-begins-emits .ensures) (c .if1 .taken)
+    trying-here (l .inv) (c .before .before .before .loop-test .taken) (c .before .before .rule-words .ensures)
+    (c .before .rule-begins-emits .ensures) (c .if1 .taken)
 
 loop-again : tie.Need-loop-again Inv μ
 loop-again c =
     let l = c .before .before .before .before .loop in
-    trying-next (l .inv) (c .before .before .before .loop-test .taken) (c .before .before .rule-words .ensures) (c .before .rule-begins-emits .ensures) (c .if1 .left)
+    trying-next (l .inv) (c .before .before .before .loop-test .taken) (c .before .before .rule-words .ensures)
+    (c .before .rule-begins-emits .ensures) (c .if1 .left)
 
 returns-2 : tie.Need-returns-2 Inv μ
 returns-2 c = trying-done (c .before .loop .inv) (c .loop-test .left)

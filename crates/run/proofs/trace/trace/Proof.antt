@@ -36,8 +36,11 @@ make-at-requires c κs =
 put-line-requires : tie.Need-put-line-requires Inv μ
 put-line-requires c κs =
     let turn = c .before .before .before .before .before .before .before in
-    let v = turn .before .loop .inv in
-    (omega (arith, more turn, v .0 .room, v .2 .size), omega (arith, more turn, v .0 .prepared .log .few), c .before .before .before .make-at .ensures .workable .bounds .fits)
+    let v = turn .before .loop .inv in (
+      omega (arith, more turn, v .0 .room, v .2 .size),
+      omega (arith, more turn, v .0 .prepared .log .few),
+      c .before .before .before .make-at .ensures .workable .bounds .fits,
+    )
 
 returns : tie.Need-returns Inv μ
 returns c =

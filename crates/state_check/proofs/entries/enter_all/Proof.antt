@@ -19,7 +19,8 @@ Inv z next owners items own₀ met₀ i₀ own met i =
     (length owners ≡ length items)
     × (length own ≡ 1024)
     × (length met ≡ 1024)
-    × Ahead (entriesFrom owners items) (length owners) (fine z next met) i (all (entryOk z next) (entriesOf 0 owners items) && distinct (markValues (entriesOf 0 owners items)))
+    × Ahead (entriesFrom owners items) (length owners) (fine z next met) i
+    (all (entryOk z next) (entriesOf 0 owners items) && distinct (markValues (entriesOf 0 owners items)))
     × ((u : ℕ) → Ahead (entriesFrom owners items) (length owners) (owns u own) i (eqb u 0 || any (isOwnMark u) (entriesOf 0 owners items)))
 
 abbrev μ : tie.MeasureT-loop

@@ -30,7 +30,8 @@ returns : tie.Need-returns
 returns c =
     let a = c .args in
     let four : length (a .t1) ≡ 4 = search needs in
-    tested (getD (a .t1) 0 0) (getD (a .t1) 1 0) (getD (a .t1) 2 0) (getD (a .t1) 3 0) (a .k) (c .pre) ∙ sym (ap (λ ps. all isZero (drop (a .k) ps)) (four-places (a .t1) four))
+    tested (getD (a .t1) 0 0) (getD (a .t1) 1 0) (getD (a .t1) 2 0) (getD (a .t1) 3 0) (a .k) (c .pre)
+    ∙ sym (ap (λ ps. all isZero (drop (a .k) ps)) (four-places (a .t1) four))
 
 pub unused-zero-spec : {M : Type 1} → statement M
 unused-zero-spec = tie.close (tie.spec (λ c. search needs) (λ c. search needs) (λ c. search needs) (λ c. search needs) returns)

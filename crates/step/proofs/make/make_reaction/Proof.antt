@@ -40,7 +40,8 @@ returns c =
     let m = start .args .mv in
     rw (c .refused .ensures)
     (made-malformed (start .pre .0 .workable) refl
-    (sym (form-no-rule _ (sizes .sizes-of .ensures) (m .head) (m .picks) (four start) (start .pre .1) (rw (sizes .before .number-of .ensures) at (c .before .if1 .taken)))))
+    (sym (form-no-rule _ (sizes .sizes-of .ensures) (m .head) (m .picks) (four start) (start .pre .1)
+    (rw (sizes .before .number-of .ensures) at (c .before .if1 .taken)))))
 
 chosen : (c : tie.After-rule-at) → Chosen (start c .args .table .now) (c .rule-at .result) (start c .args .mv .head) (start c .args .mv .picks)
 chosen c = record {
@@ -58,13 +59,16 @@ returns-2 : tie.Need-returns-2
 returns-2 c =
     let rule = c .before .before .before in
     rw (c .refused2 .ensures)
-    (made-malformed (start rule .pre .0 .workable) refl (sym (reaction-form (chosen rule) (c .before .before .unused-zero .ensures)) ∙ not-true _ (c .before .if2 .taken)))
+    (made-malformed (start rule .pre .0 .workable) refl (sym (reaction-form (chosen rule) (c .before .before .unused-zero .ensures))
+    ∙ not-true _ (c .before .if2 .taken)))
 
 react-verdict-requires : tie.Need-react-verdict-requires
 react-verdict-requires c κs =
     let rule = c .before .before .before .before in
-    let w = start rule .pre .0 .workable in
-    (record { owners = w .arrays .owners; items = w .arrays .items; fits = omega (arith, w .bounds .fits, w .limit) }, decodes-itself _ _ (rule .rule-at .ensures))
+    let w = start rule .pre .0 .workable in (
+      record { owners = w .arrays .owners; items = w .arrays .items; fits = omega (arith, w .bounds .fits, w .limit) },
+      decodes-itself _ _ (rule .rule-at .ensures),
+    )
 
 returns-3 : tie.Need-returns-3
 returns-3 c =
@@ -93,8 +97,11 @@ make-reaction-spec =
     tie.close
     (tie.spec
     (λ c κs. search needs) (λ c κs. well-formed _ (c .before .before .before .pre .0 .indexed .table) .sizes .long) (λ c κs. search needs) returns
-    (λ c κs. let start = c .before .before .before .before .before .before in
-    (start .pre .0 .indexed .table, below-rules (start .args .table .now) (c .before .before .sizes-of .ensures) (c .if1 .left), start .pre .0 .indexed .starts))
+    (λ c κs. let start = c .before .before .before .before .before .before in (
+      start .pre .0 .indexed .table,
+      below-rules (start .args .table .now) (c .before .before .sizes-of .ensures) (c .if1 .left),
+      start .pre .0 .indexed .starts,
+    ))
     (λ c κs. c .rule-at .ensures .legal .most) (λ c κs. search needs) returns-2
     react-verdict-requires (λ c. search needs) (λ c κs. search needs) returns-3
     (λ c. search needs) react-requires returns-4)

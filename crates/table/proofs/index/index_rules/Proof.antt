@@ -15,7 +15,8 @@ use Rattle.table.proofs.index.index_rules.Reads as reads
 use Rattle.table.proofs.index.index_rules.Lts as lts
 
 abbrev Inv-loop : tie.InvT-loop
-Inv-loop numbers rules starts₀ limit seen₀ i₀ starts seen i = (i ≤ length numbers) × (numbersOk rules numbers ≡ dense rules seen (drop i numbers)) × Marked numbers i seen starts
+Inv-loop numbers rules starts₀ limit seen₀ i₀ starts seen i = (i ≤ length numbers) × (numbersOk rules numbers ≡ dense rules seen (drop i numbers))
+    × Marked numbers i seen starts
 
 abbrev μ-loop : tie.MeasureT-loop
 μ-loop numbers rules starts₀ limit seen₀ i₀ starts seen i = length numbers - i

@@ -11,7 +11,8 @@ part-requires : tie.Need-part-requires
 part-requires c κs = omega (arith, ap (λ (z : Sizes). z .atoms) (c .before .sizes-of .ensures))
 
 returns : tie.Need-returns
-returns c = c .part .ensures ∙ words-part (c .before .before .before .before .args .table .now) _ (ap (λ (z : Sizes). z .atoms) (c .before .before .sizes-of .ensures))
+returns c = c .part .ensures ∙ words-part (c .before .before .before .before .args .table .now) _
+    (ap (λ (z : Sizes). z .atoms) (c .before .before .sizes-of .ensures))
 
 pub atom-words-of-spec : {M : Type 1} → statement M
 atom-words-of-spec = tie.close (tie.spec (λ c κs. search needs) (λ c. search needs) (λ c. search needs) part-requires returns)

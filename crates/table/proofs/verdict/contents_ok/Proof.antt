@@ -20,7 +20,8 @@ index-rules-requires c κs =
 returns : tie.Need-returns
 returns c =
     let b = c .before .before .before in
-    numbers-wrong _ (b .before .before .before .pre .0) (b .before .sizes-of .ensures) (b .numbers-of .ensures) (c .before .index-rules .ensures) (not-true _ (c .if1 .taken))
+    numbers-wrong _ (b .before .before .before .pre .0) (b .before .sizes-of .ensures) (b .numbers-of .ensures) (c .before .index-rules .ensures)
+    (not-true _ (c .if1 .taken))
 
 rules-ok-requires : tie.Need-rules-ok-requires
 rules-ok-requires c κs =
