@@ -1,3 +1,4 @@
 pub mod Runs
+pub mod Fold
 pub mod Lines
 pub mod Whole

@@ -1,18 +1,18 @@
 -- The figures of the program's lines as words, four a line, and the laws of the loop that writes them.
-use Prim.Native.Nat.{ℕ, _+_, _*_, _≤_, _<_}
+use Prim.Native.Nat.{ℕ, suc, _+_, _*_, _≤_, _<_}
 use mathlib.Core.List.{List, [], _∷_, _++_, append-nil, append-assoc}
 use mathlib.Core.Path.{_≡_, refl, sym, ap, _∙_}
-use native.Mathlib.Numerals.{add-one}
 use native.Mathlib.Omega.{arith}
 use lib.ListN.{length, length-append}
 use lib.Seq.{sets, length-sets}
 use Rattle.lists.specs.Lists.{over}
 use Rattle.lists.specs.Over.{over-sets}
-use Rattle.lists.specs.Ahead.{Ahead, ahead-here, ahead-next, ahead-done}
 use Rattle.semantics.specs.Table.{Table}
 use Rattle.semantics.specs.Log.{moveCount, moveAt, movesOf}
 use Rattle.semantics.specs.Answers.{number, lineCeiling}
-use Rattle.semantics.specs.Program.{Line, lineOf, linesFrom}
+use Rattle.semantics.specs.State as semantics
+use Rattle.semantics.specs.Move.{Stepped, to, refused, stepWords}
+use Rattle.semantics.specs.Program.{Line, lineOf, linesBy, linesFrom}
 use Rattle.semantics.specs.declared.Refusal.{Refusal}
 use Rattle.semantics.specs.declared.Verdict.{Verdict}
 use Rattle.semantics.specs.declared.Verdict.the-variants.{Allowed, Denied}
@@ -21,7 +21,8 @@ use Rattle.state.specs.Working.{stateIn}
 use Rattle.state.specs.Arrays.{count-in}
 use Rattle.step.specs.declared.make.Made.{Made}
 use Rattle.step.specs.Make.{Workable, MadeAs}
-use Rattle.run.specs.Runs.{Prepared, movesFrom, moves-tails, moves-whole}
+use Rattle.run.specs.Runs.{Prepared}
+use Rattle.run.specs.Fold.{gatherBy, foldLog, Folded, folded-start, folded-made, folded-refused, folded-end}
 
 -- ---- contracts
 
@@ -70,52 +71,56 @@ line-words : (i answer : ℕ) (s : State) → lineWords (lineOf i answer (stateI
 unfolding stateIn
 line-words i answer s = rw (count-in s)
 
--- ---- the line of a move that is made or refused
+-- ---- the lines as a fold over the log: an accepted move adds its line, and a refused one the last
 
--- a refused move is the last line
-abbrev ifMade : Verdict → List Line → List Line
-ifMade Allowed xs = xs
-ifMade (Denied q) xs = []
+abbrev addLine : ℕ → semantics.State → List ℕ → semantics.State → List Line → List Line
+addLine i s w s′ xs = xs ++ lineOf i 0 s′ ∷ []
 
-made-lines : (v : Verdict) {x : Made} {ceiling : ℕ} {t : Table} {i : ℕ} {w : List ℕ} {s s′ : State} → x .verdict ≡ v
-    → MadeAs x ceiling t (i + 1) w s s′ → (rest : List (List ℕ))
-    → linesFrom ceiling t i (stateIn s) (w ∷ rest) ≡ lineOf i (answerIn v) (stateIn s′) ∷ ifMade v (linesFrom ceiling t (i + 1) (stateIn s′) rest)
-unfolding linesFrom
-made-lines Allowed {i = i} e m rest = rw (rw (add-one i, e) at (m .step), add-one i)
-made-lines (Denied q) {i = i} e m rest = rw (rw (add-one i, e) at (m .step), m .same q e)
+abbrev addLast : ℕ → semantics.State → Refusal → List Line → List Line
+addLast i s q xs = xs ++ lineOf i (number q) s ∷ []
+
+lines-fold : (ceiling : ℕ) (t : Table) (i : ℕ) (s : semantics.State) (ms : List (List ℕ)) (xs : List Line)
+    → foldLog addLine addLast ceiling t i s ms xs ≡ xs ++ linesFrom ceiling t i s ms
+unfolding foldLog linesFrom
+lines-fold ceiling t i s [] xs = sym (append-nil xs)
+lines-fold ceiling t i s (m ∷ ms) xs = go (λ s′ ys. lines-fold ceiling t (suc i) s′ ms ys) (stepWords ceiling t (suc i) s m)
+  where
+    go : ((s′ : semantics.State) (ys : List Line) → foldLog addLine addLast ceiling t (suc i) s′ ms ys ≡ ys ++ linesFrom ceiling t (suc i) s′ ms)
+        → (x : Stepped) → gatherBy addLine addLast ceiling t x i s m xs (λ s′ a′. foldLog addLine addLast ceiling t (suc i) s′ ms a′)
+        ≡ xs ++ linesBy x i s (λ s′. linesFrom ceiling t (suc i) s′ ms)
+    go ih (to s′) = ih s′ (xs ++ lineOf i 0 s′ ∷ []) ∙ append-assoc xs (lineOf i 0 s′ ∷ []) (linesFrom ceiling t (suc i) s′ ms)
+    go ih (refused q) = refl
 
 -- ---- the loop: at place i the lines of the moves before it are written, and s is the state there
 
 pub record Tracing (t : Table) (l : List ℕ) (start : State) (before : List ℕ) (i : ℕ) (s : State) (after : List ℕ) : Type 0 where
   pub made : List Line
+  pub folded : Folded addLine addLast lineCeiling t l start [] i s made
   pub count : length made ≡ i
-  pub ahead : Ahead (movesFrom l) (moveCount l) (λ ms. made ++ linesFrom lineCeiling t i (stateIn s) ms) i (linesIn t l start)
   pub target : after ≡ over (lineWords made) before
   pub size : length after ≡ length before
-  pub workable : Workable s lineCeiling
 
 pub tracing-start : (t : Table) (l : List ℕ) {s : State} (before : List ℕ) → Workable s lineCeiling → Tracing t l s before 0 s before
-tracing-start t l before w = record {
-  made = [];
-  count = refl;
-  ahead = record { within = omega arith; so-far = rw (moves-whole l) };
-  target = refl;
-  size = refl;
-  workable = w;
-}
+tracing-start t l before w =
+    record { made = []; folded = folded-start addLine addLast lineCeiling t l [] w; count = refl; target = refl; size = refl }
 
 module _ {t : Table} {l : List ℕ} {start : State} {before : List ℕ} {i : ℕ} {s : State} {after : List ℕ} (h : Tracing t l start before i s after) where
+  pub tracing-workable : Workable s lineCeiling
+  tracing-workable = h .folded .reached .workable
+
   -- all lines are written
-  traced : (xs : List Line) {new : List ℕ} {n : ℕ} → length xs ≡ n → new ≡ over (lineWords xs) before → xs ≡ linesIn t l start
-      → TracedAs (linesIn t l start) before new n
-  traced xs n e all = record { count = sym n ∙ ap length all; target = e ∙ ap (λ (xs : List Line). over (lineWords xs) before) all }
+  traced : (xs : List Line) {new : List ℕ} {n : ℕ} → length xs ≡ n → new ≡ over (lineWords xs) before
+      → xs ≡ foldLog addLine addLast lineCeiling t 0 (stateIn start) (movesOf l) [] → TracedAs (linesIn t l start) before new n
+  traced xs n e all =
+      let whole : xs ≡ linesIn t l start = all ∙ lines-fold lineCeiling t 0 (stateIn start) (movesOf l) [] in
+      record { count = sym n ∙ ap length whole; target = e ∙ ap (λ (xs : List Line). over (lineWords xs) before) whole }
 
   -- no move is left
   pub tracing-end : moveCount l ≤ i → TracedAs (linesIn t l start) before after i
-  unfolding linesFrom
-  tracing-end e = traced (h .made) (h .count) (h .target) (sym (append-nil (h .made)) ∙ ahead-done (moves-tails l) (h .ahead) e)
+  tracing-end e = traced (h .made) (h .count) (h .target) (folded-end addLine addLast lineCeiling t (h .folded) e)
 
-  module _ (more : i < moveCount l) (room : 4 * moveCount l ≤ length before) {x : Made} {s′ : State} (m : MadeAs x lineCeiling t (i + 1) (moveAt l i) s s′)
+  module _ (more : i < moveCount l) (room : 4 * moveCount l ≤ length before)
+      {x : Made} {s′ : State} (m : MadeAs x lineCeiling t (i + 1) (moveAt l i) s s′)
       {new : List ℕ} (write : new ≡ sets after (4 * i) (i ∷ answerIn (x .verdict) ∷ s′ .len ∷ s′ .next ∷ [])) where
     line : Line
     line = lineOf i (answerIn (x .verdict)) (stateIn s′)
@@ -131,28 +136,19 @@ module _ {t : Table} {l : List ℕ} {start : State} {before : List ℕ} {i : ℕ
     count-new : length (h .made ++ line ∷ []) ≡ i + 1
     count-new = omega (arith, length-append (h .made) (line ∷ []), h .count)
 
-    lines-on : {u : Verdict} → x .verdict ≡ u → (ms : List (List ℕ))
-        → h .made ++ linesFrom lineCeiling t i (stateIn s) (moveAt l i ∷ ms)
-        ≡ (h .made ++ line ∷ []) ++ ifMade u (linesFrom lineCeiling t (i + 1) (stateIn s′) ms)
-    unfolding line
-    lines-on {u} e ms =
-        ap (λ (xs : List Line). h .made ++ xs) (made-lines (x .verdict) refl m ms)
-        ∙ sym (append-assoc (h .made) (line ∷ []) (ifMade (x .verdict) (linesFrom lineCeiling t (i + 1) (stateIn s′) ms)))
-        ∙ ap (λ (u : Verdict). (h .made ++ line ∷ []) ++ ifMade u (linesFrom lineCeiling t (i + 1) (stateIn s′) ms)) e
-
     -- an accepted move
     pub tracing-made : x .verdict ≡ Allowed → Tracing t l start before (i + 1) s′ new
+    unfolding line
     tracing-made e = record {
       made = h .made ++ line ∷ [];
+      folded = rw e (folded-made addLine addLast lineCeiling t (h .folded) more m e);
       count = count-new;
-      ahead = ahead-next (moves-tails l) (h .ahead) more _ (lines-on e);
       target = written;
       size = ap length write ∙ length-sets after (4 * i) (i ∷ answerIn (x .verdict) ∷ s′ .len ∷ s′ .next ∷ []) ∙ h .size;
-      workable = m .workable;
     }
 
     -- a refused move is the last line
     pub tracing-refused : {q : Refusal} → x .verdict ≡ Denied q → TracedAs (linesIn t l start) before new (i + 1)
-    tracing-refused e =
-        traced (h .made ++ line ∷ []) count-new written
-        (ahead-here (moves-tails l) (h .ahead) more (h .made ++ line ∷ []) (λ ms. lines-on e ms ∙ append-nil (h .made ++ line ∷ [])))
+    unfolding line
+    tracing-refused {q} e =
+        traced (h .made ++ line ∷ []) count-new written (rw (e, m .same q e) (folded-refused addLine addLast lineCeiling t (h .folded) more m e))

@@ -6,7 +6,7 @@ use borrow.Author.Needs.{needs}
 use Rattle.semantics.specs.Table.{tableOf}
 use Rattle.semantics.specs.Log.{moveCount}
 use Rattle.state.specs.Working.{held}
-use Rattle.run.specs.Lines.{Traceable, Tracing, tracing-start, tracing-made, tracing-refused, tracing-end}
+use Rattle.run.specs.Lines.{Traceable, Tracing, tracing-start, tracing-workable, tracing-made, tracing-refused, tracing-end}
 use Rattle.run.proofs.trace.trace.Statement.{statement}
 use Rattle.run.proofs.trace.trace.Tie as tie
 
@@ -31,7 +31,7 @@ make-at-requires : tie.Need-make-at-requires Inv μ
 make-at-requires c κs =
     let turn = c .before .before .before in
     let v = turn .before .loop .inv in
-    ((v .0 .prepared, more turn), v .2 .workable)
+    ((v .0 .prepared, more turn), tracing-workable (v .2))
 
 put-line-requires : tie.Need-put-line-requires Inv μ
 put-line-requires c κs =
