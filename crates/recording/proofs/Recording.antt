@@ -12,8 +12,8 @@ use Rattle.lists.specs.Fronts.{part-kept}
 use Rattle.lists.specs.Each.{All, All-map, All-append}
 use Rattle.semantics.specs.Table.{Table, sizesOf, tableOf}
 use Rattle.semantics.specs.State as semantics
-use Rattle.semantics.specs.Move.{to, moveOf, picksUsed, applied, step, stepWords}
-use Rattle.semantics.specs.Log.{moveCount, moveAt, movesOf}
+use Rattle.semantics.specs.Move.{Stepped, to, refused, moveOf, picksUsed, applied, step, stepWords}
+use Rattle.semantics.specs.Log.{moveCount, moveAt, movesOf, ended, onward, run}
 use Rattle.semantics.specs.Serial.{Act, picksOf, membersOf, after, acts}
 use Rattle.semantics.specs.declared.Refusal.{Refusal}
 use Rattle.semantics.specs.declared.Verdict.the-variants.{Allowed, Denied}
@@ -29,7 +29,8 @@ use Rattle.state.specs.Working.{stateIn}
 use Rattle.step.specs.declared.make.Made.{Made}
 use Rattle.step.specs.Make.{MadeAs}
 use Rattle.run.specs.declared.Ran.{Ran}
-use Rattle.run.specs.Runs.{movesFrom, moves-tails, moves-whole, Reached, reached-start, reached-made, reached-refused, reached-end}
+use Rattle.run.specs.Runs.{reached-refused, reached-end}
+use Rattle.run.specs.Fold.{gatherBy, foldLog, Folded, folded-start, folded-made, folded-end}
 use Rattle.serial_laws.specs.Acts.{Recorded, endsBegun, endAfter}
 use Rattle.recording.specs.Marks.{Lent, OneOf}
 use Rattle.recording.specs.Recordings.{wordsAt, concernedBy, markBy, MoveNoted, ifGrown, Recordable, RecordRoom, RecordedAs}
@@ -86,17 +87,43 @@ module _ (members : List ℕ) (i w v : ℕ) where
   grown-here true l = getD-set-same members i w 0 l
   grown-here false l = getD-set-same (set members i w) i v 0 (omega (arith, length-set members i w))
 
+-- ---- the acts of an accepted log, as a fold over it
+
+abbrev actAt : Table → ℕ → semantics.State → List ℕ → Act
+actAt t i s w = record { place = i; move = moveOf t w; picks = picksOf s (moveOf t w); members = membersOf t i s (moveOf t w) }
+
+abbrev addAct : Table → ℕ → semantics.State → List ℕ → semantics.State → List Act → List Act
+addAct t i s w s′ xs = xs ++ actAt t i s w ∷ []
+
+abbrev addNone : ℕ → semantics.State → Refusal → List Act → List Act
+addNone i s q xs = xs
+
+acts-fold : (ceiling : ℕ) (t : Table) (i : ℕ) (s : semantics.State) (ms : List (List ℕ)) (e : semantics.State) (xs : List Act) → run ceiling t i s ms ≡ ended e
+    → foldLog (addAct t) addNone ceiling t i s ms xs ≡ xs ++ acts t i s (map (moveOf t) ms)
+unfolding foldLog acts run
+acts-fold ceiling t i s [] e xs h = sym (append-nil xs)
+acts-fold ceiling t i s (m ∷ ms) e xs h = go (λ s′ ys k. acts-fold ceiling t (suc i) s′ ms e ys k) (stepWords ceiling t (suc i) s m) refl h
+  where
+    go : ((s′ : semantics.State) (ys : List Act) → run ceiling t (suc i) s′ ms ≡ ended e
+        → foldLog (addAct t) addNone ceiling t (suc i) s′ ms ys ≡ ys ++ acts t (suc i) s′ (map (moveOf t) ms))
+        → (x : Stepped) → stepWords ceiling t (suc i) s m ≡ x → onward x i (λ s′. run ceiling t (suc i) s′ ms) ≡ ended e
+        → gatherBy (addAct t) addNone ceiling t x i s m xs (λ s′ a′. foldLog (addAct t) addNone ceiling t (suc i) s′ ms a′)
+        ≡ xs ++ actAt t i s m ∷ acts t (suc i) (after t (suc i) s (moveOf t m)) (map (moveOf t) ms)
+    go ih (to s′) q k =
+        ih s′ (xs ++ actAt t i s m ∷ []) k
+        ∙ append-assoc xs (actAt t i s m ∷ []) (acts t (suc i) s′ (map (moveOf t) ms))
+        ∙ ap (λ (z : semantics.State). xs ++ actAt t i s m ∷ acts t (suc i) z (map (moveOf t) ms)) (sym (after-accepted ceiling t (suc i) s m s′ q))
+    go ih (refused r) q k = absurd (let z : _≡_ {A = ℕ} 0 1 = cc in omega arith)
+
 -- ---- the loop
 
 pub record Recording (T index l : List ℕ) (s₀ : State) (ceiling : ℕ) (before : List ℕ) (i : ℕ) (begun origins members ended : List ℕ) (s : State) : Type 0 where
   pub asked : Recordable T index l s₀ ceiling
   pub room : RecordRoom l origins members ended begun
-  pub reached : Reached ceiling (tableOf T) l s₀ i s
+  made : List Act
+  pub folded : Folded (addAct (tableOf T)) addNone ceiling (tableOf T) l s₀ [] i s made
   pub held : Held (sizesOf T) (stateIn s)
   pub tracked : Tracked (s₀ .next) begun i (stateIn s)
-  made : List Act
-  so-far : made ++ acts (tableOf T) i (stateIn s) (map (moveOf (tableOf T)) (movesFrom l i))
-      ≡ acts (tableOf T) 0 (stateIn s₀) (map (moveOf (tableOf T)) (movesOf l))
   each : All (Done (tableOf T) l origins members i) made
   ends : (p : ℕ) → p < 1024 → getD ended p 0 ≡ endAfter p (getD before p 0) made
 
@@ -106,11 +133,10 @@ unfolding stateIn
 recording-start {T} {index} {l} {s} {ceiling} {before} a r = record {
   asked = a;
   room = r;
-  reached = reached-start (tableOf T) l (a .workable);
+  made = [];
+  folded = folded-start (addAct (tableOf T)) addNone ceiling (tableOf T) l [] (a .workable);
   held = a .held;
   tracked = tracked-start (stateIn s) (a .held .sound) (a .closed) (r .begun);
-  made = [];
-  so-far = rw (moves-whole l);
   each = tt;
   ends = λ p q. refl;
 }
@@ -119,7 +145,7 @@ module _ {T index l : List ℕ} {s₀ : State} {ceiling : ℕ} {before : List �
     (h : Recording T index l s₀ ceiling before i begun origins members ended s)
   where
     pub recording-lent : Lent (s .owners) (s .items) (s .origins) (s .len)
-    recording-lent = let w = h .reached .workable in record { arrays = w .arrays; fits = omega (arith, w .bounds .fits, w .limit) }
+    recording-lent = let w = h .folded .reached .workable in record { arrays = w .arrays; fits = omega (arith, w .bounds .fits, w .limit) }
 
     pub recording-place : i < moveCount l → i < 1024
     recording-place more = omega (arith, h .asked .prepared .log .few)
@@ -132,12 +158,13 @@ module _ {T index l : List ℕ} {s₀ : State} {ceiling : ℕ} {before : List �
     -- no move is left
     pub recording-end : moveCount l ≤ i → {ran : Ran} → ran .verdict ≡ Allowed → ran .place ≡ i
         → RecordedAs ran ceiling (tableOf T) l s₀ s origins members before ended
-    unfolding acts
     recording-end q said at =
+        let r = reached-end (h .folded .reached) q said at in
         let all : h .made ≡ acts (tableOf T) 0 (stateIn s₀) (map (moveOf (tableOf T)) (movesOf l)) =
-        sym (append-nil (h .made)) ∙ (rw (moves-tails l .none i q) at (h .so-far)) in
+        folded-end (addAct (tableOf T)) addNone ceiling (tableOf T) (h .folded) q
+        ∙ acts-fold ceiling (tableOf T) 0 (stateIn s₀) (movesOf l) (stateIn s) [] (sym (rw said at (r .value))) in
         record {
-          ran = reached-end (h .reached) q said at;
+          ran = r;
           recordings = λ v. rw (← all) (record { each = All-map (λ a d. d .recorded) (h .made) (h .each); ends = h .ends });
         }
 
@@ -173,7 +200,7 @@ module _ {T index l : List ℕ} {s₀ : State} {ceiling : ℕ} {before : List �
         pub recording-refused : {q : Refusal} → x .verdict ≡ Denied q → {ran : Ran} → ran .verdict ≡ x .verdict → ran .place ≡ i
             → RecordedAs ran ceiling (tableOf T) l s₀ s′ origins′ members′ before ended′
         recording-refused {q} e said at = record {
-          ran = reached-refused (h .reached) more of-log e said at;
+          ran = reached-refused (h .folded .reached) more of-log e said at;
           recordings = λ a. absurd (denied≢allowed (sym e ∙ sym said ∙ a));
         }
 
@@ -194,12 +221,7 @@ module _ {T index l : List ℕ} {s₀ : State} {ceiling : ℕ} {before : List �
           }
 
           act : Act
-          act = record {
-            place = i;
-            move = moveOf (tableOf T) (head ∷ picks);
-            picks = picksOf (stateIn s) (moveOf (tableOf T) (head ∷ picks));
-            members = membersOf (tableOf T) i (stateIn s) (moveOf (tableOf T) (head ∷ picks));
-          }
+          act = actAt (tableOf T) i (stateIn s) (head ∷ picks)
 
           act-picks : act .picks ≡ map originOf (wordsAt (s .origins) (take (picksUsed (tableOf T) head) picks))
           unfolding act
@@ -243,31 +265,23 @@ module _ {T index l : List ℕ} {s₀ : State} {ceiling : ℕ} {before : List �
               noted .ends .each p q
               ∙ rw (endAfter-more p (getD before p 0) (h .made) act, ends-marks (tableOf T) i (stateIn s) head picks p, h .ends p q)
 
-          acts-onward : acts (tableOf T) i (stateIn s) (map (moveOf (tableOf T)) (movesFrom l i))
-              ≡ act ∷ acts (tableOf T) (i + 1) (stateIn s′) (map (moveOf (tableOf T)) (movesFrom l (i + 1)))
-          unfolding act acts
-          acts-onward =
-              rw (
-                moves-tails l .more i more,
-                ← words,
-                add-one i,
-                after-accepted ceiling (tableOf T) (suc i) (stateIn s) (head ∷ picks) (stateIn s′) (rw (add-one i) at stepped),
-              )
+          next-folded : Folded (addAct (tableOf T)) addNone ceiling (tableOf T) l s₀ [] (i + 1) s′ (h .made ++ act ∷ [])
+          unfolding act
+          next-folded = rw words (folded-made (addAct (tableOf T)) addNone ceiling (tableOf T) (h .folded) more of-log ok)
 
           pub recording-next : Recording T index l s₀ ceiling before (i + 1) begun′ origins′ members′ ended′ s′
           unfolding stateIn
           recording-next = record {
             asked = h .asked;
             room = recording-room;
-            reached = reached-made (h .reached) more of-log ok;
+            made = h .made ++ act ∷ [];
+            folded = next-folded;
             held = step-holds T (h .asked .prepared .indexed .table) ceiling (i + 1) (stateIn s) (head ∷ picks) (stateIn s′)
-                (h .reached .workable .limit) (h .held) stepped;
+                (h .folded .reached .workable .limit) (h .held) stepped;
             tracked = subst (λ (x : semantics.State). Tracked (s₀ .next) begun′ (i + 1) x) (passed .result)
                 (rw (marked .0, ← ap (λ (x : semantics.State). x .next) (passed .result))
                 (tracked-next (h .tracked) place-fits (tableOf T) (table-shaped (tableOf T) (legal .table) (legal .quiet))
                 (moveOf (tableOf T) (head ∷ picks))));
-            made = h .made ++ act ∷ [];
-            so-far = append-assoc (h .made) (act ∷ []) _ ∙ ap (λ (xs : List Act). h .made ++ xs) (sym acts-onward) ∙ h .so-far;
             each = All-append _ (h .made) (act ∷ [])
                 (All-map (done-kept (tableOf T) l origins origins′ members members′ i (picks-before (s .origins) picks i (noted .picked) row-room four)
                 (λ p q. ap (λ (xs : List ℕ). getD xs p 0) members-are ∙ grown-other members i _ _ (eqb (s .next) (s′ .next)) p (λ z. omega arith)))

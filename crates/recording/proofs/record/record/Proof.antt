@@ -55,7 +55,7 @@ make-requires : tie.Need-make-requires Inv μ
 make-requires c κs =
     let at = turn (read-of c) in
     let v = at .before .loop .inv .2 in
-    record { indexed = v .asked .prepared .indexed; maker-fits = omega (arith, small at); workable = v .reached .workable }
+    record { indexed = v .asked .prepared .indexed; maker-fits = omega (arith, small at); workable = v .folded .reached .workable }
 
 note-begin-requires : tie.Need-note-begin-requires Inv μ
 note-begin-requires c κs =
@@ -110,5 +110,5 @@ record-spec =
     ∙ turn (told-read c) .before .loop .inv .1)
     returns (λ c. search needs)
     (λ c. omega (arith, small (turn (made-read c)))) (λ c. omega (arith, turn (made-read c) .loop-test .taken)) loop-again
-    (λ c. omega (arith, c .before .loop .inv .2 .reached .within, c .before .loop .inv .2 .asked .prepared .log .few))
+    (λ c. omega (arith, c .before .loop .inv .2 .folded .reached .within, c .before .loop .inv .2 .asked .prepared .log .few))
     (λ c. c .before .loop .inv .1) returns-2)
