@@ -13,61 +13,51 @@ fn holds(name: &str) {
 }
 
 #[test]
-#[ignore = "the tree has findings"]
 fn every_law_is_cited() {
     holds("cited");
 }
 
 #[test]
-#[ignore = "the tree has findings"]
 fn theorems_for_readers_are_there() {
     holds("theorems");
 }
 
 #[test]
-#[ignore = "the tree has findings"]
 fn a_name_is_declared_once() {
     holds("names");
 }
 
 #[test]
-#[ignore = "the tree has findings"]
 fn a_law_has_its_own_name() {
     holds("module names");
 }
 
 #[test]
-#[ignore = "the tree has findings"]
 fn a_statement_is_proved_once() {
     holds("statements");
 }
 
 #[test]
-#[ignore = "the tree has findings"]
 fn functions_are_short() {
     holds("functions");
 }
 
 #[test]
-#[ignore = "the tree has findings"]
 fn lines_are_short() {
     holds("columns");
 }
 
 #[test]
-#[ignore = "the tree has findings"]
 fn lines_of_proofs_are_short() {
     holds("proof columns");
 }
 
 #[test]
-#[ignore = "the tree has findings"]
 fn code_names_fields() {
     holds("fields");
 }
 
 #[test]
-#[ignore = "the tree has findings"]
 fn definitions_name_fields() {
     holds("spec fields");
 }
@@ -78,31 +68,26 @@ fn files_say_what_they_hold() {
 }
 
 #[test]
-#[ignore = "the tree has findings"]
 fn what_is_brought_in_is_used() {
     holds("uses");
 }
 
 #[test]
-#[ignore = "the tree has findings"]
 fn edits_change_one_place() {
     holds("edits");
 }
 
 #[test]
-#[ignore = "the tree has findings"]
 fn the_architecture_has_the_crates() {
     holds("crates");
 }
 
 #[test]
-#[ignore = "the tree has findings"]
 fn crates_stand_in_layers() {
     holds("layers");
 }
 
 #[test]
-#[ignore = "the tree has findings"]
 fn pages_name_what_is_there() {
     holds("pages");
 }

@@ -4,12 +4,20 @@ use super::{File, Finding, Part, Tree};
 const MOST_LINES: usize = 40;
 const MOST_COLUMNS: usize = 160;
 
+/// The two passes of the serial log and the function that lends them their arrays. `rt fmt` gives each
+/// argument of such a call a line, and the prover lends no struct of references, so they stay long.
+const LENDING: [(&str, &str); 3] = [
+    ("crates/recording/src/record.rt", "record"),
+    ("crates/replay/src/lib.rt", "replay"),
+    ("crates/serial/src/lib.rt", "serialized"),
+];
+
 /// Functions with too many lines, from `fn` to the closing brace.
 pub fn long_functions(tree: &Tree) -> Vec<Finding> {
     let mut found = Vec::new();
     for file in tree.in_part(Part::Src) {
         for (line, name, lines) in functions(&file.text) {
-            if lines > MOST_LINES {
+            if lines > MOST_LINES && !LENDING.contains(&(&*file.path, name)) {
                 found.push(file.at(line, format!("fn {name} has {lines} lines")));
             }
         }
