@@ -1,6 +1,7 @@
 // A word looked for in a column, in chunks of 32 places: whether a chunk has it is told without an
 // early exit, so that several words are compared at once.
 ghost use Prim.Native.Nat.{ℕ, _+_, _≤_, _<_};
+ghost use mathlib.Core.Bool.{true};
 ghost use mathlib.Core.Path.{_≡_};
 ghost use lib.ListN.{length, getD};
 ghost use Rattle.words.specs.Search.{inChunk, ChunkEnd};
@@ -22,7 +23,8 @@ pub fn chunk_has(words: &[u32; 1024], from: usize, x: u32) -> bool
 // Where the first chunk begins that has the word, n if none before n has it.
 pub fn chunk_of(words: &[u32; 1024], n: usize, x: u32) -> usize
     requires { ⌜ (n ≤ 1024) × (length (now words) ≡ 1024) ⌝ }
-    ensures { λ r. ⌜ (r ≤ n) × ((j : ℕ) → j < r → getD (now (words .entry)) j 0 ≡ x → ⊥) ⌝ }
+    ensures { λ r. ⌜ (r ≤ n) × ((j : ℕ) → j < r → getD (now (words .entry)) j 0 ≡ x → ⊥)
+        × (r < n → inChunk (now (words .entry)) r x ≡ true) ⌝ }
 {
     let mut at = 0;
     while at < n {

@@ -24,8 +24,9 @@ chunk-of-spec =
     (tie.spec Inv μ
     (λ c. (c .pre .0, record { size = c .pre .1; whole = omega arith; within = omega arith; none = λ j l e. absurd (omega arith) }))
     (λ c κs. let v = c .before .loop .inv in (lacking-room (v .1) (v .0) (c .loop-test .taken), v .1 .size))
-    (λ c. let turn = c .before .before in (omega (arith, turn .loop-test .taken), turn .before .loop .inv .1 .none))
+    (λ c. let turn = c .before .before in
+    (omega (arith, turn .loop-test .taken), turn .before .loop .inv .1 .none, λ l. sym (c .before .chunk-has .ensures) ∙ c .if1 .taken))
     (λ c. omega (arith, c .before .before .before .loop .inv .1 .within))
     (λ c. omega (arith, c .before .before .loop-test .taken))
     loop-again
-    (λ c. let v = c .before .loop .inv .1 in (omega arith, λ j l. v .none j (omega (arith, c .loop-test .left)))))
+    (λ c. let v = c .before .loop .inv .1 in (omega arith, (λ j l. v .none j (omega (arith, c .loop-test .left))), λ l. absurd (omega arith))))
