@@ -6,7 +6,7 @@ use Prim.Native.Nat.{ℕ, suc, _≤_}
 use native.Mathlib.Omega.{arith}
 use lib.Dec.{eqb, leb, ltb}
 use borrow.Author.Tests.{eqb-true, ne-eqb, leb-true}
-use Rattle.lists.specs.Lists.{all, isEmpty, isIn, count, least}
+use Rattle.lists.specs.Lists.{all, isEmpty, isIn, countIf, least}
 use Rattle.lists.specs.Choices.{by-bool, clash, and-left, and-intro}
 use Rattle.lists.specs.Numbers.{isIn-one, least-in, all-use, all-isIn, all-not}
 use Rattle.lists.specs.Each.{All, All-map, All-of}
@@ -20,7 +20,7 @@ pub data Shape (r : Rule) : Type 0 where
   -- a global rule without begin: it only emits
   plain : r .class ≡ 0 → begins r ≡ false → all (hasRole 1) (productAtoms r) ≡ true → Shape r
   -- a global rule with begin: it emits nothing, and the member mark is its first product
-  begin : r .class ≡ 0 → begins r ≡ true → count (hasRole 1) (r .atoms) ≡ 0 → (m : Atom) (rest : List Atom) → productAtoms r ≡ m ∷ rest → m .role ≡ 2
+  begin : r .class ≡ 0 → begins r ≡ true → countIf (hasRole 1) (r .atoms) ≡ 0 → (m : Atom) (rest : List Atom) → productAtoms r ≡ m ∷ rest → m .role ≡ 2
       → all (λ a. leb 3 (a .role)) rest ≡ true → Shape r
   -- a local or merge rule: it consumes something, and emits or aborts
   inner : eqb (r .class) 0 ≡ false → begins r ≡ false → isEmpty (consumed r) ≡ false → all (λ a. hasRole 1 a || hasRole 5 a) (productAtoms r) ≡ true → Shape r

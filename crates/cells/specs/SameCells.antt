@@ -6,7 +6,7 @@ use mathlib.Core.List.{List, [], _∷_, map}
 use Prim.Native.Nat.{ℕ, _+_}
 use native.Mathlib.Omega.{arith}
 use borrow.Author.Tests.{eq-eqb}
-use Rattle.lists.specs.Lists.{all, any, count, oneIf}
+use Rattle.lists.specs.Lists.{all, any, countIf, oneIf}
 use Rattle.lists.specs.Choices.{and-left, and-right}
 use Rattle.semantics.specs.State.{Origin, Entry, State, isMessage, owned}
 use Rattle.semantics.specs.Serial.{sameOrigin, anyOpen}
@@ -46,16 +46,16 @@ uniq-drop o (e ∷ l) u = go (sameOrigin o (e .origin)) (uniq-drop o l (u .1))
     go true ih = u .1
     go false ih = (look-drop o (e .origin) l (u .1) ∙ rw (u .0) (none-both (sameOrigin (e .origin) o)), ih)
 
-pub count-drop : (p : Entry → Bool) (o : Origin) (l : List Entry) (e : Entry) → look o l ≡ some e → count p l ≡ count p (e ∷ dropOne o l)
+pub count-drop : (p : Entry → Bool) (o : Origin) (l : List Entry) (e : Entry) → look o l ≡ some e → countIf p l ≡ countIf p (e ∷ dropOne o l)
 count-drop p o [] e h = absurd (none-some h)
 count-drop p o (x ∷ l) e h = go (sameOrigin o (x .origin)) (count-drop p o l e) h
   where
-    go : (b : Bool) → (look o l ≡ some e → count p l ≡ count p (e ∷ dropOne o l)) → cond b (some x) (look o l) ≡ some e
-        → count p (x ∷ l) ≡ count p (e ∷ cond b l (x ∷ dropOne o l))
-    go true ih w = ap (λ (y : Entry). count p (y ∷ l)) (some-inj w)
+    go : (b : Bool) → (look o l ≡ some e → countIf p l ≡ countIf p (e ∷ dropOne o l)) → cond b (some x) (look o l) ≡ some e
+        → countIf p (x ∷ l) ≡ countIf p (e ∷ cond b l (x ∷ dropOne o l))
+    go true ih w = ap (λ (y : Entry). countIf p (y ∷ l)) (some-inj w)
     go false ih w = let k = ih w in omega arith
 
-pub count-alike : (p : Entry → Bool) (l r : List Entry) → Uniq l → Uniq r → ((o : Origin) → look o l ≡ look o r) → count p l ≡ count p r
+pub count-alike : (p : Entry → Bool) (l r : List Entry) → Uniq l → Uniq r → ((o : Origin) → look o l ≡ look o r) → countIf p l ≡ countIf p r
 count-alike p [] [] u v h = refl
 count-alike p [] (e ∷ r) u v h = let w : look (e .origin) (e ∷ r) ≡ some e = rw (same-refl (e .origin)) in absurd (none-some (h (e .origin) ∙ w))
 count-alike p (e ∷ l) r u v h =
@@ -90,11 +90,11 @@ module _ (c e : State) (ρ : ℕ → ℕ) (rel : Rel c (view e) ρ) (n : NoneOpe
   end-closed = closed-all (c .entries) (all-look (owned 0) (c .entries) (rel .uniq)
       (λ o d h. eq-eqb (d .owner) 0 (n o (strip d) (sym (cells-same o) ∙ look-map strip (λ e. refl) o (c .entries) ∙ ap (omap strip) h))))
 
-  pub messages-same : all isMessage (c .entries) ≡ true → all isMessage (e .entries) ≡ true → (p : Entry → Bool) → count p (c .entries) ≡ count p (e .entries)
-  messages-same kinds-c kinds-e p = ap (count p) (sym (strip-all (c .entries) kinds-c))
+  pub messages-same : all isMessage (c .entries) ≡ true → all isMessage (e .entries) ≡ true → (p : Entry → Bool) → countIf p (c .entries) ≡ countIf p (e .entries)
+  messages-same kinds-c kinds-e p = ap (countIf p) (sym (strip-all (c .entries) kinds-c))
       ∙ count-alike p (map strip (c .entries)) (map strip (e .entries)) (uniq-map strip (λ e. refl) (c .entries) (rel .uniq))
       (uniq-map strip (λ e. refl) (e .entries) u) cells-same
-      ∙ ap (count p) (strip-all (e .entries) kinds-e)
+      ∙ ap (countIf p) (strip-all (e .entries) kinds-e)
     where
       strip-all : (l : List Entry) → all isMessage l ≡ true → map strip l ≡ l
       strip-all [] h = refl

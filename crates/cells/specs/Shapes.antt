@@ -8,7 +8,7 @@ use native.Mathlib.Omega.{arith}
 use lib.Dec.{eqb, leb, ltb}
 use borrow.Author.Tests.{eqb-true, eqb-false, eq-eqb, ne-eqb, le-leb, ltb-true, ltb-false}
 use lib.ListN.{length, getD, List·getD-eq-default}
-use Rattle.lists.specs.Lists.{all, any, isEmpty, count, oneIf, keep, keepIf, risesFrom}
+use Rattle.lists.specs.Lists.{all, any, isEmpty, countIf, oneIf, keep, keepIf, risesFrom}
 use Rattle.lists.specs.Choices.{by-bool, clash, and-right, or-cases}
 use Rattle.lists.specs.Tests.{or-right-true}
 use Rattle.lists.specs.Neither.{or-left-false, or-right-false}
@@ -26,7 +26,7 @@ abbrev makes : Atom → Bool
 makes a = not (hasRole 0 a)
 
 -- without emits, the first atom that makes something is the begin, and the others come after it
-begin-first : (m : ℕ) (l : List Atom) → risesFrom m (λ a. a .role) l ≡ true → any (hasRole 2) l ≡ true → any (hasRole 1) l ≡ false → count (hasRole 2) l ≤ 1
+begin-first : (m : ℕ) (l : List Atom) → risesFrom m (λ a. a .role) l ≡ true → any (hasRole 2) l ≡ true → any (hasRole 1) l ≡ false → countIf (hasRole 2) l ≤ 1
     → (a : Atom) × (rest : List Atom) × (keep makes l ≡ a ∷ rest) × (a .role ≡ 2) × (all (λ b. leb 3 (b .role)) rest ≡ true)
 begin-first m [] h b e c = absurd (false≢true b)
 begin-first m (a ∷ l) h b e c = go (λ b′. begin-first (a .role) l up b′ (or-right-false (hasRole 1 a) (any (hasRole 1) l) e) (omega arith)) (hasRole 0 a) refl

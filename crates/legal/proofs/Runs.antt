@@ -7,7 +7,7 @@ use native.Mathlib.Omega.{arith}
 use borrow.Author.Tests.{le-leb, lt-leb, eq-eqb, ne-eqb}
 use lib.Dec.{leb, eqb}
 use lib.ListN.{length, getD, drop, drop-of-length-le}
-use Rattle.lists.specs.Lists.{all, count, risesFrom}
+use Rattle.lists.specs.Lists.{all, countIf, risesFrom}
 use Rattle.lists.specs.Tests.{and-right-false}
 use Rattle.lists.specs.Rising.{Order, before, equal, after, order}
 use Rattle.lists.specs.Runs.{inRun, goes, RunEnd, run-same, run-next, run-count, run-other}
@@ -64,7 +64,7 @@ module _ (z : Sizes) (ws : List ℕ) where
   class = classOf z (portOf (getD ws 0 0))
 
   abbrev roles : ℕ → ℕ
-  roles r = count (isRole r) ws
+  roles r = countIf (isRole r) ws
 
   pub too-long : 16 < length ws → false ≡ ruleOk z ws
   unfolding ruleOk
@@ -75,7 +75,7 @@ module _ (z : Sizes) (ws : List ℕ) where
     up-to-aborts : right s 3 (drop g ws) ≡ right s 5 (drop i ws)
     up-to-aborts = run-next atomRole (atomOk z s) 3 r3 ∙ run-next atomRole (atomOk z s) 4 r4
 
-    aborted : right s 5 (drop i ws) ≡ true → count (isRole 5) (drop g ws) ≡ j - i
+    aborted : right s 5 (drop i ws) ≡ true → countIf (isRole 5) (drop g ws) ≡ j - i
     aborted t = omega (
       arith,
       run-other atomRole (atomOk z s) 3 r3 5 (λ q. omega arith),
@@ -83,10 +83,10 @@ module _ (z : Sizes) (ws : List ℕ) where
       run-count atomRole (atomOk z s) 5 r5 t,
     )
 
-    pub rest-runs : leb (j - i) 1 && eqb j (length ws) ≡ leb (count (isRole 5) (drop g ws)) 1 && right s 3 (drop g ws)
+    pub rest-runs : leb (j - i) 1 && eqb j (length ws) ≡ leb (countIf (isRole 5) (drop g ws)) 1 && right s 3 (drop g ws)
     rest-runs =
         rw (up-to-aborts, ← (run-next atomRole (atomOk z s) 5 r5 ∙ ended s j (r5 .within)))
-        (guarded (leb (j - i) 1) (leb (count (isRole 5) (drop g ws)) 1) (right s 5 (drop i ws)) (λ t. rw (aborted t)))
+        (guarded (leb (j - i) 1) (leb (countIf (isRole 5) (drop g ws)) 1) (right s 5 (drop i ws)) (λ t. rw (aborted t)))
 
   module _
       {k e g : ℕ}
@@ -146,7 +146,7 @@ module _ (z : Sizes) (ws : List ℕ) where
           let b = opened (roles 2) t in
           from-found (sym (ap (λ (n : ℕ). right (shape k n class) 0 ws) b) ∙ t)
 
-      aborts : roles 5 ≡ count (isRole 5) (drop g ws)
+      aborts : roles 5 ≡ countIf (isRole 5) (drop g ws)
       aborts =
           run-other atomRole (test 0) 0 (consumes k 0) 5 (λ q. omega arith)
           ∙ run-other atomRole (test 0) 1 r1 5 (λ q. omega arith)
@@ -155,7 +155,7 @@ module _ (z : Sizes) (ws : List ℕ) where
       pub rule-runs :
           {rest : Bool}
           → length ws ≤ 16
-          → rest ≡ leb (count (isRole 5) (drop g ws)) 1 && right found 3 (drop g ws)
+          → rest ≡ leb (countIf (isRole 5) (drop g ws)) 1 && right found 3 (drop g ws)
           → limits k (g - e) && rest ≡ ruleOk z ws
       unfolding ruleOk
       rule-runs few q =

@@ -4,7 +4,7 @@ ghost use mathlib.Core.Path.{_≡_};
 ghost use Prim.Native.Nat.{_≤_};
 ghost use lib.Dec.{leb};
 ghost use lib.ListN.{length, getD, drop};
-ghost use Rattle.lists.specs.Lists.{any, count};
+ghost use Rattle.lists.specs.Lists.{any, countIf};
 ghost use Rattle.lists.specs.Runs.{inRun, goes, RunEnd};
 ghost use Rattle.semantics.specs.Words.{atomRole, portOf};
 ghost use Rattle.semantics.specs.Table.{classOf, isRole, atomOk, ruleOk};
@@ -86,7 +86,7 @@ fn shape(consumes: usize, begins: usize, class: u32) -> Shape
 // What follows a begin: bodies, compensations and at most one abort, up to the end.
 fn rest_ok(ws: &[u32], from: usize, z: Sizes, s: Shape) -> bool
     requires { ⌜ (from ≤ length (now ws)) × (s .consumes ≤ 16) ⌝ }
-    ensures { λ r. ⌜ r ≡ leb (count (isRole 5) (drop from (now (ws .entry)))) 1 && goes atomRole (atomOk z s) 3 (drop from (now (ws .entry))) ⌝ }
+    ensures { λ r. ⌜ r ≡ leb (countIf (isRole 5) (drop from (now (ws .entry)))) 1 && goes atomRole (atomOk z s) 3 (drop from (now (ws .entry))) ⌝ }
 {
     let bodies = run_end(ws, from, 3, z, s);
     let compensations = run_end(ws, bodies, 4, z, s);

@@ -1,4 +1,4 @@
--- Laws of `count`, `keep`, `all` and `any`.
+-- Laws of `countIf`, `keep`, `all` and `any`.
 use Prim.Native.Nat.{ℕ, suc, _+_, _≤_}
 use mathlib.Core.List.{List, [], _∷_, _++_, map}
 use mathlib.Core.Bool.{Bool, true, false, _||_}
@@ -7,19 +7,19 @@ use native.Mathlib.Omega.{arith}
 use borrow.Author.Tests.{le-leb}
 use lib.Dec.{leb}
 use lib.ListN.{length}
-use Rattle.lists.specs.Lists.{all, any, keep, keepIf, count, oneIf}
+use Rattle.lists.specs.Lists.{all, any, keep, keepIf, countIf, oneIf}
 use Rattle.lists.specs.Tests.{and-both}
 
 module _ {A : Type 0} (p : A → Bool) where
-  pub count-le : (xs : List A) → count p xs ≤ length xs
+  pub count-le : (xs : List A) → countIf p xs ≤ length xs
   count-le [] = omega arith
   count-le (x ∷ xs) = more (p x) (count-le xs)
     where
-      more : (b : Bool) → count p xs ≤ length xs → oneIf b + count p xs ≤ suc (length xs)
+      more : (b : Bool) → countIf p xs ≤ length xs → oneIf b + countIf p xs ≤ suc (length xs)
       more true h = omega arith
       more false h = omega arith
 
-  pub count-append : (xs ys : List A) → count p (xs ++ ys) ≡ count p xs + count p ys
+  pub count-append : (xs ys : List A) → countIf p (xs ++ ys) ≡ countIf p xs + countIf p ys
   count-append [] ys = omega arith
   count-append (x ∷ xs) ys = omega (arith, count-append xs ys)
 
@@ -29,7 +29,7 @@ module _ {A : Type 0} (p : A → Bool) where
       let (a, b) = and-both (p x) (all p xs) h in
       rw (a, all-append xs ys b k)
 
-  pub count-all : (xs : List A) → all p xs ≡ true → count p xs ≡ length xs
+  pub count-all : (xs : List A) → all p xs ≡ true → countIf p xs ≡ length xs
   count-all [] h = refl
   count-all (x ∷ xs) h =
       let (a, b) = and-both (p x) (all p xs) h in
@@ -39,23 +39,23 @@ module _ {A : Type 0} (p : A → Bool) where
   length-keepIf true x xs = omega arith
   length-keepIf false x xs = omega arith
 
-  pub length-keep : (xs : List A) → length (keep p xs) ≡ count p xs
+  pub length-keep : (xs : List A) → length (keep p xs) ≡ countIf p xs
   length-keep [] = refl
   length-keep (x ∷ xs) = length-keepIf (p x) x (keep p xs) ∙ ap (λ (n : ℕ). oneIf (p x) + n) (length-keep xs)
 
-  pub any-count : (xs : List A) → any p xs ≡ leb 1 (count p xs)
+  pub any-count : (xs : List A) → any p xs ≡ leb 1 (countIf p xs)
   any-count [] = refl
   any-count (x ∷ xs) = more (p x) (any-count xs)
     where
-      more : (b : Bool) → any p xs ≡ leb 1 (count p xs) → b || any p xs ≡ leb 1 (oneIf b + count p xs)
-      more true h = sym (le-leb 1 (1 + count p xs) (omega arith))
+      more : (b : Bool) → any p xs ≡ leb 1 (countIf p xs) → b || any p xs ≡ leb 1 (oneIf b + countIf p xs)
+      more true h = sym (le-leb 1 (1 + countIf p xs) (omega arith))
       more false h =
-          let e : count p xs ≡ 0 + count p xs = omega arith in
+          let e : countIf p xs ≡ 0 + countIf p xs = omega arith in
           h ∙ ap (leb 1) e
 
 -- ---- of images
 module _ {A B : Type 0} (f : A → B) (p : B → Bool) where
-  pub count-map : (xs : List A) → count p (map f xs) ≡ count (λ x. p (f x)) xs
+  pub count-map : (xs : List A) → countIf p (map f xs) ≡ countIf (λ x. p (f x)) xs
   count-map [] = refl
   count-map (x ∷ xs) = ap (λ (n : ℕ). oneIf (p (f x)) + n) (count-map xs)
 
@@ -67,10 +67,10 @@ module _ {A : Type 0} (p q : A → Bool) (f : (x : A) → p x ≡ true → q x �
       let (a, b) = and-both (p x) (all p xs) h in
       rw (f x a, all-weaker xs b)
 
-  pub count-weaker : (xs : List A) → count p xs ≤ count q xs
+  pub count-weaker : (xs : List A) → countIf p xs ≤ countIf q xs
   count-weaker [] = omega arith
   count-weaker (x ∷ xs) = more (p x) (q x) (f x) (count-weaker xs)
     where
-      more : (b c : Bool) → (b ≡ true → c ≡ true) → count p xs ≤ count q xs → oneIf b + count p xs ≤ oneIf c + count q xs
+      more : (b c : Bool) → (b ≡ true → c ≡ true) → countIf p xs ≤ countIf q xs → oneIf b + countIf p xs ≤ oneIf c + countIf q xs
       more true c g h = rw (g refl) (omega arith)
       more false c g h = omega arith

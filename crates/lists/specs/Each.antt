@@ -1,10 +1,10 @@
--- A type for each element of a list, and laws of all, any, keep and count, for every element type.
+-- A type for each element of a list, and laws of all, any, keep and countIf, for every element type.
 use Prim.Native.Nat.{_+_}
 use mathlib.Core.List.{List, [], _∷_, _++_, map, nil≢cons}
 use mathlib.Core.Bool.{Bool, true, false, _||_, true≢false, false≢true}
 use mathlib.Core.Path.{_≡_, refl}
 use native.Mathlib.Omega.{arith}
-use Rattle.lists.specs.Lists.{all, any, keep, keepIf, count, oneIf, isEmpty}
+use Rattle.lists.specs.Lists.{all, any, keep, keepIf, countIf, oneIf, isEmpty}
 use Rattle.lists.specs.Choices.{and-intro, and-left, and-right}
 
 pub head-eq : {A : Type 0} {x y : A} {xs ys : List A} → Path (List A) (x ∷ xs) (y ∷ ys) → x ≡ y
@@ -76,19 +76,19 @@ module _ {A : Type 0} where
   keep-none p [] h = refl
   keep-none p (x ∷ xs) h = rw (h .0, keep-none p xs (h .1))
 
-  pub count-none : (p : A → Bool) (xs : List A) → All (λ x. p x ≡ false) xs → count p xs ≡ 0
+  pub count-none : (p : A → Bool) (xs : List A) → All (λ x. p x ≡ false) xs → countIf p xs ≡ 0
   count-none p [] h = refl
   count-none p (x ∷ xs) h = rw (h .0, count-none p xs (h .1))
 
-  pub count-zero : (p : A → Bool) (xs : List A) → count p xs ≡ 0 → All (λ x. p x ≡ false) xs
+  pub count-zero : (p : A → Bool) (xs : List A) → countIf p xs ≡ 0 → All (λ x. p x ≡ false) xs
   count-zero p [] h = tt
   count-zero p (x ∷ xs) h = go (p x) refl h (count-zero p xs)
     where
-      go : (b : Bool) → p x ≡ b → oneIf b + count p xs ≡ 0 → (count p xs ≡ 0 → All (λ x. p x ≡ false) xs) → (p x ≡ false) × All (λ x. p x ≡ false) xs
+      go : (b : Bool) → p x ≡ b → oneIf b + countIf p xs ≡ 0 → (countIf p xs ≡ 0 → All (λ x. p x ≡ false) xs) → (p x ≡ false) × All (λ x. p x ≡ false) xs
       go true q w ih = absurd (omega arith)
       go false q w ih = (q, ih (omega arith))
 
-  pub count-same : (p q : A → Bool) (xs : List A) → All (λ x. p x ≡ q x) xs → count p xs ≡ count q xs
+  pub count-same : (p q : A → Bool) (xs : List A) → All (λ x. p x ≡ q x) xs → countIf p xs ≡ countIf q xs
   count-same p q [] h = refl
   count-same p q (x ∷ xs) h = rw (h .0, count-same p q xs (h .1))
 

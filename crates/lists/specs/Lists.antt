@@ -44,9 +44,9 @@ oneIf false = 0
 
 module _ {A : Type 0} where
   -- of how many elements p holds
-  abbrev pub count : (A → Bool) → List A → ℕ
-  count p [] = 0
-  count p (x ∷ xs) = oneIf (p x) + count p xs
+  abbrev pub countIf : (A → Bool) → List A → ℕ
+  countIf p [] = 0
+  countIf p (x ∷ xs) = oneIf (p x) + countIf p xs
 
   -- no element's key is below that of the one before it, and the first's is at least m
   abbrev pub risesFrom : ℕ → (A → ℕ) → List A → Bool

@@ -8,7 +8,7 @@ use native.Mathlib.Omega.{arith}
 use lib.Dec.{leb, ltb, eqb}
 use borrow.Author.Tests.{eqb-true, eqb-false, leb-true, leb-false, le-leb, lt-leb, lt-ltb, le-ltb}
 use lib.ListN.{length, getD}
-use Rattle.lists.specs.Lists.{keepIf, keep, oneIf, count, isIn, distinct, without}
+use Rattle.lists.specs.Lists.{keepIf, keep, oneIf, countIf, isIn, distinct, without}
 use Rattle.lists.specs.Choices.{by-bool, and-intro}
 use Rattle.lists.specs.Counting.{count-all}
 use Rattle.lists.specs.Totals.{count-never, count-sum, count-distinct}
@@ -54,12 +54,12 @@ inside-suc i n p =
     (λ l. let h = leb-false i p l in rw (e, l, lt-leb (suc i) p (omega arith))))
 
 module _ {A : Type 0} where
-  count-without : (ps : List ℕ) → distinct ps ≡ true → (i : ℕ) (xs : List A) → length (without ps i xs) + count (inside i (length xs)) ps ≡ length xs
+  count-without : (ps : List ℕ) → distinct ps ≡ true → (i : ℕ) (xs : List A) → length (without ps i xs) + countIf (inside i (length xs)) ps ≡ length xs
   count-without ps h i [] = rw (count-never (inside i 0) (inside-none i) ps)
   count-without ps h i (x ∷ xs) = go (count-without ps h (suc i) xs) (isIn i ps) (count-distinct i ps h)
     where
-      go : length (without ps (suc i) xs) + count (inside (suc i) (length xs)) ps ≡ length xs → (b : Bool) → count (eqb i) ps ≡ oneIf b
-          → length (keepIf (not b) x (without ps (suc i) xs)) + count (inside i (suc (length xs))) ps ≡ suc (length xs)
+      go : length (without ps (suc i) xs) + countIf (inside (suc i) (length xs)) ps ≡ length xs → (b : Bool) → countIf (eqb i) ps ≡ oneIf b
+          → length (keepIf (not b) x (without ps (suc i) xs)) + countIf (inside i (suc (length xs))) ps ≡ suc (length xs)
       go ih true e = let s = count-sum (inside i (suc (length xs))) (eqb i) (inside (suc i) (length xs)) (inside-suc i (length xs)) ps in omega arith
       go ih false e = let s = count-sum (inside i (suc (length xs))) (eqb i) (inside (suc i) (length xs)) (inside-suc i (length xs)) ps in omega arith
 

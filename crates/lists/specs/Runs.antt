@@ -8,7 +8,7 @@ use native.Mathlib.Omega.{arith}
 use borrow.Author.Tests.{eqb-true, eqb-false, le-leb, lt-leb, ne-eqb}
 use lib.Dec.{leb, eqb}
 use lib.ListN.{length, getD, drop, length-drop, drop-of-length-le}
-use Rattle.lists.specs.Lists.{all, count, risesFrom}
+use Rattle.lists.specs.Lists.{all, countIf, risesFrom}
 use Rattle.lists.specs.Tests.{and-both, and-right-false}
 use Rattle.lists.specs.Members.{all-intro}
 use Rattle.lists.specs.Walk.{drop-step}
@@ -90,23 +90,23 @@ module _ {A : Type 0} (key : A → ℕ) (a : A → Bool) where
       go true false e f ih = rw (e, f, f) (dead (leb m (key x) && risesFrom (key x) key xs) (leb (suc m) (key x) && risesFrom (key x) key xs))
       go false b e f ih = rw (e, at-least m (key x) e)
 
-  counted : (m : ℕ) (xs : List A) → count (keyed key m) xs + length (skip (inRun m) xs) ≡ length xs + count (keyed key m) (skip (inRun m) xs)
+  counted : (m : ℕ) (xs : List A) → countIf (keyed key m) xs + length (skip (inRun m) xs) ≡ length xs + countIf (keyed key m) (skip (inRun m) xs)
   counted m [] = refl
   counted m (x ∷ xs) = go (inRun m x) refl (counted m xs)
     where
       go :
-          (b : Bool) → inRun m x ≡ b → count (keyed key m) xs + length (skip (inRun m) xs) ≡ length xs + count (keyed key m) (skip (inRun m) xs)
-          → count (keyed key m) (x ∷ xs) + length (skip (inRun m) (x ∷ xs)) ≡ length (x ∷ xs) + count (keyed key m) (skip (inRun m) (x ∷ xs))
+          (b : Bool) → inRun m x ≡ b → countIf (keyed key m) xs + length (skip (inRun m) xs) ≡ length xs + countIf (keyed key m) (skip (inRun m) xs)
+          → countIf (keyed key m) (x ∷ xs) + length (skip (inRun m) (x ∷ xs)) ≡ length (x ∷ xs) + countIf (keyed key m) (skip (inRun m) (x ∷ xs))
       go true e ih = rw (e, and-both (keyed key m x) (a x) e .0) (omega arith)
       go false e ih = rw e (omega arith)
 
-  others : (m r : ℕ) → (m ≡ r → ⊥) → (xs : List A) → count (keyed key r) xs ≡ count (keyed key r) (skip (inRun m) xs)
+  others : (m r : ℕ) → (m ≡ r → ⊥) → (xs : List A) → countIf (keyed key r) xs ≡ countIf (keyed key r) (skip (inRun m) xs)
   others m r n [] = refl
   others m r n (x ∷ xs) = go (inRun m x) refl (others m r n xs)
     where
       go :
-          (b : Bool) → inRun m x ≡ b → count (keyed key r) xs ≡ count (keyed key r) (skip (inRun m) xs)
-          → count (keyed key r) (x ∷ xs) ≡ count (keyed key r) (skip (inRun m) (x ∷ xs))
+          (b : Bool) → inRun m x ≡ b → countIf (keyed key r) xs ≡ countIf (keyed key r) (skip (inRun m) xs)
+          → countIf (keyed key r) (x ∷ xs) ≡ countIf (keyed key r) (skip (inRun m) (x ∷ xs))
       go true e ih =
           let k = eqb-true (key x) m (and-both (keyed key m x) (a x) e .0) in
           rw (e, ne-eqb (key x) r (λ q. n (sym k ∙ q))) (omega arith)
@@ -117,22 +117,22 @@ module _ {A : Type 0} (key : A → ℕ) (a : A → Bool) where
     run-next = onward m (drop from xs) ∙ ap (goes (suc m)) (sym (r .rest))
 
     -- the run has every element of its key ..
-    pub run-count : goes m (drop from xs) ≡ true → from + count (keyed key m) (drop from xs) ≡ i
+    pub run-count : goes m (drop from xs) ≡ true → from + countIf (keyed key m) (drop from xs) ≡ i
     run-count h =
         let (up, t) = and-both (risesFrom (suc m) key (drop i xs)) (all a (drop i xs)) (sym run-next ∙ h) in
         let c = rw (← r .rest) at (counted m (drop from xs)) in
         omega (arith, c, none-keyed key (suc m) (drop i xs) up m (omega arith), length-drop from xs, length-drop i xs)
 
     -- .. and none of another
-    pub run-other : (k : ℕ) → (m ≡ k → ⊥) → count (keyed key k) (drop from xs) ≡ count (keyed key k) (drop i xs)
-    run-other k n = others m k n (drop from xs) ∙ ap (count (keyed key k)) (sym (r .rest))
+    pub run-other : (k : ℕ) → (m ≡ k → ⊥) → countIf (keyed key k) (drop from xs) ≡ countIf (keyed key k) (drop i xs)
+    run-other k n = others m k n (drop from xs) ∙ ap (countIf (keyed key k)) (sym (r .rest))
 
 -- a run of keys alone, where they never fall
 pub keys-count :
     {A : Type 0} (key : A → ℕ) (m : ℕ) {xs : List A} {from i : ℕ}
     → RunEnd (keyed key m) xs from i
     → risesFrom m key (drop from xs) ≡ true
-    → from + count (keyed key m) (drop from xs) ≡ i
+    → from + countIf (keyed key m) (drop from xs) ≡ i
 keys-count {A} key m {xs} {from} r up =
     run-count
     key

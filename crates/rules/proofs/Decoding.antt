@@ -5,7 +5,7 @@ use mathlib.Core.List.{List, map}
 use mathlib.Core.Path.{_≡_, refl, sym, ap, _∙_}
 use native.Mathlib.Omega.{arith}
 use lib.ListN.{length, getD, take}
-use Rattle.lists.specs.Lists.{any, count}
+use Rattle.lists.specs.Lists.{any, countIf}
 use Rattle.lists.specs.Runs.{RunEnd, keys-count}
 use Rattle.semantics.specs.Words.{atomRole, portOf}
 use Rattle.semantics.specs.Table.{sizesOf, numbersOf, atomWordsOf, ruleWords, classOf, atomOf, ruleOf, tableOf, ruleAt, isRole, consumed}
@@ -18,7 +18,7 @@ use Rattle.table.specs.Index.{Starts, Cut, cut, starts-within, starts-cut}
 use Rattle.rules.specs.Decode.{Decodes}
 
 module _ (z : Sizes) (ws : List ℕ) (f : RuleFits z ws) {k : ℕ} (r : RunEnd (isRole 0) ws 0 k) where
-  pub consumes-first : count (isRole 0) ws ≡ k
+  pub consumes-first : countIf (isRole 0) ws ≡ k
   consumes-first = omega (arith, keys-count atomRole 0 r (f .rises))
 
   pub decodes :

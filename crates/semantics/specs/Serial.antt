@@ -4,7 +4,7 @@ use mathlib.Core.Bool.{Bool, true, false, _&&_, not, cond}
 use mathlib.Core.List.{List, [], _∷_, _++_, map}
 use lib.Dec.{leb, eqb}
 use lib.ListN.{length}
-use Rattle.lists.specs.Lists.{all, any, isEmpty, isIn, keep, count, least}
+use Rattle.lists.specs.Lists.{all, any, isEmpty, isIn, keep, countIf, least}
 use Rattle.semantics.specs.Table.{Table, Rule, ruleAt, hasRole, begins, emits}
 use Rattle.semantics.specs.State.{Origin, Entry, State, isMemberMark, owned}
 use Rattle.semantics.specs.Move.{Move, react, commit, abort, Stepped, to, refused, step, picked, ownersAt, entryAt}
@@ -40,7 +40,7 @@ marksIn bs s = originsOf (keep (λ e. isMemberMark e && isIn (e .owner) bs) (s .
 abbrev pub reactMembers : Rule → ℕ → State → List ℕ → List Origin
 reactMembers r i s ps =
     cond (begins r)
-    (record { maker = suc i; index = count (hasRole 1) (r .atoms) } ∷ [])
+    (record { maker = suc i; index = countIf (hasRole 1) (r .atoms) } ∷ [])
     (cond (eqb (r .class) 0) [] (marksIn (ownersAt s ps) s))
 
 -- A commit or abort ends the members whose marks it takes away.

@@ -4,7 +4,7 @@ use mathlib.Core.Bool.{Bool, true, false, _&&_, _||_, not, cond}
 use mathlib.Core.List.{List, [], map}
 use lib.Dec.{leb, ltb, eqb}
 use lib.ListN.{length, getD, take, drop}
-use Rattle.lists.specs.Lists.{given, all, any, count, keep, keepBeside, risesFrom, allBelow, upFrom}
+use Rattle.lists.specs.Lists.{given, all, any, countIf, keep, keepBeside, risesFrom, allBelow, upFrom}
 use Rattle.semantics.specs.Words.{atomRole, atomMode, portOf, valueOf}
 use Rattle.semantics.specs.declared.Sizes.{Sizes}
 use Rattle.semantics.specs.declared.Shape.{Shape}
@@ -109,16 +109,16 @@ atomOk z s w =
 
 -- The first atom decides the class: roles never fall, so it is a consume if there is one.
 abbrev pub shapeOf : Sizes → List ℕ → Shape
-shapeOf z ws = record { consumes = count (isRole 0) ws; begins = count (isRole 2) ws; class = classOf z (portOf (getD ws 0 0)) }
+shapeOf z ws = record { consumes = countIf (isRole 0) ws; begins = countIf (isRole 2) ws; class = classOf z (portOf (getD ws 0 0)) }
 
 -- A rule goes by roles from consumes to an abort, and is small: four consumes, one begin, one abort, sixteen atoms at most.
 unfoldable pub ruleOk : Sizes → List ℕ → Bool
 ruleOk z ws =
     leb (length ws) 16
     && risesFrom 0 atomRole ws
-    && (leb 1 (count (isRole 0) ws) && leb (count (isRole 0) ws) 4)
-    && leb (count (isRole 2) ws) 1
-    && leb (count (isRole 5) ws) 1
+    && (leb 1 (countIf (isRole 0) ws) && leb (countIf (isRole 0) ws) 4)
+    && leb (countIf (isRole 2) ws) 1
+    && leb (countIf (isRole 5) ws) 1
     && all (atomOk z (shapeOf z ws)) ws
 
 unfoldable pub rulesOk : Sizes → List ℕ → List ℕ → Bool

@@ -5,7 +5,7 @@ use mathlib.Core.List.{List, [], _∷_, _++_}
 use mathlib.Core.Path.{_≡_, refl, sym, ap, subst, _∙_}
 use native.Mathlib.Omega.{arith}
 use lib.Dec.{eqb}
-use Rattle.lists.specs.Lists.{any, count, oneIf}
+use Rattle.lists.specs.Lists.{any, countIf, oneIf}
 use Rattle.lists.specs.Tests.{eqb-swap}
 use Rattle.lists.specs.Choices.{by-bool, and-left, and-right}
 use Rattle.lists.specs.Counting.{count-append}
@@ -41,7 +41,7 @@ after-last : (p e : ℕ) (xs ys : List Act) (a : Act) → endsBegun p a ≡ true
 after-last p e [] ys a h k = ap (λ (b : Bool). endAfter p (cond b (a .place) e) ys) h ∙ after-none p (a .place) ys k
 after-last p e (x ∷ xs) ys a h k = after-last p (cond (endsBegun p x) (x .place) e) xs ys a h k
 
-after-only : (p e : ℕ) (xs ys : List Act) (a : Act) → endsBegun p a ≡ true → count (endsBegun p) (xs ++ a ∷ ys) ≡ 1 → endAfter p e (xs ++ a ∷ ys) ≡ a .place
+after-only : (p e : ℕ) (xs ys : List Act) (a : Act) → endsBegun p a ≡ true → countIf (endsBegun p) (xs ++ a ∷ ys) ≡ 1 → endAfter p e (xs ++ a ∷ ys) ≡ a .place
 after-only p e xs ys a h k =
     let w = count-append (endsBegun p) xs (a ∷ ys) in
     let one = ap oneIf h in
@@ -62,7 +62,7 @@ abbrev begins-member : Table → Origin → Act → Bool
 begins-member t o x = isBegin t (x .move) && any (sameOrigin o) (x .members)
 
 module _ (t : Table) (acts : List Act) (first : All (BeginsFirst t) acts)
-    (one-block : (xs ys : List Act) (x : Act) → acts ≡ xs ++ x ∷ ys → isInner x ≡ true → count (endsMemberOf x) acts ≡ 1)
+    (one-block : (xs ys : List Act) (x : Act) → acts ≡ xs ++ x ∷ ys → isInner x ≡ true → countIf (endsMemberOf x) acts ≡ 1)
     (begun-before : (xs ys : List Act) (a : Act) → acts ≡ xs ++ a ∷ ys → isEnd (a .move) ≡ true → (o : Origin) → concerns a o ≡ true
     → any (begins-member t o) xs ≡ true) where
   -- the begin of an end's member
@@ -116,7 +116,7 @@ module _ (t : Table) (acts : List Act) (first : All (BeginsFirst t) acts)
       go (y, m, f, n, z) =
           let p = y .place in
           let (us, vs, w) = among-split acts y m in
-          let one : count (endsBegun p) acts ≡ 1 = count-same (endsBegun p) (endsMemberOf y) acts (ends-begun y f n) ∙ one-block us vs y w (rw (n, f)) in
+          let one : countIf (endsBegun p) acts ≡ 1 = count-same (endsBegun p) (endsMemberOf y) acts (ends-begun y f n) ∙ one-block us vs y w (rw (n, f)) in
           let ends : endsBegun p a ≡ true = rw en (makers-tell p xs ys a q en ∙ subst (λ (x : Origin). any (sameOrigin x) (a .members) ≡ true) z h) in
           let number : o .maker - 1 ≡ p = (let k : o .maker ≡ suc p = ap (λ (x : Origin). x .maker) z in omega arith) in
-          ap (λ (i : ℕ). endAfter i 0 acts) number ∙ ap (endAfter p 0) q ∙ after-only p 0 xs ys a ends (ap (count (endsBegun p)) (sym q) ∙ one)
+          ap (λ (i : ℕ). endAfter i 0 acts) number ∙ ap (endAfter p 0) q ∙ after-only p 0 xs ys a ends (ap (countIf (endsBegun p)) (sym q) ∙ one)

@@ -5,7 +5,7 @@ use mathlib.Core.List.{List, [], _∷_, _++_, map}
 use Prim.Native.Nat.{ℕ, suc, _≤_, _<_}
 use native.Mathlib.Omega.{arith}
 use lib.ListN.{length, getD, length-map}
-use Rattle.lists.specs.Lists.{any, keep, count, upFrom}
+use Rattle.lists.specs.Lists.{any, keep, countIf, upFrom}
 use Rattle.lists.specs.Parts.{any-map}
 use Rattle.lists.specs.Counting.{count-map}
 use Rattle.lists.specs.Each.{All, All-unmap, map-split}
@@ -68,7 +68,7 @@ unfolding replayed
 replayed-length t c [] = refl
 replayed-length t c (a ∷ xs) = ap suc (replayed-length t (after t (suc (a .place)) c (again c a (a .move))) xs)
 
-count-bare : (p : Entry → Bool) → ((x : Entry) → p (bare x) ≡ p x) → (l : List Entry) → count p (map bare l) ≡ count p l
+count-bare : (p : Entry → Bool) → ((x : Entry) → p (bare x) ≡ p x) → (l : List Entry) → countIf p (map bare l) ≡ countIf p l
 count-bare p h [] = refl
 count-bare p h (x ∷ l) = rw (h x, count-bare p h l)
 
@@ -149,27 +149,27 @@ module _ (t : Table) (right : TableRight t) (ne : beginsEmit t ≡ false) (s : S
       go : length (isort (deeds t 0 s ms)) ≡ length ms
       go = counts (isort (deeds t 0 s ms)) ∙ count-isort (λ _. true) (deeds t 0 s ms) ∙ sym (counts (deeds t 0 s ms)) ∙ deeds-length t 0 s ms
         where
-          counts : (xs : List Deed) → length xs ≡ count (λ _. true) xs
+          counts : (xs : List Deed) → length xs ≡ countIf (λ _. true) xs
           counts [] = refl
           counts (x ∷ xs) = let h = counts xs in omega arith
 
-  pub once : (p : ℕ → Bool) → count p (placesOf t s ms) ≡ count p (upFrom 0 (length ms))
+  pub once : (p : ℕ → Bool) → countIf p (placesOf t s ms) ≡ countIf p (upFrom 0 (length ms))
   unfolding ds
-  once p = ap (count p) places-are ∙ count-map (λ a. a .place) p (isort (deeds t 0 s ms)) ∙ count-isort (λ a. p (a .place)) (deeds t 0 s ms)
-      ∙ sym (count-map (λ a. a .place) p (deeds t 0 s ms)) ∙ ap (count p) (deeds-places t 0 s ms)
+  once p = ap (countIf p) places-are ∙ count-map (λ a. a .place) p (isort (deeds t 0 s ms)) ∙ count-isort (λ a. p (a .place)) (deeds t 0 s ms)
+      ∙ sym (count-map (λ a. a .place) p (deeds t 0 s ms)) ∙ ap (countIf p) (deeds-places t 0 s ms)
 
   pub one-block : (xs ys : List Act) (x : Act) → acts t 0 s ms ≡ xs ++ x ∷ ys → isInner x ≡ true
-      → (count (endsMemberOf x) (acts t 0 s ms) ≡ 1) × (count (endsMemberOf x) ys ≡ 1)
+      → (countIf (endsMemberOf x) (acts t 0 s ms) ≡ 1) × (countIf (endsMemberOf x) ys ≡ 1)
   one-block xs ys x q h = go (map-split actOf ds xs ys x (sym acts-are ∙ q))
     where
       go : (us : List Deed) × (u : Deed) × (vs : List Deed) × (ds ≡ us ++ u ∷ vs) × (map actOf us ≡ xs) × (actOf u ≡ x) × (map actOf vs ≡ ys)
-          → (count (endsMemberOf x) (acts t 0 s ms) ≡ 1) × (count (endsMemberOf x) ys ≡ 1)
+          → (countIf (endsMemberOf x) (acts t 0 s ms) ≡ 1) × (countIf (endsMemberOf x) ys ≡ 1)
       go (us, u, vs, p, a, b, c) =
           let r = one-block-of t sd (view e) us (view s) u vs g (subst (λ (l : List Deed). LogRuns t 0 (view s) l (view e)) p (ran .0)) shut (rw b h) in (
-            ap (λ (y : Act). count (endsMemberOf y) (acts t 0 s ms)) (sym b) ∙ ap (count (endsMemberOf (actOf u))) acts-are
+            ap (λ (y : Act). countIf (endsMemberOf y) (acts t 0 s ms)) (sym b) ∙ ap (countIf (endsMemberOf (actOf u))) acts-are
                 ∙ count-map actOf (endsMemberOf (actOf u)) ds
-                ∙ ap (count (λ a. endsMemberOf (actOf u) (actOf a))) p ∙ r .0,
-            ap (λ (y : Act). count (endsMemberOf y) ys) (sym b) ∙ ap (count (endsMemberOf (actOf u))) (sym c) ∙ count-map actOf (endsMemberOf (actOf u)) vs
+                ∙ ap (countIf (λ a. endsMemberOf (actOf u) (actOf a))) p ∙ r .0,
+            ap (λ (y : Act). countIf (endsMemberOf y) ys) (sym b) ∙ ap (countIf (endsMemberOf (actOf u))) (sym c) ∙ count-map actOf (endsMemberOf (actOf u)) vs
                 ∙ r .1,
           )
 
@@ -226,12 +226,12 @@ module _ (t : Table) (right : TableRight t) (ne : beginsEmit t ≡ false) (s : S
           (inner-is t sd (view s) (view e) us u vs g (subst (λ (l : List Deed). LogRuns t 0 (view s) l (view e)) p (ran .0)))
 
   origins-at : (j : ℕ) → j < length ms → (o : Origin)
-      → (count (hasOrigin o) (stateBefore t (upFrom 0 (length ms)) s ms j .entries) ≤ 1) ×
-      (count (hasOrigin o) (stateBefore t (placesOf t s ms) s (serial t s ms) j .entries) ≤ 1)
+      → (countIf (hasOrigin o) (stateBefore t (upFrom 0 (length ms)) s ms j .entries) ≤ 1) ×
+      (countIf (hasOrigin o) (stateBefore t (placesOf t s ms) s (serial t s ms) j .entries) ≤ 1)
   origins-at j h o = (
     origin-once o (stateBefore t (upFrom 0 (length ms)) s ms j .entries) (log-uniq t sd 0 s ms e (uniq-numbered 0 (s .entries) (S .numbered)) g run j),
-    subst (λ (ps : List ℕ). count (hasOrigin o) (stateBefore t ps s (serial t s ms) j .entries) ≤ 1) (sym places-are)
-        (subst (λ (l : List Move). count (hasOrigin o) (stateBefore t (map (λ a. a .place) (isort ds)) s l j .entries) ≤ 1) (sym serial-is)
+    subst (λ (ps : List ℕ). countIf (hasOrigin o) (stateBefore t ps s (serial t s ms) j .entries) ≤ 1) (sym places-are)
+        (subst (λ (l : List Move). countIf (hasOrigin o) (stateBefore t (map (λ a. a .place) (isort ds)) s l j .entries) ≤ 1) (sym serial-is)
         (origin-once o (stateBefore t (map (λ a. a .place) (isort ds)) s (replayed t s (map actOf (isort ds))) j .entries)
         (serial-uniq t (isort ds) s (again-runs .agains) j (let w = sorted-length in omega arith)))),
   )
@@ -252,9 +252,9 @@ module _ (t : Table) (right : TableRight t) (ne : beginsEmit t ≡ false) (s : S
       sym (any-map bare p (accepted .0 .entries)) ∙ ap (λ (x : State). any p (x .entries)) (accepted .2) ∙ any-map bare p (again-runs .state .entries)
       ∙ end-closed (again-runs .state) e (again-runs .names) (again-runs .rel) shut (ran .1)
 
-  same-count : (k p v : ℕ) → count (isGlobal k p v) (accepted .0 .entries) ≡ count (isGlobal k p v) (e .entries)
+  same-count : (k p v : ℕ) → countIf (isGlobal k p v) (accepted .0 .entries) ≡ countIf (isGlobal k p v) (e .entries)
   same-count k p v =
-      sym (count-bare (isGlobal k p v) (λ x. refl) (accepted .0 .entries)) ∙ ap (λ (x : State). count (isGlobal k p v) (x .entries)) (accepted .2)
+      sym (count-bare (isGlobal k p v) (λ x. refl) (accepted .0 .entries)) ∙ ap (λ (x : State). countIf (isGlobal k p v) (x .entries)) (accepted .2)
       ∙ count-bare (isGlobal k p v) (λ x. refl) (again-runs .state .entries)
       ∙ messages-same (again-runs .state) e (again-runs .names) (again-runs .rel) shut (ran .1)
       (closed-messages (t .sizes) (again-runs .state) (again-runs .sound .right)

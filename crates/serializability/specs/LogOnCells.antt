@@ -7,7 +7,7 @@ use mathlib.Core.List.{List, [], _∷_}
 use Prim.Native.Nat.{ℕ, suc}
 use lib.Dec.{eqb}
 use borrow.Author.Tests.{eqb-true, eq-eqb}
-use Rattle.lists.specs.Lists.{isEmpty, isIn, keep, count, least}
+use Rattle.lists.specs.Lists.{isEmpty, isIn, keep, countIf, least}
 use Rattle.lists.specs.Choices.{by-bool, clash, and-left, and-right, and-intro}
 use Rattle.lists.specs.Numbers.{least-full}
 use Rattle.lists.specs.Each.{All, All-map, All-keep, All-unmap}
@@ -94,7 +94,7 @@ module _ (t : Table) (sd : Shaped t) (i k : ℕ) (s : State) (r : ℕ) (ps : Lis
   members-plain : R .class ≡ 0 → begins R ≡ false → membersOf t i s (react r ps) ≡ []
   members-plain c b = rw (b, c)
 
-  members-begin : begins R ≡ true → count (hasRole 1) (R .atoms) ≡ 0 → membersOf t i s (react r ps) ≡ firstOf i ∷ []
+  members-begin : begins R ≡ true → countIf (hasRole 1) (R .atoms) ≡ 0 → membersOf t i s (react r ps) ≡ firstOf i ∷ []
   members-begin b n = rw (b, n)
 
   members-inner : eqb (R .class) 0 ≡ false → begins R ≡ false → membersOf t i s (react r ps) ≡ marksIn os s

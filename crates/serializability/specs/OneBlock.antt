@@ -9,7 +9,7 @@ use native.Mathlib.Omega.{arith}
 use lib.Dec.{eqb}
 use borrow.Author.Tests.{eqb-true, eqb-false, ne-eqb, not-true}
 use lib.ListN.{length}
-use Rattle.lists.specs.Lists.{any, isEmpty, count, oneIf, least}
+use Rattle.lists.specs.Lists.{any, isEmpty, countIf, oneIf, least}
 use Rattle.lists.specs.Choices.{by-bool, is-false, and-left, and-right}
 use Rattle.lists.specs.Counting.{count-append}
 use Rattle.lists.specs.Each.{All, any-found, count-same, count-none}
@@ -32,12 +32,12 @@ use Rattle.serializability.specs.Blocks.{shares, end-member, same-block}
 -- ---- one place of a log
 
 module _ (t : Table) (G : Seen) where
-  place-none : (ys : List Deed) (j : ℕ) (F : Seen) (k : ℕ) → LogRuns t j F ys G → k < j → count (λ a. eqb k (a .place)) ys ≡ 0
+  place-none : (ys : List Deed) (j : ℕ) (F : Seen) (k : ℕ) → LogRuns t j F ys G → k < j → countIf (λ a. eqb k (a .place)) ys ≡ 0
   place-none [] j F k r l = refl
   place-none (y ∷ ys) j F k r l = let w = r .0 .step .place in
       rw (ne-eqb k (y .place) (λ q. omega arith), place-none ys (suc j) (astep t F y) k (r .1) (omega arith))
 
-  place-once : (ys : List Deed) (j : ℕ) (F : Seen) (k : ℕ) → LogRuns t j F ys G → j ≤ k → k < j + length ys → count (λ a. eqb k (a .place)) ys ≡ 1
+  place-once : (ys : List Deed) (j : ℕ) (F : Seen) (k : ℕ) → LogRuns t j F ys G → j ≤ k → k < j + length ys → countIf (λ a. eqb k (a .place)) ys ≡ 1
   place-once [] j F k r l h = absurd (omega arith)
   place-once (y ∷ ys) j F k r l h = by-bool (eqb k (y .place))
       (λ q. let w = r .0 .step .place in let z = eqb-true k (y .place) q in rw (q, place-none ys (suc j) (astep t F y) k (r .1) (omega arith)))
@@ -98,7 +98,7 @@ module _ (t : Table) (sd : Shaped t) (G : Seen) where
   )
 
   one-after : (i : ℕ) (F : Seen) (x : Deed) (ys : List Deed) → Good i F → LogRuns t i F (x ∷ ys) G → NoneOpen G → isEnd (x .move) ≡ false
-      → isEmpty (x .touched) ≡ false → count (λ a. endsMemberOf (actOf x) (actOf a)) ys ≡ 1
+      → isEmpty (x .touched) ≡ false → countIf (λ a. endsMemberOf (actOf x) (actOf a)) ys ≡ 1
   one-after i F x ys g r n nx ne =
       count-same (λ a. endsMemberOf (actOf x) (actOf a)) (λ a. eqb (x .key) (a .place)) ys (after-key i F x [] ys g r nx ne)
       ∙ place-once t G ys (suc i) (astep t F x) (x .key) (r .1)
@@ -106,7 +106,7 @@ module _ (t : Table) (sd : Shaped t) (G : Seen) where
       (let w = key-bound t sd G i F (x ∷ ys) g r n .0 in omega arith)
 
   pub one-block-of : (xs : List Deed) (F : Seen) (x : Deed) (ys : List Deed) → Good 0 F → LogRuns t 0 F (xs ++ x ∷ ys) G → NoneOpen G → isInner (actOf x) ≡ true
-      → (count (λ a. endsMemberOf (actOf x) (actOf a)) (xs ++ x ∷ ys) ≡ 1) × (count (λ a. endsMemberOf (actOf x) (actOf a)) ys ≡ 1)
+      → (countIf (λ a. endsMemberOf (actOf x) (actOf a)) (xs ++ x ∷ ys) ≡ 1) × (countIf (λ a. endsMemberOf (actOf x) (actOf a)) ys ≡ 1)
   one-block-of xs F x ys g r n h =
       let nx = not-true (isEnd (x .move)) (and-left (not (isEnd (x .move))) (not (isEmpty (x .members))) h) in
       let rest = log-rest t sd 0 F G xs (x ∷ ys) g r (0 + length xs) refl in
@@ -115,7 +115,7 @@ module _ (t : Table) (sd : Shaped t) (G : Seen) where
       (total xs ys (none-before xs 0 F x ys g r nx) nx one, one)
     where
       total : (xs ys : List Deed) → All (λ b. endsMemberOf (actOf x) (actOf b) ≡ false) xs → isEnd (x .move) ≡ false
-          → count (λ a. endsMemberOf (actOf x) (actOf a)) ys ≡ 1 → count (λ a. endsMemberOf (actOf x) (actOf a)) (xs ++ x ∷ ys) ≡ 1
+          → countIf (λ a. endsMemberOf (actOf x) (actOf a)) ys ≡ 1 → countIf (λ a. endsMemberOf (actOf x) (actOf a)) (xs ++ x ∷ ys) ≡ 1
       total xs ys b nx one =
           let z : endsMemberOf (actOf x) (actOf x) ≡ false = ap (λ (c : Bool). c && belongsTo (actOf x) (actOf x)) nx in
           let k = ap oneIf z in

@@ -6,7 +6,7 @@ use Prim.Native.Nat.{ℕ, zero, suc, _+_, _≤_, _<_}
 use native.Mathlib.Omega.{arith}
 use lib.Dec.{eqb, leb}
 use borrow.Author.Tests.{eqb-true, eqb-false, ne-eqb, leb-false, le-leb, lt-leb}
-use Rattle.lists.specs.Lists.{keep, count, oneIf}
+use Rattle.lists.specs.Lists.{keep, countIf, oneIf}
 use Rattle.lists.specs.Choices.{by-bool}
 use Rattle.lists.specs.Each.{All, All-map, All-append, All-keep}
 use Rattle.semantics.specs.Table.{Table}
@@ -125,14 +125,14 @@ arrange-isort n e (m ∷ xs) h = arrange-ins n e m xs (h .0 .0) (h .0 .1) ∙ ap
 
 -- ---- each move once
 
-count-ins : (p : Deed → Bool) (m : Deed) (xs : List Deed) → count p (ins m xs) ≡ count p (m ∷ xs)
+count-ins : (p : Deed → Bool) (m : Deed) (xs : List Deed) → countIf p (ins m xs) ≡ countIf p (m ∷ xs)
 count-ins p m [] = refl
 count-ins p m (x ∷ xs) = go (leb (m .key) (x .key)) (count-ins p m xs)
   where
-    go : (b : Bool) → count p (ins m xs) ≡ oneIf (p m) + count p xs → count p (cond b (m ∷ x ∷ xs) (x ∷ ins m xs)) ≡ oneIf (p m) + (oneIf (p x) + count p xs)
+    go : (b : Bool) → countIf p (ins m xs) ≡ oneIf (p m) + countIf p xs → countIf p (cond b (m ∷ x ∷ xs) (x ∷ ins m xs)) ≡ oneIf (p m) + (oneIf (p x) + countIf p xs)
     go true ih = refl
     go false ih = omega arith
 
-pub count-isort : (p : Deed → Bool) (xs : List Deed) → count p (isort xs) ≡ count p xs
+pub count-isort : (p : Deed → Bool) (xs : List Deed) → countIf p (isort xs) ≡ countIf p xs
 count-isort p [] = refl
 count-isort p (m ∷ xs) = count-ins p m (isort xs) ∙ ap (λ (n : ℕ). oneIf (p m) + n) (count-isort p xs)

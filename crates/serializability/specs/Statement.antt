@@ -6,7 +6,7 @@ use mathlib.Core.List.{List, [], _∷_, _++_, map}
 use mathlib.Core.Path.{_≡_}
 use lib.Dec.{eqb}
 use lib.ListN.{length, getD, take, drop}
-use Rattle.lists.specs.Lists.{all, any, keep, count, least, upFrom}
+use Rattle.lists.specs.Lists.{all, any, keep, countIf, least, upFrom}
 use Rattle.semantics.specs.Table.{Table, ruleAt, tableOf}
 use Rattle.semantics.specs.State.{Origin, Entry, State, owned, markValues, stateOf, stateWords}
 use Rattle.semantics.specs.Move.{Move, react, commit, abort, picked, entriesIn, allowed, applied, moveOf}
@@ -88,7 +88,7 @@ isGlobal kind port value e = owned 0 e && (eqb (e .kind) kind && eqb (e .port) p
 
 pub record Serial (t : Table) (s : State) (ms : List Move) (e : State) : Type 0 where
   -- 1. Each move once: the places of the serial order are 0 to k−1, each as often as there; ..
-  pub once : (p : ℕ → Bool) → count p (placesOf t s ms) ≡ count p (upFrom 0 (length ms))
+  pub once : (p : ℕ → Bool) → countIf p (placesOf t s ms) ≡ countIf p (upFrom 0 (length ms))
   pub size : length (serial t s ms) ≡ length ms
   -- .. and the j-th move of the serial log is the log's move of the j-th of these places.
   pub same : (j : ℕ) → j < length ms
@@ -100,7 +100,7 @@ pub record Serial (t : Table) (s : State) (ms : List Move) (e : State) : Type 0 
   -- (Origins tell entries apart: in none of these states have two entries the same one. And they change nothing: the second states are those along the
   -- serial log.)
   pub origins : (j : ℕ) → j < length ms → (o : Origin)
-      → (count (hasOrigin o) (logState t s ms j .entries) ≤ 1) × (count (hasOrigin o) (serialState t s ms j .entries) ≤ 1)
+      → (countIf (hasOrigin o) (logState t s ms j .entries) ≤ 1) × (countIf (hasOrigin o) (serialState t s ms j .entries) ≤ 1)
   pub states : (j : ℕ) → j ≤ length ms → stateWords (serialState t s ms j) ≡ stateWords (getD (along t 0 s (serial t s ms)) j s)
   -- 2. Blocks: directly before a commit or abort a stand the begins of the members that it ends and the reactions made in their transactions, in
   -- log order, with no other move between;
@@ -110,7 +110,7 @@ pub record Serial (t : Table) (s : State) (ms : List Move) (e : State) : Type 0 
   pub inner : (xs ys : List Act) (x : Act) → acts t 0 s ms ≡ xs ++ x ∷ ys → isInner x ≡ isBegin t (x .move) || isMadeInside t (x .move)
   -- each begin and each reaction made in transactions belongs to one commit or abort of the log, which stands after it;
   pub one-block : (xs ys : List Act) (x : Act) → acts t 0 s ms ≡ xs ++ x ∷ ys → isInner x ≡ true
-      → (count (endsMemberOf x) (acts t 0 s ms) ≡ 1) × (count (endsMemberOf x) ys ≡ 1)
+      → (countIf (endsMemberOf x) (acts t 0 s ms) ≡ 1) × (countIf (endsMemberOf x) ys ≡ 1)
   -- each member that a commit or abort ends was begun by a move before it;
   pub begun-before : (xs ys : List Act) (a : Act) → acts t 0 s ms ≡ xs ++ a ∷ ys → isEnd (a .move) ≡ true
       → (o : Origin) → any (sameOrigin o) (a .members) ≡ true → any (λ x. isBegin t (x .move) && any (sameOrigin o) (x .members)) xs ≡ true
@@ -120,7 +120,7 @@ pub record Serial (t : Table) (s : State) (ms : List Move) (e : State) : Type 0 
   pub end : State
   pub accepted : Accepted t 0 s (serial t s ms) end
   pub closed : anyOpen end ≡ false
-  pub same-messages : (kind port value : ℕ) → count (isGlobal kind port value) (end .entries) ≡ count (isGlobal kind port value) (e .entries)
+  pub same-messages : (kind port value : ℕ) → countIf (isGlobal kind port value) (end .entries) ≡ countIf (isGlobal kind port value) (e .entries)
 
 -- ---- the words
 

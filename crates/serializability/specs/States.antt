@@ -7,7 +7,7 @@ use mathlib.Core.List.{List, [], _∷_}
 use Prim.Native.Nat.{ℕ, zero, suc, _+_, _≤_}
 use native.Mathlib.Omega.{arith}
 use lib.ListN.{length, getD}
-use Rattle.lists.specs.Lists.{count, oneIf, upFrom}
+use Rattle.lists.specs.Lists.{countIf, oneIf, upFrom}
 use Rattle.semantics.specs.Table.{Table}
 use Rattle.semantics.specs.State.{Origin, Entry, State}
 use Rattle.semantics.specs.Move.{Move, allowed, applied, steppedBy, step}
@@ -27,20 +27,20 @@ use Rattle.wellformed.specs.Bare.{bareState, allowed-same, applied-same}
 
 -- ---- origins
 
-origin-none : (o : Origin) (l : List Entry) → look o l ≡ none → count (λ e. sameOrigin o (e .origin)) l ≡ 0
+origin-none : (o : Origin) (l : List Entry) → look o l ≡ none → countIf (λ e. sameOrigin o (e .origin)) l ≡ 0
 origin-none o [] h = refl
 origin-none o (e ∷ l) h = go (sameOrigin o (e .origin)) (origin-none o l) h
   where
-    go : (b : Bool) → (look o l ≡ none → count (λ e. sameOrigin o (e .origin)) l ≡ 0) → cond b (some e) (look o l) ≡ none
-        → oneIf b + count (λ e. sameOrigin o (e .origin)) l ≡ 0
+    go : (b : Bool) → (look o l ≡ none → countIf (λ e. sameOrigin o (e .origin)) l ≡ 0) → cond b (some e) (look o l) ≡ none
+        → oneIf b + countIf (λ e. sameOrigin o (e .origin)) l ≡ 0
     go true ih w = absurd (none-some (sym w))
     go false ih w = let k = ih w in omega arith
 
-pub origin-once : (o : Origin) (l : List Entry) → Uniq l → count (λ e. sameOrigin o (e .origin)) l ≤ 1
+pub origin-once : (o : Origin) (l : List Entry) → Uniq l → countIf (λ e. sameOrigin o (e .origin)) l ≤ 1
 origin-once o [] u = omega arith
 origin-once o (e ∷ l) u = go (sameOrigin o (e .origin)) refl (origin-once o l (u .1))
   where
-    go : (b : Bool) → sameOrigin o (e .origin) ≡ b → count (λ e. sameOrigin o (e .origin)) l ≤ 1 → oneIf b + count (λ e. sameOrigin o (e .origin)) l ≤ 1
+    go : (b : Bool) → sameOrigin o (e .origin) ≡ b → countIf (λ e. sameOrigin o (e .origin)) l ≤ 1 → oneIf b + countIf (λ e. sameOrigin o (e .origin)) l ≤ 1
     go true q ih = let k = origin-none o l (ap (λ (z : Origin). look z l) (same-eq o (e .origin) q) ∙ u .0) in omega arith
     go false q ih = omega arith
 

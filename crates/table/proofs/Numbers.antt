@@ -9,7 +9,7 @@ use borrow.Author.Tests.{ltb-true, leb-true, eqb-true, lt-ltb, le-ltb, le-leb, e
 use lib.Dec.{leb, ltb, eqb}
 use lib.ListN.{length, getD, take, drop, set, replicate, getD-replicate, length-set}
 use lib.Seq.{take-suc, take-all, getD-set-same, getD-set-other, length-take-le}
-use Rattle.lists.specs.Lists.{all, count, risesFrom, allBelow}
+use Rattle.lists.specs.Lists.{all, countIf, risesFrom, allBelow}
 use Rattle.lists.specs.Tests.{and-both, or-true, or-false, or-right-true, same-test}
 use Rattle.lists.specs.Counting.{count-append, count-all, all-append, all-weaker, any-count}
 use Rattle.lists.specs.Rising.{Order, before, equal, after, order, none-keyed}
@@ -130,7 +130,7 @@ module _ (rules : ℕ) where
 pub record Marked (numbers : List ℕ) (i seen : ℕ) (starts : List ℕ) : Type 0 where
   pub room : length starts ≡ 65
   pub under : all (λ n. ltb n seen) (take i numbers) ≡ true
-  pub each : (r : ℕ) → r ≤ seen → getD starts r 0 ≡ count (λ n. ltb n r) (take i numbers)
+  pub each : (r : ℕ) → r ≤ seen → getD starts r 0 ≡ countIf (λ n. ltb n r) (take i numbers)
 
 pub marked-start : (numbers : List ℕ) {starts : List ℕ} → starts ≡ replicate 65 0 → Marked numbers 0 0 starts
 marked-start numbers e =
@@ -151,9 +151,9 @@ module _ (numbers : List ℕ) (i seen : ℕ) (starts : List ℕ) (was : Marked n
         (all-weaker (λ m. ltb m seen) (λ m. ltb m (n + 1)) (λ m e. lt-ltb m (n + 1) (omega (arith, ltb-true m seen e, f .next))) (take i numbers) (was .under))
         (rw (lt-ltb n (n + 1) (omega arith))))
 
-    each : (r : ℕ) → r ≤ n + 1 → Order r (n + 1) → getD (set starts (n + 1) (i + 1)) r 0 ≡ count (λ m. ltb m r) (take (i + 1) numbers)
+    each : (r : ℕ) → r ≤ n + 1 → Order r (n + 1) → getD (set starts (n + 1) (i + 1)) r 0 ≡ countIf (λ m. ltb m r) (take (i + 1) numbers)
     each r k (before b) =
-        let same : count (λ m. ltb m r) (take (i + 1) numbers) ≡ count (λ m. ltb m r) (take i numbers) =
+        let same : countIf (λ m. ltb m r) (take (i + 1) numbers) ≡ countIf (λ m. ltb m r) (take i numbers) =
         rw (grown, count-append (λ m. ltb m r) (take i numbers) (n ∷ []), le-ltb n r (omega arith)) (omega arith) in
         getD-set-other starts (n + 1) r (i + 1) 0 (λ e. omega arith) ∙ was .each r (omega (arith, f .near)) ∙ sym same
     each r k (equal e) =
@@ -166,4 +166,4 @@ module _ (numbers : List ℕ) (i seen : ℕ) (starts : List ℕ) (was : Marked n
     marked-next = record { room = length-set starts (n + 1) (i + 1) ∙ was .room; under = under; each = λ r k. each r k (order r (n + 1)) }
 
   pub marked-done : (rules : ℕ) → length numbers ≤ i → seen ≡ rules → Starts numbers rules starts
-  marked-done rules l e = record { room = was .room; each = λ r k. was .each r (omega arith) ∙ ap (count (λ n. ltb n r)) (take-all i numbers l) }
+  marked-done rules l e = record { room = was .room; each = λ r k. was .each r (omega arith) ∙ ap (countIf (λ n. ltb n r)) (take-all i numbers l) }

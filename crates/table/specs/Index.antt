@@ -6,7 +6,7 @@ use mathlib.Core.Path.{_≡_}
 use lib.Dec.{ltb}
 use native.Mathlib.Omega.{arith}
 use lib.ListN.{length, getD, take, drop}
-use Rattle.lists.specs.Lists.{count, risesFrom}
+use Rattle.lists.specs.Lists.{countIf, risesFrom}
 use Rattle.lists.specs.Counting.{count-le}
 use Rattle.lists.specs.Rising.{starts-rise, beside-part}
 use Rattle.semantics.specs.Table.{ruleWords}
@@ -14,7 +14,7 @@ use Rattle.semantics.specs.Table.{ruleWords}
 -- Rule r begins after the atoms of smaller numbers; the place after the last rule is there too.
 pub record Starts (numbers : List ℕ) (rules : ℕ) (starts : List ℕ) : Type 0 where
   pub room : length starts ≡ 65
-  pub each : (r : ℕ) → r ≤ rules → getD starts r 0 ≡ count (λ n. ltb n r) numbers
+  pub each : (r : ℕ) → r ≤ rules → getD starts r 0 ≡ countIf (λ n. ltb n r) numbers
 
 -- an answer that says whether the test holds, with an index that is right where it does
 pub record IndexMade (test : Bool) (numbers : List ℕ) (rules : ℕ) (ok : Bool) (starts : List ℕ) : Type 0 where

@@ -8,7 +8,7 @@ use native.Mathlib.Omega.{arith}
 use lib.Dec.{eqb}
 use lib.ListN.{replicate}
 use borrow.Author.Tests.{eq-eqb, ne-eqb}
-use Rattle.lists.specs.Lists.{oneIf, count, keepIf, keep}
+use Rattle.lists.specs.Lists.{oneIf, countIf, keepIf, keep}
 use Rattle.lists.specs.Members.{Among}
 use Rattle.semantics.specs.Table.{Rule, hasRole}
 use Rattle.semantics.specs.State.{Origin, Entry, State, isMemberMark, markValues}
@@ -28,7 +28,7 @@ module _ (R : Rule) (s : State) (es : List Entry) (i : ℕ) where
   products-among q (b ∷ atoms) a (inr m) = let (o, n) = products-among (suc q) atoms a m in (o, inr n)
 
   -- the marks that are made: one for each begin, of value N
-  pub marks-made : (q : ℕ) (atoms : List Atom) → markValues (products R s es i q atoms) ≡ replicate (count (hasRole 2) atoms) (s .next)
+  pub marks-made : (q : ℕ) (atoms : List Atom) → markValues (products R s es i q atoms) ≡ replicate (countIf (hasRole 2) atoms) (s .next)
   marks-made q [] = refl
   marks-made q (a ∷ atoms) =
       go (marks-made (suc q) atoms) (eqb (a .role) 2) (eqb (a .role) 4) (eqb (a .role) 5) (made R s es (record { maker = i; index = q }) a) refl refl
@@ -40,14 +40,14 @@ module _ (R : Rule) (s : State) (es : List Entry) (i : ℕ) where
       more n = let e : suc n ≡ 1 + n = omega arith in ap (λ (n : ℕ). replicate n (s .next)) e
 
       -- by the tests of the atom's role
-      go : markValues (products R s es i (suc q) atoms) ≡ replicate (count (hasRole 2) atoms) (s .next) → (b c d : Bool) (e : Entry)
+      go : markValues (products R s es i (suc q) atoms) ≡ replicate (countIf (hasRole 2) atoms) (s .next) → (b c d : Bool) (e : Entry)
           → e .kind ≡ cond b 3 (cond c 1 (cond d 2 0)) → e .value ≡ cond b (s .next) (valueIn (map (λ e. e .value) es) (a .value))
           → map (λ e. e .value) (keepIf (isMemberMark e) e (keep isMemberMark (products R s es i (suc q) atoms))) ≡ replicate
-          (oneIf b + count (hasRole 2) atoms) (s .next)
-      go ih true c d e k v = rw (eq-eqb (e .kind) 3 k, v, ih) (more (count (hasRole 2) atoms))
-      go ih false true d e k v = rw (ne-eqb (e .kind) 3 (λ q. omega arith), ih) (fewer (count (hasRole 2) atoms))
-      go ih false false true e k v = rw (ne-eqb (e .kind) 3 (λ q. omega arith), ih) (fewer (count (hasRole 2) atoms))
-      go ih false false false e k v = rw (ne-eqb (e .kind) 3 (λ q. omega arith), ih) (fewer (count (hasRole 2) atoms))
+          (oneIf b + countIf (hasRole 2) atoms) (s .next)
+      go ih true c d e k v = rw (eq-eqb (e .kind) 3 k, v, ih) (more (countIf (hasRole 2) atoms))
+      go ih false true d e k v = rw (ne-eqb (e .kind) 3 (λ q. omega arith), ih) (fewer (countIf (hasRole 2) atoms))
+      go ih false false true e k v = rw (ne-eqb (e .kind) 3 (λ q. omega arith), ih) (fewer (countIf (hasRole 2) atoms))
+      go ih false false false e k v = rw (ne-eqb (e .kind) 3 (λ q. omega arith), ih) (fewer (countIf (hasRole 2) atoms))
 
 -- merging changes no mark's value
 pub marks-merged : (os : List ℕ) (es : List Entry) → markValues (map (merged os) es) ≡ markValues es

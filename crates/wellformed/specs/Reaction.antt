@@ -8,7 +8,7 @@ use native.Mathlib.Omega.{arith}
 use lib.Dec.{ltb, eqb}
 use lib.ListN.{length, replicate}
 use borrow.Author.Tests.{ltb-true, eqb-true, eqb-false, eq-eqb, ne-eqb}
-use Rattle.lists.specs.Lists.{count, keep, isIn, distinct, least, without}
+use Rattle.lists.specs.Lists.{countIf, keep, isIn, distinct, least, without}
 use Rattle.lists.specs.Choices.{by-bool, is-false, given-holds}
 use Rattle.lists.specs.Members.{Among, any-some, among-map, map-among, among-keep, keep-among, among-append, among-left, among-right, isIn-among, among-isIn}
 use Rattle.lists.specs.Smallest.{least-le, least-of}
@@ -230,7 +230,7 @@ module _ {z : Sizes} {R : Rule} (right : RuleRight z R) {s : State} (sound : Sou
       (λ k. inr (among-products R s (picked s ps) i 0 (productAtoms R) d k))
       (among-append (map (merged os) (without ps 0 (s .entries))) new d m)
 
-  marks-all : markValues all-entries ≡ markValues (s .entries) ++ replicate (count (hasRole 2) (productAtoms R)) (s .next)
+  marks-all : markValues all-entries ≡ markValues (s .entries) ++ replicate (countIf (hasRole 2) (productAtoms R)) (s .next)
   marks-all =
       ap (map (λ e. e .value)) (keep-append isMemberMark (map (merged os) (without ps 0 (s .entries))) new)
       ∙ map-append (λ e. e .value) (keep isMemberMark (map (merged os) (without ps 0 (s .entries)))) (keep isMemberMark new)
@@ -243,7 +243,7 @@ module _ {z : Sizes} {R : Rule} (right : RuleRight z R) {s : State} (sound : Sou
       let l = sound .right .each e k .member-mark (eqb-true (e .kind) 3 t) .value-lt in omega arith)
 
   marks-distinct : distinct (markValues all-entries) ≡ true
-  marks-distinct = rw marks-all (go (count (hasRole 2) (productAtoms R))
+  marks-distinct = rw marks-all (go (countIf (hasRole 2) (productAtoms R))
       (let l = count-keep-le (hasRole 2) (λ a. not (hasRole 0 a)) (R .atoms) in let h = right .begins-le in omega arith))
     where
       go : (n : ℕ) → n ≤ 1 → distinct (markValues (s .entries) ++ replicate n (s .next)) ≡ true

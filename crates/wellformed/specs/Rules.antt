@@ -8,7 +8,7 @@ use native.Mathlib.Omega.{arith}
 use lib.Dec.{leb, ltb, eqb}
 use lib.ListN.{length, getD, length-map}
 use borrow.Author.Tests.{ltb-true, leb-true, eqb-true, eqb-false, eq-eqb, ne-eqb, le-leb, not-true}
-use Rattle.lists.specs.Lists.{count, risesFrom}
+use Rattle.lists.specs.Lists.{countIf, risesFrom}
 use Rattle.lists.specs.Tests.{or-right-true}
 use Rattle.lists.specs.Choices.{by-bool, and-intro, and-right, and-three, or-cases, given-holds}
 use Rattle.lists.specs.Members.{Among, all-each, any-some, any-intro, among-map, among-keep}
@@ -48,8 +48,8 @@ pub record RuleRight (z : Sizes) (R : Rule) : Type 0 where
   pub atoms-le : length (R .atoms) ≤ 16
   pub consumes-some : 1 ≤ length (consumed R)
   pub consumes-le : length (consumed R) ≤ 4
-  pub begins-le : count (hasRole 2) (R .atoms) ≤ 1
-  pub aborts-le : count (hasRole 5) (R .atoms) ≤ 1
+  pub begins-le : countIf (hasRole 2) (R .atoms) ≤ 1
+  pub aborts-le : countIf (hasRole 5) (R .atoms) ≤ 1
   pub rises : risesFrom 0 (λ a. a .role) (R .atoms) ≡ true
   pub each : (a : Atom) → Among a (R .atoms) → AtomRight z R a
 
@@ -64,14 +64,14 @@ classOf-le z p = go (ltb p (z .globals)) (ltb p (z .globals + z .locals))
     go false false = omega arith
 
 module _ (z : Sizes) (ws : List ℕ) where
-  value-right : (w : ℕ) → modeOk (shapeOf z ws) w ≡ true → ValueRight (count (isRole 0) ws) (atomOf w .value)
+  value-right : (w : ℕ) → modeOk (shapeOf z ws) w ≡ true → ValueRight (countIf (isRole 0) ws) (atomOf w .value)
   value-right w h = go (eqb (atomMode w) 1) refl
     where
-      go : (b : Bool) → eqb (atomMode w) 1 ≡ b → ValueRight (count (isRole 0) ws) (atomValue b (valueOf w))
+      go : (b : Bool) → eqb (atomMode w) 1 ≡ b → ValueRight (countIf (isRole 0) ws) (atomValue b (valueOf w))
       go true e = ⊎-elim
           (λ q. absurd (let h = eqb-true (atomMode w) 0 q in let k = eqb-true (atomMode w) 1 e in omega arith))
-          (λ q. ltb-true (valueOf w) (count (isRole 0) ws) (and-right (eqb (atomMode w) 1) (ltb (valueOf w) (count (isRole 0) ws)) q))
-          (or-cases (eqb (atomMode w) 0) (eqb (atomMode w) 1 && ltb (valueOf w) (count (isRole 0) ws)) h)
+          (λ q. ltb-true (valueOf w) (countIf (isRole 0) ws) (and-right (eqb (atomMode w) 1) (ltb (valueOf w) (countIf (isRole 0) ws)) q))
+          (or-cases (eqb (atomMode w) 0) (eqb (atomMode w) 1 && ltb (valueOf w) (countIf (isRole 0) ws)) h)
       go false e = omega arith
 
   mark-bare : (w : ℕ) → markOk w ≡ true → (atomRole w ≡ 2) ⊎ (atomRole w ≡ 5) → (atomOf w .port ≡ 0) × (atomOf w .value ≡ Constant 0)
@@ -84,8 +84,8 @@ module _ (z : Sizes) (ws : List ℕ) where
       let n : eqb (atomMode w) 1 ≡ false = ne-eqb (atomMode w) 1 (λ q. omega arith) in
       (eqb-true (portOf w) 0 port, rw n (ap Constant (eqb-true (valueOf w) 0 value)))
 
-  some-begins : 1 ≤ count (isRole 2) ws → begins (ruleOf z ws) ≡ true
-  some-begins h = rule-has z ws 2 ∙ any-count (isRole 2) ws ∙ le-leb 1 (count (isRole 2) ws) h
+  some-begins : 1 ≤ countIf (isRole 2) ws → begins (ruleOf z ws) ≡ true
+  some-begins h = rule-has z ws 2 ∙ any-count (isRole 2) ws ∙ le-leb 1 (countIf (isRole 2) ws) h
 
   atom-right : (w : ℕ) → atomOk z (shapeOf z ws) w ≡ true → AtomRight z (ruleOf z ws) (atomOf w)
   unfolding ruleOf

@@ -8,7 +8,7 @@ use borrow.Author.Tests.{leb-true, eqb-true, ltb-true}
 use lib.Dec.{leb, ltb, eqb}
 use lib.ListN.{length, take, drop, length-drop, length-map}
 use lib.Seq.{length-take-le, take-all}
-use Rattle.lists.specs.Lists.{all, any, keep, count, risesFrom, allBelow}
+use Rattle.lists.specs.Lists.{all, any, keep, countIf, risesFrom, allBelow}
 use Rattle.lists.specs.Choices.{and-three, and-six, and-nine}
 use Rattle.lists.specs.Tests.{and-both}
 use Rattle.lists.specs.Counting.{count-le, count-map, length-keep}
@@ -105,18 +105,18 @@ well-formed t h =
 pub record RuleFits (z : Sizes) (ws : List ℕ) : Type 0 where
   pub few : length ws ≤ 16
   pub rises : risesFrom 0 atomRole ws ≡ true
-  pub some : 1 ≤ count (isRole 0) ws
-  pub most : count (isRole 0) ws ≤ 4
-  pub begins : count (isRole 2) ws ≤ 1
-  pub aborts : count (isRole 5) ws ≤ 1
+  pub some : 1 ≤ countIf (isRole 0) ws
+  pub most : countIf (isRole 0) ws ≤ 4
+  pub begins : countIf (isRole 2) ws ≤ 1
+  pub aborts : countIf (isRole 5) ws ≤ 1
   pub atoms : all (atomOk z (shapeOf z ws)) ws ≡ true
 
 pub rule-fits : (z : Sizes) (ws : List ℕ) → ruleOk z ws ≡ true → RuleFits z ws
 unfolding ruleOk
 rule-fits z ws h =
-    let n = count (isRole 0) ws in
-    let begin = leb (count (isRole 2) ws) 1 in
-    let abort = leb (count (isRole 5) ws) 1 in
+    let n = countIf (isRole 0) ws in
+    let begin = leb (countIf (isRole 2) ws) 1 in
+    let abort = leb (countIf (isRole 5) ws) 1 in
     let (few, rises, takes, begins, aborts, atoms) =
     and-six (leb (length ws) 16) (risesFrom 0 atomRole ws) (leb 1 n && leb n 4) begin abort (all (atomOk z (shapeOf z ws)) ws) h in
     let (some, most) = and-both (leb 1 n) (leb n 4) takes in
@@ -125,8 +125,8 @@ rule-fits z ws h =
       rises = rises;
       some = leb-true 1 n some;
       most = leb-true n 4 most;
-      begins = leb-true (count (isRole 2) ws) 1 begins;
-      aborts = leb-true (count (isRole 5) ws) 1 aborts;
+      begins = leb-true (countIf (isRole 2) ws) 1 begins;
+      aborts = leb-true (countIf (isRole 5) ws) 1 aborts;
       atoms = atoms;
     }
 
@@ -198,13 +198,13 @@ module _ (z : Sizes) (ws : List ℕ) where
   unfolding ruleOf
   rule-has k = any-map atomOf (hasRole k) ws
 
-  pub consumed-length : length (consumed (ruleOf z ws)) ≡ count (isRole 0) ws
+  pub consumed-length : length (consumed (ruleOf z ws)) ≡ countIf (isRole 0) ws
   unfolding ruleOf
   consumed-length =
       length-map (keep (hasRole 0) (map atomOf ws)) (λ a. a .port)
       ∙ length-keep (hasRole 0) (map atomOf ws) ∙ count-map atomOf (hasRole 0) ws
 
-  pub rule-legal : RuleFits z ws → LegalRule (count (isRole 0) ws) (ruleOf z ws)
+  pub rule-legal : RuleFits z ws → LegalRule (countIf (isRole 0) ws) (ruleOf z ws)
   unfolding ruleOf
   rule-legal f =
       let first = zeros-first (λ (a : Atom). a .role) 0 (map atomOf ws) (rises-map atomOf (λ (a : Atom). a .role) 0 ws ∙ f .rises) in
