@@ -16,7 +16,7 @@
  * Stack: every call runs in a thread of COORDINATOR_STACK_BYTES. The figure with each call is the
  * most that was measured at full size, rounded up.
  *
- * Names are the usual ones of transactions. Document 01's words for them, as in the comments below:
+ * Names are the usual ones of transactions. Document 01's words for them, here and in brackets below:
  *   global, local, merge port   plant, batch, joining port
  *   transaction, id, member     batch, ticket, lot
  *   message, compensation       note, call-off note
@@ -38,10 +38,10 @@ extern "C" {
 #define COORDINATOR_MAX_PORTS 256u       /* of a table, all three classes together */
 #define COORDINATOR_MAX_RULES 64u        /* of a table */
 #define COORDINATOR_MAX_ATOMS 512u       /* of a table */
-#define COORDINATOR_MAX_RULE_ATOMS 16u   /* of a rule, its takes included */
-#define COORDINATOR_MAX_CONSUMES 4u      /* takes of a rule, picks of a move */
+#define COORDINATOR_MAX_RULE_ATOMS 16u   /* of a rule, its consumes (takes) included */
+#define COORDINATOR_MAX_CONSUMES 4u      /* consumes (takes) of a rule, picks of a move */
 #define COORDINATOR_MAX_ENTRIES 1024u    /* of a state */
-#define COORDINATOR_MAX_NEXT 65536u      /* next ticket of a state */
+#define COORDINATOR_MAX_NEXT 65536u      /* next id (ticket) of a state */
 #define COORDINATOR_MAX_MOVES 1024u      /* of a log */
 #define COORDINATOR_MOVE_WORDS 5u
 #define COORDINATOR_STATE_TARGET_WORDS 2050u /* of a target for a state, however small the state */
@@ -55,26 +55,26 @@ extern "C" {
 /* Numbers. */
 #define COORDINATOR_ACCEPTED 0u          /* a check passed, or words were written */
 
-/* Numbers: refused because of what is handed in. */
-#define COORDINATOR_TABLE_SIZES 1u       /* table: sizes or length */
-#define COORDINATOR_TABLE_CONTENTS 2u    /* table: any other fault */
-#define COORDINATOR_STATE_SIZES 3u       /* state: number of entries, next ticket or length */
-#define COORDINATOR_STATE_CONTENTS 4u    /* state: any other fault */
-#define COORDINATOR_MOVE_FORM 5u         /* move: not five words; kind, rule or ticket out of range; unused pick not 0 */
+/* Numbers: a list is not well formed, or not fit for the call. */
+#define COORDINATOR_TABLE_SIZES 1u       /* table: a size is over its limit or does not fit the length */
+#define COORDINATOR_TABLE_CONTENTS 2u    /* table: a rule number or an atom is wrong */
+#define COORDINATOR_STATE_SIZES 3u       /* state: count or next id (ticket) not valid, or length does not fit */
+#define COORDINATOR_STATE_CONTENTS 4u    /* state: an entry is wrong, or a transaction lacks its own member mark */
+#define COORDINATOR_MOVE_FORM 5u         /* move: length not 5, kind, rule or id (ticket) not valid, or spare pick not 0 */
 #define COORDINATOR_TARGET_TOO_SHORT 6u  /* target: below COORDINATOR_STATE_TARGET_WORDS or COORDINATOR_LOG_WORDS(k) */
-#define COORDINATOR_LOG_SIZES 13u        /* log: count or length */
-#define COORDINATOR_BEGIN_EMITS 14u      /* an opening rule has a give (serialize only) */
+#define COORDINATOR_LOG_SIZES 13u        /* log: count over 1,024, or does not fit the length */
+#define COORDINATOR_BEGIN_EMITS 14u      /* a rule of the table begins a transaction and emits (serialize only) */
 
-/* Numbers: refused because of the plant's state. */
-#define COORDINATOR_WRONG_PICK 7u        /* a pick past the last entry, repeated, not a note, or on another port */
-#define COORDINATOR_WRONG_OWNER 8u       /* owner not as the rule wants */
-#define COORDINATOR_NO_TRANSACTION 9u    /* ticket names no open batch */
-#define COORDINATOR_END_NOT_ALLOWED 10u  /* release or call-off not allowed */
-#define COORDINATOR_NO_MORE_IDS 11u      /* opening with next ticket 65,536 */
-#define COORDINATOR_TOO_MANY_ENTRIES 12u /* more than 1,024 entries afterwards */
-#define COORDINATOR_TRANSACTION_OPEN 15u /* an open batch at the log's start or end (serialize only) */
-#define COORDINATOR_MOVE_REFUSED 16u     /* a move in the log: place and own tell which and why */
-#define COORDINATOR_SERIAL_TOO_MANY_ENTRIES 17u /* the serial order would exceed 1,024 entries */
+/* Numbers: the state does not allow the move or the log. */
+#define COORDINATOR_WRONG_PICK 7u        /* a picked entry is missing, picked twice, no message, or on the wrong port */
+#define COORDINATOR_WRONG_OWNER 8u       /* the rule may not consume from the owners of the picked messages */
+#define COORDINATOR_NO_TRANSACTION 9u    /* no transaction (batch) is open under this id (ticket) */
+#define COORDINATOR_END_NOT_ALLOWED 10u  /* commit with abort mark or message off the global ports, abort without mark */
+#define COORDINATOR_NO_MORE_IDS 11u      /* a transaction cannot begin, all ids are used up: the next is 65,536 */
+#define COORDINATOR_TOO_MANY_ENTRIES 12u /* the state would have more than 1,024 entries */
+#define COORDINATOR_TRANSACTION_OPEN 15u /* a transaction is open before or after the log (serialize only) */
+#define COORDINATOR_MOVE_REFUSED 16u     /* one of the log's moves is refused: place and own tell which and why */
+#define COORDINATOR_SERIAL_TOO_MANY_ENTRIES 17u /* a state along the serial log would have more than 1,024 entries */
 
 typedef struct coordinator_answer {
     uint32_t number; /* one of the numbers above */
@@ -93,21 +93,21 @@ coordinator_answer coordinator_check_state(const uint32_t *table, size_t table_l
                                            const uint32_t *state, size_t state_len);
 
 /* The state after one move.
- * Refusals: 1, 2, 3, 4, 5, 6, 7, 8, 9, 10, 11, 12. Stack: 30.8 KB. */
+ * Refusals: 1, 2, 3, 4, 5, 6, 7, 8, 9, 10, 11, 12. Stack: 26.7 KB. */
 coordinator_answer coordinator_move(const uint32_t *table, size_t table_len,
                                     const uint32_t *state, size_t state_len,
                                     const uint32_t *move, size_t move_len,
                                     uint32_t *target, size_t target_len);
 
 /* The state after a log's moves, one after another.
- * Refusals: 1, 2, 3, 4, 13, 6, 16. Stack: 30.5 KB. */
+ * Refusals: 1, 2, 3, 4, 13, 6, 16. Stack: 26.4 KB. */
 coordinator_answer coordinator_run(const uint32_t *table, size_t table_len,
                                    const uint32_t *state, size_t state_len,
                                    const uint32_t *log, size_t log_len,
                                    uint32_t *target, size_t target_len);
 
-/* The serial log of a log: the same moves, those of each batch directly before its end.
- * Refusals: 1, 2, 3, 4, 13, 6, 14, 15 (start), 16, 15 (end), 17. Stack: 80.1 KB. */
+/* The serial log of a log: the same moves, those of each transaction directly before its end.
+ * Refusals: 1, 2, 3, 4, 13, 6, 14, 15 (start), 16, 15 (end), 17. Stack: 54.4 KB. */
 coordinator_answer coordinator_serialize(const uint32_t *table, size_t table_len,
                                          const uint32_t *state, size_t state_len,
                                          const uint32_t *log, size_t log_len,

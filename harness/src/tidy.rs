@@ -140,7 +140,7 @@ pub struct Rule {
     pub find: fn(&Tree) -> Vec<Finding>,
 }
 
-pub const RULES: [Rule; 17] = [
+pub const RULES: [Rule; 18] = [
     Rule { name: "cited", says: "something cites every definition and law", find: cites::uncited },
     Rule {
         name: "theorems",
@@ -174,6 +174,7 @@ pub const RULES: [Rule; 17] = [
         says: "what an edit of must-fail/ replaces stands once in its file",
         find: pages::stale_edits,
     },
+    Rule { name: "edits listed", says: "docs/EDITS.md has the edits with what they say", find: pages::edits_listed },
     Rule { name: "crates", says: "docs/ARCHITECTURE.md has the crates of crates.txt", find: pages::crates_named },
     Rule { name: "layers", says: "crates.txt goes from low to high and has only what is needed", find: pages::layers },
     Rule { name: "pages", says: "the files and names that a page shows are there", find: pages::stale_names },

@@ -78,6 +78,11 @@ fn edits_change_one_place() {
 }
 
 #[test]
+fn the_page_of_edits_has_them() {
+    holds("edits listed");
+}
+
+#[test]
 fn the_architecture_has_the_crates() {
     holds("crates");
 }

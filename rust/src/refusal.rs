@@ -2,48 +2,48 @@
 use std::error::Error;
 use std::fmt;
 
-/// Why a call is refused, with document 01's number and words. More may come.
+/// Why a call is refused, with document 01's number. More may come.
 #[derive(Clone, Copy, Debug, PartialEq, Eq, Hash)]
 #[non_exhaustive]
 pub enum Refusal {
-    /// 1: table sizes or length.
+    /// 1: a size of the table is over its limit or does not fit its length.
     TableSizes,
-    /// 2: any other fault in a table.
+    /// 2: a rule number or an atom of the table is wrong.
     TableContents,
-    /// 3: state: n or N out of range, or length.
+    /// 3: the state's count or next id is not valid, or its length does not fit.
     StateSizes,
-    /// 4: any other fault in a state.
+    /// 4: an entry of the state is wrong, or a transaction lacks its own member mark.
     StateContents,
-    /// 5: move: not five words, kind, rule or ticket out of range, unused pick not 0.
+    /// 5: the move's length is not 5, its kind, rule or id is not valid, or a spare pick is not 0.
     MoveForm,
-    /// 6: target too short.
+    /// 6: the target is too short: a state wants 2,050 words, a serial log of k moves 1 + 5k.
     TargetTooShort,
-    /// 7: a pick past the last entry, repeated, not a note, or on another port.
+    /// 7: a picked entry is missing, picked twice, no message, or on the wrong port.
     WrongPick,
-    /// 8: owner not as the rule wants.
+    /// 8: the rule may not consume from the owners of the picked messages.
     WrongOwner,
-    /// 9: ticket names no open batch.
+    /// 9: no transaction is open under this id.
     NoTransaction,
-    /// 10: release or call-off not allowed.
+    /// 10: a commit wants no abort mark and no message off the global ports, an abort wants an abort mark.
     EndNotAllowed,
-    /// 11: opening with N = 65,536.
+    /// 11: a transaction cannot begin, all ids are used up: the next is 65,536.
     NoMoreIds,
-    /// 12: more than 1,024 entries afterwards.
+    /// 12: the state would have more than 1,024 entries.
     TooManyEntries,
-    /// 13: log count or length.
+    /// 13: the log's count is over 1,024 or does not fit its length.
     LogSizes,
-    /// 14: an opening rule has a give (serial log only).
+    /// 14: a rule of the table begins a transaction and emits, so that no serial log is made.
     BeginEmits,
-    /// 15: an open batch at the log's start or end (serial log only).
+    /// 15: a transaction is open before or after the log, so that no serial log is made.
     TransactionOpen,
-    /// 16: a move in the log is refused.
+    /// 16: one of the log's moves is refused.
     MoveRefused {
         /// The move's place in the log, from 0.
         place: u32,
         /// The number with which the move itself is refused: 5, or 7 to 12.
         own: u32,
     },
-    /// 17: the serial order would exceed 1,024 entries.
+    /// 17: a state along the serial log would have more than 1,024 entries.
     SerialTooManyEntries,
     /// A number that this crate does not know: the archive is newer.
     Unknown(u32),
@@ -54,23 +54,22 @@ pub enum Refusal {
 const MEANINGS: [(u32, Refusal, &str); 16] = [
     (1, Refusal::TableSizes, "a size of the table is over its limit or does not fit its length"),
     (2, Refusal::TableContents, "a rule number or an atom of the table is wrong"),
-    (3, Refusal::StateSizes,
-        "the state's number of entries or its next id is out of range, or its length does not fit"),
+    (3, Refusal::StateSizes, "the state's count or next id is not valid, or its length does not fit"),
     (4, Refusal::StateContents, "an entry of the state is wrong, or a transaction lacks its own member mark"),
     (5, Refusal::MoveForm,
-        "the move is not five words, its kind, rule or id is out of range, or an unused pick is not 0"),
+        "the move's length is not 5, its kind, rule or id is not valid, or a spare pick is not 0"),
     (6, Refusal::TargetTooShort,
         "the target is too short: a state wants 2,050 words, a serial log of k moves 1 + 5k"),
-    (7, Refusal::WrongPick, "a pick is past the last entry, repeated, not a message, or on another port"),
-    (8, Refusal::WrongOwner, "a picked message is not owned as the rule wants"),
-    (9, Refusal::NoTransaction, "the id names no open transaction"),
+    (7, Refusal::WrongPick, "a picked entry is missing, picked twice, no message, or on the wrong port"),
+    (8, Refusal::WrongOwner, "the rule may not consume from the owners of the picked messages"),
+    (9, Refusal::NoTransaction, "no transaction is open under this id"),
     (10, Refusal::EndNotAllowed,
         "a commit wants no abort mark and no message off the global ports, an abort wants an abort mark"),
-    (11, Refusal::NoMoreIds, "a transaction cannot begin, all ids are used up"),
+    (11, Refusal::NoMoreIds, "a transaction cannot begin, all ids are used up: the next is 65,536"),
     (12, Refusal::TooManyEntries, "the state would have more than 1,024 entries"),
     (13, Refusal::LogSizes, "the log's count is over 1,024 or does not fit its length"),
     (14, Refusal::BeginEmits, "a rule of the table begins a transaction and emits, so that no serial log is made"),
-    (15, Refusal::TransactionOpen, "a transaction is open at the log's start or end, so that no serial log is made"),
+    (15, Refusal::TransactionOpen, "a transaction is open before or after the log, so that no serial log is made"),
     (17, Refusal::SerialTooManyEntries, "a state along the serial log would have more than 1,024 entries"),
 ];
 

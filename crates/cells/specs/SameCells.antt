@@ -90,7 +90,8 @@ module _ (c e : State) (ρ : ℕ → ℕ) (rel : Rel c (view e) ρ) (n : NoneOpe
   end-closed = closed-all (c .entries) (all-look (owned 0) (c .entries) (rel .uniq)
       (λ o d h. eq-eqb (d .owner) 0 (n o (strip d) (sym (cells-same o) ∙ look-map strip (λ e. refl) o (c .entries) ∙ ap (omap strip) h))))
 
-  pub messages-same : all isMessage (c .entries) ≡ true → all isMessage (e .entries) ≡ true → (p : Entry → Bool) → countIf p (c .entries) ≡ countIf p (e .entries)
+  pub messages-same : all isMessage (c .entries) ≡ true → all isMessage (e .entries) ≡ true → (p : Entry → Bool)
+      → countIf p (c .entries) ≡ countIf p (e .entries)
   messages-same kinds-c kinds-e p = ap (countIf p) (sym (strip-all (c .entries) kinds-c))
       ∙ count-alike p (map strip (c .entries)) (map strip (e .entries)) (uniq-map strip (λ e. refl) (c .entries) (rel .uniq))
       (uniq-map strip (λ e. refl) (e .entries) u) cells-same

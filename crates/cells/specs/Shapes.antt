@@ -3,17 +3,17 @@ use mathlib.Core.Path.{_≡_, refl, sym, ap, subst, _∙_}
 use mathlib.Core.Bool.{Bool, true, false, not, _&&_, _||_, false≢true}
 use mathlib.Core.Logic.{_⊎_, inl, inr}
 use mathlib.Core.List.{List, [], _∷_}
-use Prim.Native.Nat.{ℕ, zero, suc, _≤_, _<_}
+use Prim.Native.Nat.{ℕ, _≤_}
 use native.Mathlib.Omega.{arith}
 use lib.Dec.{eqb, leb, ltb}
 use borrow.Author.Tests.{eqb-true, eqb-false, eq-eqb, ne-eqb, le-leb, ltb-true, ltb-false}
-use lib.ListN.{length, getD, List·getD-eq-default}
+use lib.ListN.{length, List·getD-eq-default}
 use Rattle.lists.specs.Lists.{all, any, isEmpty, countIf, oneIf, keep, keepIf, risesFrom}
 use Rattle.lists.specs.Choices.{by-bool, clash, and-right, or-cases}
 use Rattle.lists.specs.Tests.{or-right-true}
 use Rattle.lists.specs.Neither.{or-left-false, or-right-false}
 use Rattle.lists.specs.Members.{Among, all-intro, among-keep}
-use Rattle.lists.specs.Each.{All-two, All-keep, all-of, any-none, any-found, count-none, count-zero}
+use Rattle.lists.specs.Each.{All-two, All-keep, All-getD, all-of, any-none, any-found, count-none, count-zero}
 use Rattle.lists.specs.UpFrom.{rises-all}
 use Rattle.semantics.specs.Table.{Rule, Table, noRule, hasRole, consumed, productAtoms, begins, emits}
 use Rattle.semantics.specs.Serial.{beginsEmit}
@@ -101,12 +101,8 @@ module _ {z : Sizes} {R : Rule} (right : RuleRight z R) where
           let q = begin-first 0 (R .atoms) (right .rises) b e (right .begins-le) in
           begin (begins-global right b) b (count-none (hasRole 1) (R .atoms) (any-none (hasRole 1) (R .atoms) e)) (q .0) (q .1) (q .2) (q .3) (q .4)
 
-any-at : {A : Type 0} (p : A → Bool) (d : A) (l : List A) (r : ℕ) → any p l ≡ false → r < length l → p (getD l r d) ≡ false
-any-at p d [] r h k = absurd (omega arith)
-any-at p d (x ∷ l) zero h k = or-left-false (p x) (any p l) h
-any-at p d (x ∷ l) (suc r) h k = any-at p d l r (or-right-false (p x) (any p l) h) (omega arith)
-
 pub table-shaped : (t : Table) → TableRight t → beginsEmit t ≡ false → Shaped t
 table-shaped t right ne r = by-bool (ltb r (length (t .rules)))
-    (λ h. let l = ltb-true r (length (t .rules)) h in rule-shape (right .rule r l) (any-at (λ x. begins x && emits x) noRule (t .rules) r ne l))
+    (λ h. let l = ltb-true r (length (t .rules)) h in rule-shape (right .rule r l)
+    (All-getD (λ x. begins x && emits x ≡ false) noRule (t .rules) r (any-none (λ x. begins x && emits x) (t .rules) ne) l))
     (λ h. subst Shape (sym (List·getD-eq-default (t .rules) noRule (ltb-false r (length (t .rules)) h))) (plain refl refl refl))

@@ -14,14 +14,14 @@ use state::Extent;
 use words::item;
 
 // The owner of an entry that stays.
-fn owner_after(owner: u32, id: u32) -> u32
+fn owner_after(owner: u16, id: u16) -> u16
     ensures { λ r. ⌜ r ≡ cond (eqb owner id) 0 owner ⌝ }
 {
     if owner == id { 0 } else { owner }
 }
 
 // The item of an entry that stays: what is freed becomes a message.
-fn item_after(owner: u32, item: u32, id: u32) -> u32
+fn item_after(owner: u16, item: u32, id: u16) -> u32
     ensures { λ r. ⌜ r ≡ cond (eqb owner id) (asMessage item) item ⌝ }
 {
     if owner == id {
@@ -32,7 +32,7 @@ fn item_after(owner: u32, item: u32, id: u32) -> u32
 }
 
 // 1 where an entry stays, else 0.
-fn stays(owner: u32, item: u32, id: u32, kind: u32) -> usize
+fn stays(owner: u16, item: u32, id: u16, kind: u32) -> usize
     ensures { λ r. ⌜ (r ≡ oneIf (not (eqb owner id) || eqb (itemKind item) kind)) × (r ≤ 1) ⌝ }
 {
     if owner == id {
@@ -44,12 +44,12 @@ fn stays(owner: u32, item: u32, id: u32, kind: u32) -> usize
 
 // The transaction's entries of this kind become the global owner's in their places; its others go.
 pub fn end_transaction(
-    owners: &mut [u32; 1024],
+    owners: &mut [u16; 1024],
     items: &mut [u32; 1024],
-    origins: &mut [u32; 1024],
+    origins: &mut [u16; 1024],
     from: usize,
     at: Extent,
-    id: u32,
+    id: u16,
     kind: u32,
 ) -> Extent
     requires { ⌜ Arrays (now owners) (now items) (now origins) × (at .len ≤ 1024) × NoneBefore (now owners) id (at .len) from ⌝ }

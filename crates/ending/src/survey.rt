@@ -16,7 +16,7 @@ pub struct Survey {
 }
 
 // The place of the transaction's first entry, n where it has none: what is before it matters to no end.
-pub fn first_owned(owners: &[u32; 1024], n: usize, id: u32) -> usize
+pub fn first_owned(owners: &[u16; 1024], n: usize, id: u16) -> usize
     requires { ⌜ (n ≤ 1024) × (length (now owners) ≡ 1024) ⌝ }
     ensures { λ r. ⌜ NoneBefore (now (owners .entry)) id n r ⌝ }
 {
@@ -31,11 +31,11 @@ pub fn first_owned(owners: &[u32; 1024], n: usize, id: u32) -> usize
 }
 
 pub fn surveyed<'a>(
-    owners: &'a [u32; 1024],
+    owners: &'a [u16; 1024],
     items: &'a [u32; 1024],
     from: usize,
     at: Extent,
-    id: u32,
+    id: u16,
     globals: u32,
 ) -> Survey
     requires { ⌜ Columns (now owners) (now items) (at .len) × NoneBefore (now owners) id (at .len) from ⌝ }

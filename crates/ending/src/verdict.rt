@@ -25,12 +25,12 @@ fn may_end(kind: u32, aborting: bool, inside: bool) -> bool
 
 // 9, 10.
 pub fn end_verdict<'a>(
-    owners: &'a [u32; 1024],
+    owners: &'a [u16; 1024],
     items: &'a [u32; 1024],
     from: usize,
     at: Extent,
     kind: u32,
-    id: u32,
+    id: u16,
     globals: u32,
 ) -> Verdict
     requires { ⌜ Columns (now owners) (now items) (at .len) × NoneBefore (now owners) id (at .len) from ⌝ }

@@ -1,5 +1,5 @@
 -- Case analysis on Bool-valued tests, and conjunctions, disjunctions and `given` read as facts.
-use mathlib.Core.Bool.{Bool, true, false, _&&_, _||_, false≢true, true≢false}
+use mathlib.Core.Bool.{Bool, true, false, _&&_, _||_, cond, false≢true, true≢false}
 use mathlib.Core.Logic.{_⊎_, inl, inr}
 use mathlib.Core.Path.{_≡_, refl, sym, _∙_}
 use Rattle.lists.specs.Lists.{given}
@@ -15,6 +15,12 @@ clash p q = true≢false (sym p ∙ q)
 pub is-false : (b : Bool) → (b ≡ true → ⊥) → b ≡ false
 is-false true h = absurd (h refl)
 is-false false h = refl
+
+pub cond-true : {A : Type 0} (x y : A) {b : Bool} → b ≡ true → cond b x y ≡ x
+cond-true x y h = rw h
+
+pub cond-false : {A : Type 0} (x y : A) {b : Bool} → b ≡ false → cond b x y ≡ y
+cond-false x y h = rw h
 
 pub and-intro : {a b : Bool} → a ≡ true → b ≡ true → a && b ≡ true
 and-intro p q = rw (p, q)

@@ -1,9 +1,10 @@
 -- A type for each element of a list, and laws of all, any, keep and countIf, for every element type.
-use Prim.Native.Nat.{_+_}
+use Prim.Native.Nat.{ℕ, zero, suc, _+_, _<_}
 use mathlib.Core.List.{List, [], _∷_, _++_, map, nil≢cons}
 use mathlib.Core.Bool.{Bool, true, false, _||_, true≢false, false≢true}
 use mathlib.Core.Path.{_≡_, refl}
 use native.Mathlib.Omega.{arith}
+use lib.ListN.{length, getD}
 use Rattle.lists.specs.Lists.{all, any, keep, keepIf, countIf, oneIf, isEmpty}
 use Rattle.lists.specs.Choices.{and-intro, and-left, and-right}
 
@@ -68,6 +69,10 @@ module _ {A : Type 0} where
 
   -- ---- tests that agree or fail on each element
 
+  pub any-same : (p q : A → Bool) (xs : List A) → All (λ x. p x ≡ q x) xs → any p xs ≡ any q xs
+  any-same p q [] h = refl
+  any-same p q (x ∷ xs) h = λ j. h .0 j || any-same p q xs (h .1) j
+
   pub keep-same : (p q : A → Bool) (xs : List A) → All (λ x. p x ≡ q x) xs → keep p xs ≡ keep q xs
   keep-same p q [] h = refl
   keep-same p q (x ∷ xs) h = rw (h .0, keep-same p q xs (h .1))
@@ -91,6 +96,21 @@ module _ {A : Type 0} where
   pub count-same : (p q : A → Bool) (xs : List A) → All (λ x. p x ≡ q x) xs → countIf p xs ≡ countIf q xs
   count-same p q [] h = refl
   count-same p q (x ∷ xs) h = rw (h .0, count-same p q xs (h .1))
+
+  pub All-forall : {I : Type 0} (Q : I → Type 0) (P : I → A → Type 0) (xs : List A) → ((v : I) → Q v → All (P v) xs)
+      → All (λ x. (v : I) → Q v → P v x) xs
+  All-forall Q P [] h = tt
+  All-forall Q P (x ∷ xs) h = (λ v q. h v q .0, All-forall Q P xs (λ v q. h v q .1))
+
+  pub All-getD : (P : A → Type 0) (d : A) (xs : List A) (j : ℕ) → All P xs → j < length xs → P (getD xs j d)
+  All-getD P d [] j h k = absurd (omega arith)
+  All-getD P d (x ∷ xs) zero h k = h .0
+  All-getD P d (x ∷ xs) (suc j) h k = All-getD P d xs j (h .1) (omega arith)
+
+  -- the elements at these places
+  pub All-at : (P : A → Type 0) (d : A) (xs : List A) (ps : List ℕ) → All P xs → All (λ p. p < length xs) ps → All P (map (λ p. getD xs p d) ps)
+  All-at P d xs [] h k = tt
+  All-at P d xs (p ∷ ps) h k = (All-getD P d xs p h (k .0), All-at P d xs ps h (k .1))
 
   pub empty-nil : (xs : List A) → isEmpty xs ≡ true → xs ≡ []
   empty-nil [] h = refl

@@ -7,6 +7,7 @@ pub mod Smallest
 pub mod Totals
 pub mod Removed
 pub mod Written
+pub mod InOrder
 pub mod Gaps
 pub mod Unrepeated
 pub mod Tabled

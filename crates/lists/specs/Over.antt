@@ -5,7 +5,7 @@ use mathlib.Core.List.{List, [], _∷_, _++_}
 use native.Mathlib.Numerals.{add-one}
 use native.Mathlib.Omega.{arith}
 use lib.ListN.{length, getD, take, drop, set, length-append, length-drop, length-set}
-use lib.Seq.{sets, sets-eq, take-all, paste, paste-zero, paste-suc, take-append-seam, drop-append-add, drop-drop, length-take-le}
+use lib.Seq.{sets, sets-eq, take-all, paste, paste-zero, paste-suc, take-append-seam, drop-append-seam, drop-append-add, drop-drop, length-take-le}
 use Rattle.lists.specs.Lists.{over}
 
 module _ {A : Type 0} where
@@ -14,6 +14,13 @@ module _ {A : Type 0} where
   over-two a b [] h = absurd (omega arith)
   over-two a b (x ∷ []) h = absurd (omega arith)
   over-two a b (x ∷ y ∷ old) h = refl
+
+  -- what is written, and what lies behind it
+  pub take-over : (new old : List A) → take (length new) (over new old) ≡ new
+  take-over new old = take-append-seam new (drop (length new) old)
+
+  pub drop-over : (new old : List A) → drop (length new) (over new old) ≡ drop (length new) old
+  drop-over new old = drop-append-seam new (drop (length new) old)
 
   -- n elements of a column after what is written
   pub over-column : (new old column : List A) (n : ℕ) → n ≤ length column → paste (over new old) (length new) column n ≡ over (new ++ take n column) old

@@ -41,7 +41,7 @@ module _ {A : Type 0} where
       ∙ take-at (replicate m d) (replicate (length xs) d) m (length-replicate m d) in
       sym (ap (λ (k : ℕ). take k (xs ++ replicate n d)) (sym e) ∙ take-append-add xs (replicate n d) m ∙ ap (λ (l : List A). xs ++ l) front)
 
-  getD-replicate-any : (n i : ℕ) (d : A) → getD (replicate n d) i d ≡ d
+  pub getD-replicate-any : (n i : ℕ) (d : A) → getD (replicate n d) i d ≡ d
   getD-replicate-any zero i d = refl
   getD-replicate-any (suc n) zero d = refl
   getD-replicate-any (suc n) (suc i) d = getD-replicate-any n i d

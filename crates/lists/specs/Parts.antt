@@ -9,13 +9,13 @@ use Rattle.lists.specs.Lists.{all, any, keepIf, keep, isIn, without}
 use Rattle.lists.specs.Members.{Among}
 
 module _ {A : Type 0} where
+  pub keepIf-append : (b : Bool) (x : A) (xs ys : List A) → keepIf b x (xs ++ ys) ≡ keepIf b x xs ++ ys
+  keepIf-append true x xs ys = refl
+  keepIf-append false x xs ys = refl
+
   pub keep-append : (p : A → Bool) (xs ys : List A) → keep p (xs ++ ys) ≡ keep p xs ++ keep p ys
   keep-append p [] ys = refl
-  keep-append p (x ∷ xs) ys = rw (keep-append p xs ys) (go (p x))
-    where
-      go : (b : Bool) → keepIf b x (keep p xs ++ keep p ys) ≡ keepIf b x (keep p xs) ++ keep p ys
-      go true = refl
-      go false = refl
+  keep-append p (x ∷ xs) ys = rw (keep-append p xs ys) (keepIf-append (p x) x (keep p xs) (keep p ys))
 
   -- what is true of every element and of the default is true at every place
   pub getD-each : (P : A → Type 0) (d : A) (xs : List A) → ((x : A) → Among x xs → P x) → P d → (i : ℕ) → P (getD xs i d)

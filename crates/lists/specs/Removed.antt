@@ -1,5 +1,5 @@
 -- A list without some of its places: what is left of it, and how long it is.
-use Prim.Native.Nat.{ℕ, suc, _+_, _≤_, _<_}
+use Prim.Native.Nat.{ℕ, suc, _+_, _<_}
 use mathlib.Core.Bool.{Bool, true, false, _&&_, not}
 use mathlib.Core.List.{List, [], _∷_}
 use mathlib.Core.Logic.{inl, inr}
@@ -62,14 +62,6 @@ module _ {A : Type 0} where
           → length (keepIf (not b) x (without ps (suc i) xs)) + countIf (inside i (suc (length xs))) ps ≡ suc (length xs)
       go ih true e = let s = count-sum (inside i (suc (length xs))) (eqb i) (inside (suc i) (length xs)) (inside-suc i (length xs)) ps in omega arith
       go ih false e = let s = count-sum (inside i (suc (length xs))) (eqb i) (inside (suc i) (length xs)) (inside-suc i (length xs)) ps in omega arith
-
-  pub without-shorter : (ps : List ℕ) (i : ℕ) (xs : List A) → length (without ps i xs) ≤ length xs
-  without-shorter ps i [] = omega arith
-  without-shorter ps i (x ∷ xs) = go (not (isIn i ps)) (without-shorter ps (suc i) xs)
-    where
-      go : (b : Bool) → length (without ps (suc i) xs) ≤ length xs → length (keepIf b x (without ps (suc i) xs)) ≤ suc (length xs)
-      go true h = omega arith
-      go false h = omega arith
 
   -- different places of a list, removed from it
   pub length-without : (ps : List ℕ) (xs : List A) → distinct ps ≡ true → ((p : ℕ) → Among p ps → p < length xs)

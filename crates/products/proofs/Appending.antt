@@ -1,5 +1,5 @@
 -- The loop that appends a reaction's products to the columns, one by one.
-use Prim.Native.Nat.{ℕ, _+_, _*_, _/_, _%_, _≤_, _<_}
+use Prim.Native.Nat.{ℕ, _+_, _≤_, _<_}
 use mathlib.Core.Path.{_≡_, refl, sym, _∙_}
 use mathlib.Core.List.{List, _++_, append-nil}
 use native.Mathlib.Nat.{add-zero}
@@ -14,6 +14,7 @@ use Rattle.semantics.specs.declared.Atom.{Atom}
 use Rattle.rules.specs.declared.decode.Rule.{Rule}
 use Rattle.state.specs.Working.{entryFrom, rowOf, held}
 use Rattle.state.specs.Arrays.{Arrays, HoldsIn, stored-sized, stored-before, holds-of}
+use Rattle.words.specs.Origin.{Maker, originWord, origin-of-product}
 use Rattle.products.specs.Narrow.{Applicable}
 use Rattle.products.specs.Products.{ownerOfRole, ItemMade, productFrom, productsFrom}
 use Rattle.reaction.specs.Decoded.{blank}
@@ -27,17 +28,18 @@ pub record Making (x : Rule) (next home maker : ℕ) (got : List ℕ) (at q : �
   pub ahead : Ahead (λ j. drop j (makingAtoms x)) (makingCount x)
       (λ atoms. rows (rowOf os ws gs) 0 (at + q) ++ productsFrom (x .class) next home got maker q atoms) q all
 
+-- of at most 16 atoms one is a consume
+pub few-made : {x : Rule} {next maker q : ℕ} → Applicable x next maker → q < makingCount x → q < 16
+few-made r h = omega (arith, r .rule .few, r .rule .legal .some)
+
 module _ (x : Rule) (next home maker : ℕ) (got : List ℕ) where
   pub making-start : (os ws gs : List ℕ) (at : ℕ) → Applicable x next maker → Arrays os ws gs → at + makingCount x ≤ 1024
       → Making x next home maker got at 0 os ws gs (rows (rowOf os ws gs) 0 at ++ productsFrom (x .class) next home got maker 0 (makingAtoms x))
   making-start os ws gs at r a h = record { ready = r; arrays = a; room = h; ahead = record { within = omega arith; so-far = rw (add-zero at) } }
 
-  entry-made : (o w q : ℕ) (a : Atom) → o ≡ ownerOfRole (x .class) next home (a .role) → ItemMade w got next a → q < 1024
-      → entryFrom o w (maker * 1024 + q) ≡ productFrom (x .class) next home got (record { maker = maker; index = q }) a
-  entry-made o w q a e i h =
-      let m : (maker * 1024 + q) / 1024 ≡ maker = omega arith in
-      let n : (maker * 1024 + q) % 1024 ≡ q = omega arith in
-      rw (e, i .kind, i .port, i .value, m, n)
+  entry-made : (o w q : ℕ) (a : Atom) → o ≡ ownerOfRole (x .class) next home (a .role) → ItemMade w got next a → Maker maker → q < 16
+      → entryFrom o w (originWord maker q) ≡ productFrom (x .class) next home got (record { maker = maker; index = q }) a
+  entry-made o w q a e i m h = rw (e, i .kind, i .port, i .value, origin-of-product maker q m h)
 
   module _ {at q : ℕ} {os ws gs : List ℕ} {all : List Entry} (m : Making x next home maker got at q os ws gs all) where
     tails : Tails (λ i. getD (x .atoms) (x .consumes + i) blank) (λ j. drop j (makingAtoms x)) (makingCount x)
@@ -45,16 +47,17 @@ module _ (x : Rule) (next home maker : ℕ) (got : List ℕ) where
 
     pub making-next : q < makingCount x → (o w : ℕ) → o ≡ ownerOfRole (x .class) next home (getD (x .atoms) (x .consumes + q) blank .role)
         → ItemMade w got next (getD (x .atoms) (x .consumes + q) blank)
-        → Making x next home maker got at (q + 1) (set os (at + q) o) (set ws (at + q) w) (set gs (at + q) (maker * 1024 + q)) all
+        → Making x next home maker got at (q + 1) (set os (at + q) o) (set ws (at + q) w) (set gs (at + q) (originWord maker q)) all
     making-next h o w e i =
         let low : at + q < 1024 = omega (arith, m .room) in
         let step : at + (q + 1) ≡ at + q + 1 = omega arith in
-        let entry = entry-made o w q (getD (x .atoms) (x .consumes + q) blank) e i (omega arith) in
+        let entry = entry-made o w q (getD (x .atoms) (x .consumes + q) blank) e i (m .ready .makers) (few-made (m .ready) h) in
         record {
           ready = m .ready;
-          arrays = stored-sized _ _ _ (at + q) o w (maker * 1024 + q) (m .arrays);
+          arrays = stored-sized _ _ _ (at + q) o w (originWord maker q) (m .arrays);
           room = m .room;
-          ahead = ahead-next tails (m .ahead) h _ (λ atoms. rw (step, add-one q) (stored-before _ _ _ (at + q) o w (maker * 1024 + q) (m .arrays) low entry _));
+          ahead = ahead-next tails (m .ahead) h _ (λ atoms. rw (step, add-one q)
+              (stored-before _ _ _ (at + q) o w (originWord maker q) (m .arrays) low entry _));
         }
 
     pub making-done : makingCount x ≤ q → (n : ℕ) → HoldsIn (held os ws gs (record { len = at + makingCount x; next = n })) (record { next = n; entries = all })

@@ -3,6 +3,7 @@ ghost use Prim.Native.Nat.{_+_, _≤_, _<_};
 ghost use mathlib.Core.Path.{_≡_};
 ghost use mathlib.Core.Bool.{true};
 ghost use mathlib.Core.List.{map};
+ghost use lib.ListN.{length};
 ghost use Rattle.semantics.specs.Words.{valueOf};
 ghost use Rattle.semantics.specs.Move.{kindMade};
 ghost use Rattle.state.specs.Working.{held};
@@ -33,10 +34,10 @@ fn kind_made(role: u16) -> u32
     0
 }
 
-// The value of an atom's product: a begin's is the new id.
-fn value_made(atom: Atom, items: [u32; 4], next: u32) -> u32
-    requires { ⌜ narrowValue (atom .value) × (atom .role ≡ 2 → next < 65536) ⌝ }
-    ensures { λ r. ⌜ (r ≡ valueMade (map valueOf items) next atom) × (r < 65536) ⌝ }
+// The value of an atom's product: a begin's is the new id. The items are lent, so that they are not copied for each.
+fn value_made(atom: Atom, items: &[u32; 4], next: u32) -> u32
+    requires { ⌜ narrowValue (atom .value) × (atom .role ≡ 2 → next < 65536) × (length (now items) ≡ 4) ⌝ }
+    ensures { λ r. ⌜ (r ≡ valueMade (map valueOf (now (items .entry))) next atom) × (r < 65536) ⌝ }
 {
     if atom.role == 2 {
         return next;
@@ -54,9 +55,9 @@ fn value_made(atom: Atom, items: [u32; 4], next: u32) -> u32
     }
 }
 
-fn item_made(atom: Atom, items: [u32; 4], next: u32) -> u32
-    requires { ⌜ Narrow atom × (atom .role ≡ 2 → next < 65536) ⌝ }
-    ensures { λ r. ⌜ ItemMade r (map valueOf items) next atom ⌝ }
+fn item_made(atom: Atom, items: &[u32; 4], next: u32) -> u32
+    requires { ⌜ Narrow atom × (atom .role ≡ 2 → next < 65536) × (length (now items) ≡ 4) ⌝ }
+    ensures { λ r. ⌜ ItemMade r (map valueOf (now (items .entry))) next atom ⌝ }
 {
     item_of(
         kind_made(atom.role),
@@ -65,11 +66,12 @@ fn item_made(atom: Atom, items: [u32; 4], next: u32) -> u32
     )
 }
 
-fn owner_made(class: u32, role: u16, home: u32, next: u32) -> u32
+fn owner_made(class: u32, role: u16, home: u16, next: u32) -> u16
+    requires { ⌜ (class ≡ 0 → (role ≡ 1 → ⊥) → next < 65536) ⌝ }
     ensures { λ r. ⌜ r ≡ ownerOfRole class next home role ⌝ }
 {
     if (class == 0) & (role != 1) {
-        next
+        next as u16
     } else {
         home
     }
@@ -85,13 +87,13 @@ fn next_after(begins: bool, next: u32) -> u32
 // The products follow in atom order; home owns the emits of a global rule and all of another rule.
 // Answers the new extent.
 pub fn append_products(
-    owners: &mut [u32; 1024],
+    owners: &mut [u16; 1024],
     items: &mut [u32; 1024],
-    origins: &mut [u32; 1024],
+    origins: &mut [u16; 1024],
     at: Extent,
     rule: Rule,
     received: [u32; 4],
-    home: u32,
+    home: u16,
     maker: u32,
 ) -> Extent
     requires columns { ⌜ Arrays (now owners) (now items) (now origins) ⌝ }
@@ -110,7 +112,7 @@ pub fn append_products(
         let atom = rule.atoms[from + q];
         let w = n + q;
         owners[w] = owner_made(class, atom.role, home, next);
-        items[w] = item_made(atom, received, next);
+        items[w] = item_made(atom, &received, next);
         origins[w] = origin_of(maker, q as u32);
         q += 1;
     }

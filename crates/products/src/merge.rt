@@ -6,7 +6,7 @@ ghost use lib.ListN.{length, getD, take};
 ghost use Rattle.products.specs.Products.{mergedOwner};
 use reaction::picks::repeated;
 
-fn merged_owner(owner: u32, a: u32, b: u32, c: u32, d: u32, home: u32) -> u32
+fn merged_owner(owner: u16, a: u16, b: u16, c: u16, d: u16, home: u16) -> u16
     ensures { λ r. ⌜ r ≡ mergedOwner (a ∷ b ∷ c ∷ d ∷ []) home owner ⌝ }
 {
     if (owner == a) | ((owner == b) | ((owner == c) | (owner == d))) {
@@ -17,7 +17,7 @@ fn merged_owner(owner: u32, a: u32, b: u32, c: u32, d: u32, home: u32) -> u32
 }
 
 // All entries of the owners found go under the smallest of them, home, not only the picked ones.
-pub fn merge(owners: &mut [u32; 1024], n: usize, found: [u32; 4], k: usize, home: u32)
+pub fn merge(owners: &mut [u16; 1024], n: usize, found: [u16; 4], k: usize, home: u16)
     requires { ⌜ (length (now owners) ≡ 1024) × (n ≤ 1024) × (1 ≤ k) × (k ≤ 4) ⌝ }
     ensures { λ _. ⌜ (length (now (owners .exit)) ≡ 1024)
         × ((j : ℕ) → j < n → getD (now (owners .exit)) j 0 ≡ mergedOwner (take k found) home (getD (now (owners .entry)) j 0)) ⌝ }

@@ -7,7 +7,8 @@ ghost use Rattle.reaction.specs.Decoded.{ruleIn};
 ghost use Rattle.products.specs.React.{Permitted};
 use crate::append::append_products;
 use crate::merge::merge;
-use reaction::picks::at_picks;
+use reaction::picks::items_at;
+use reaction::picks::owners_at;
 use reaction::picks::smallest;
 use removal::remove::remove;
 use rules::decode::Rule;
@@ -15,9 +16,9 @@ use state::Extent;
 
 // The whole reaction, in place. Answers the new extent.
 pub fn react(
-    owners: &mut [u32; 1024],
+    owners: &mut [u16; 1024],
     items: &mut [u32; 1024],
-    origins: &mut [u32; 1024],
+    origins: &mut [u16; 1024],
     at: Extent,
     rule: Rule,
     picks: [u32; 4],
@@ -28,8 +29,8 @@ pub fn react(
         (reacted (ruleIn rule) maker (stateIn (held (now (owners .entry)) (now (items .entry)) (now (origins .entry)) at)) (take (rule .consumes) picks)) ⌝ }
 {
     let k = rule.consumes;
-    let found = at_picks(owners, picks, k);
-    let received = at_picks(items, picks, k);
+    let found = owners_at(owners, picks, k);
+    let received = items_at(items, picks, k);
     let home = smallest(found, k);
     remove(owners, items, origins, at.len, picks, k);
     let n = at.len - k;

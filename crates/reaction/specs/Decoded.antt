@@ -1,11 +1,11 @@
 -- The rule that the code holds, decoded: it as a value of semantics, and what its parts are to one another.
-use Prim.Native.Nat.{ℕ, _-_, _≤_, _<_}
+use Prim.Native.Nat.{ℕ, _+_, _-_, _≤_, _<_}
 use mathlib.Core.Path.{_≡_, ap, _∙_}
 use mathlib.Core.Bool.{true}
 use native.Mathlib.Omega.{arith}
 use borrow.Author.Tests.{eq-eqb}
 use lib.ListN.{length, getD, length-drop, take, drop}
-use lib.Seq.{length-take-le, getD-take}
+use lib.Seq.{length-take-le, getD-take, getD-drop}
 use Rattle.lists.specs.Members.{Among, getD-among, any-intro}
 use Rattle.semantics.specs.Table.{hasRole, productAtoms}
 use Rattle.semantics.specs.declared.Atom.{Atom}
@@ -52,6 +52,15 @@ module _ (x : Rule) (d : Decodes x (ruleIn x)) where
   atom-among i h =
       let low : i < length (ruleIn x .atoms) = omega (arith, count-atoms) in
       rw (← getD-take (x .count) (x .atoms) i blank h) (getD-among blank (ruleIn x .atoms) i low)
+
+  -- .. and behind the consumes one of its products
+  pub product-among : (q : ℕ) → x .consumes + q < x .count → Among (getD (x .atoms) (x .consumes + q) blank) (productAtoms (ruleIn x))
+  product-among q h =
+      let low : q < length (productAtoms (ruleIn x)) = omega (arith, count-products) in
+      let here : getD (productAtoms (ruleIn x)) q blank ≡ getD (x .atoms) (x .consumes + q) blank =
+      ap (λ (l : List Atom). getD l q blank) (d .legal .products) ∙ getD-drop (x .consumes) (ruleIn x .atoms) q blank
+      ∙ getD-take (x .count) (x .atoms) (x .consumes + q) blank h in
+      rw (← here) (getD-among blank (productAtoms (ruleIn x)) q low)
 
   -- a rule with a begin begins
   pub begins-by : (a : Atom) → Among a (ruleIn x .atoms) → a .role ≡ 2 → x .begins ≡ true

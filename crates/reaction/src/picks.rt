@@ -16,14 +16,14 @@ pub fn all_differ(few: [u32; 4], k: usize) -> bool
         & ((k < 4) | (few[0] != few[3]) & (few[1] != few[3]) & (few[2] != few[3]))
 }
 
-fn smaller(a: u32, b: u32) -> u32
+fn smaller(a: u16, b: u16) -> u16
     ensures { λ r. ⌜ r ≡ min a b ⌝ }
 {
     if a <= b { a } else { b }
 }
 
 // The smallest of the first k.
-pub fn smallest(few: [u32; 4], k: usize) -> u32
+pub fn smallest(few: [u16; 4], k: usize) -> u16
     requires { ⌜ (1 ≤ k) × (k ≤ 4) ⌝ }
     ensures { λ r. ⌜ r ≡ least (take k few) ⌝ }
 {
@@ -36,14 +36,14 @@ pub fn smallest(few: [u32; 4], k: usize) -> u32
     m
 }
 
-fn either(b: bool, x: u32, y: u32) -> u32
+fn either(b: bool, x: u16, y: u16) -> u16
     ensures { λ r. ⌜ r ≡ cond b x y ⌝ }
 {
     if b { x } else { y }
 }
 
 // The first k and then the first again, so that a number is compared with four always.
-pub fn repeated(few: [u32; 4], k: usize) -> [u32; 4]
+pub fn repeated(few: [u16; 4], k: usize) -> [u16; 4]
     requires { ⌜ (1 ≤ k) × (k ≤ 4) ⌝ }
     ensures { λ r. ⌜ ((x : ℕ) → isIn x r ≡ isIn x (take k few)) ⌝ }
 {
@@ -54,21 +54,40 @@ pub fn repeated(few: [u32; 4], k: usize) -> [u32; 4]
     [a, b, c, d]
 }
 
-fn at_pick(column: &[u32; 1024], pick: u32, used: bool) -> u32
+fn item_at(column: &[u32; 1024], pick: u32, used: bool) -> u32
     requires { ⌜ (length (now column) ≡ 1024) × (used ≡ true → pick < 1024) ⌝ }
     ensures { λ r. ⌜ r ≡ cond used (getD (now (column .entry)) pick 0) 0 ⌝ }
 {
     if used { column[pick as usize] } else { 0 }
 }
 
-// A column at the first k picks, and 0 after them. One by one, so that no array is filled in a loop.
-pub fn at_picks(column: &[u32; 1024], picks: [u32; 4], k: usize) -> [u32; 4]
+// The items at the first k picks, and 0 after them. One by one, so that no array is filled in a loop.
+pub fn items_at(column: &[u32; 1024], picks: [u32; 4], k: usize) -> [u32; 4]
     requires { ⌜ (k ≤ 4) × (length (now column) ≡ 1024) × Places 1024 (take k picks) ⌝ }
     ensures { λ r. ⌜ r ≡ fourAt (now (column .entry)) (take k picks) ⌝ }
 {
-    let a = at_pick(column, picks[0], 0 < k);
-    let b = at_pick(column, picks[1], 1 < k);
-    let c = at_pick(column, picks[2], 2 < k);
-    let d = at_pick(column, picks[3], 3 < k);
+    let a = item_at(column, picks[0], 0 < k);
+    let b = item_at(column, picks[1], 1 < k);
+    let c = item_at(column, picks[2], 2 < k);
+    let d = item_at(column, picks[3], 3 < k);
+    [a, b, c, d]
+}
+
+fn owner_at(column: &[u16; 1024], pick: u32, used: bool) -> u16
+    requires { ⌜ (length (now column) ≡ 1024) × (used ≡ true → pick < 1024) ⌝ }
+    ensures { λ r. ⌜ r ≡ cond used (getD (now (column .entry)) pick 0) 0 ⌝ }
+{
+    if used { column[pick as usize] } else { 0 }
+}
+
+// The owners there.
+pub fn owners_at(column: &[u16; 1024], picks: [u32; 4], k: usize) -> [u16; 4]
+    requires { ⌜ (k ≤ 4) × (length (now column) ≡ 1024) × Places 1024 (take k picks) ⌝ }
+    ensures { λ r. ⌜ r ≡ fourAt (now (column .entry)) (take k picks) ⌝ }
+{
+    let a = owner_at(column, picks[0], 0 < k);
+    let b = owner_at(column, picks[1], 1 < k);
+    let c = owner_at(column, picks[2], 2 < k);
+    let d = owner_at(column, picks[3], 3 < k);
     [a, b, c, d]
 }

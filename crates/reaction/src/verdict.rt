@@ -66,7 +66,7 @@ fn on_ports(items: &[u32; 1024], n: usize, ports: [u16; 4], picks: [u32; 4], k: 
 }
 
 // The owner that a rule of this class wants; one stands for all where they must be the same.
-fn owner_fits(class: u32, owner: u32, one: u32) -> bool
+fn owner_fits(class: u32, owner: u16, one: u16) -> bool
     ensures { λ r. ⌜ r ≡ ownerFits class one owner ⌝ }
 {
     if class == 0 {
@@ -79,7 +79,7 @@ fn owner_fits(class: u32, owner: u32, one: u32) -> bool
 }
 
 // Whether a rule of this class may consume at the picks, by the owners there.
-fn owners_fit(class: u32, owners: &[u32; 1024], picks: [u32; 4], k: usize) -> bool
+fn owners_fit(class: u32, owners: &[u16; 1024], picks: [u32; 4], k: usize) -> bool
     requires { ⌜ (1 ≤ k) × (k ≤ 4) × (length (now owners) ≡ 1024) × Places 1024 (take k picks) ⌝ }
     ensures { λ r. ⌜ r ≡ ownersFit class (column (now (owners .entry)) (take k picks)) ⌝ }
 {
@@ -96,7 +96,7 @@ fn owners_fit(class: u32, owners: &[u32; 1024], picks: [u32; 4], k: usize) -> bo
 
 // Why a reaction is refused. The other column, of origins, does not matter.
 pub fn react_verdict<'a>(
-    owners: &'a [u32; 1024],
+    owners: &'a [u16; 1024],
     items: &'a [u32; 1024],
     at: Extent,
     rule: Rule,

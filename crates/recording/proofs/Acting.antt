@@ -1,11 +1,11 @@
 -- One legal move of a log: its picks are places, and what is recorded of it is its act.
-use Prim.Native.Nat.{ℕ, zero, suc, _+_, _*_, _/_, _%_, _≤_, _<_}
-use mathlib.Core.Bool.{Bool, true, false, _&&_, cond, true≢false, false≢true}
+use Prim.Native.Nat.{ℕ, zero, suc, _≤_, _<_}
+use mathlib.Core.Bool.{Bool, true, false, _&&_, _||_, cond, true≢false, false≢true}
 use mathlib.Core.List.{List, [], _∷_, map}
 use mathlib.Core.Logic.{inl, inr}
 use mathlib.Core.Path.{_≡_, refl, sym, ap, subst, _∙_}
 use native.Mathlib.Omega.{arith}
-use borrow.Author.Tests.{eqb-true, eqb-false, eq-eqb, ne-eqb, ltb-true}
+use borrow.Author.Tests.{eqb-true, eqb-false, eq-eqb, ne-eqb, ltb-true, le-ltb}
 use lib.Dec.{eqb, ltb}
 use lib.ListN.{length, getD, take}
 use Rattle.lists.specs.Lists.{any, isEmpty, isIn, keep}
@@ -25,11 +25,11 @@ use Rattle.wellformed.specs.Verdicts.{both-allowed, unless-allowed}
 use Rattle.wellformed.specs.Rules.{RuleRight, TableRight}
 use Rattle.wellformed.specs.Entries.{Sound}
 use Rattle.wellformed.specs.Picks.{ReactGiven, react-given, picks-length, pick-lt, owners-zero, owners-positive}
-use Rattle.wellformed.specs.Preservation.{RuleKnown, rule-known}
+use Rattle.wellformed.specs.Preservation.{RuleKnown, rule-known, end-id}
 use Rattle.cells.specs.Rules.{Shape, plain, begin, inner}
 use Rattle.cells.specs.Shapes.{table-shaped}
 use Rattle.state.specs.declared.State.{State}
-use Rattle.words.specs.Origin.{originOf}
+use Rattle.words.specs.Origin.{makerIn, indexIn, originOf, firstProduct, origin-of-first}
 use Rattle.state.specs.Working.{rowOf, entryIn, stateIn}
 use Rattle.recording.specs.Marks.{isMarkOf, marksOf, OneOf, anyMadeAt}
 use Rattle.recording.specs.Recordings.{wordsAt, concernedBy, markBy, marksEnded}
@@ -142,7 +142,7 @@ module _ {t : Table} {s : semantics.State} {head : ℕ} {picks : List ℕ} (g : 
 
     -- w at a move that leaves the next id as it was, else the mark of a begin
     abbrev Noted : ℕ → Move → Type 0
-    Noted id m = OneOf (cond (eqb (s .next) (applied t (suc i) s m .next)) (markBy begun first id) ((i + 1) * 1024)) (membersOf t i s m)
+    Noted id m = OneOf (cond (eqb (s .next) (applied t (suc i) s m .next)) (markBy begun first id) (firstProduct i)) (membersOf t i s m)
 
     member-end : (headKind head ≡ 0 → ⊥) → Noted (headNumber head) (moveOf t (head ∷ picks))
     unfolding allowed applied ended
@@ -168,8 +168,8 @@ module _ {t : Table} {s : semantics.State} {head : ℕ} {picks : List ℕ} (g : 
             )
             (record { some = λ q. absurd (true≢false q); none = λ q. refl })
         go (begin c b h m rest q w z) =
-            let maker : (i + 1) * 1024 / 1024 ≡ suc i = omega arith in
-            let index : (i + 1) * 1024 % 1024 ≡ 0 = omega arith in
+            let maker : makerIn (firstProduct i) ≡ suc i = ap (λ (o : Origin). o .maker) (origin-of-first i) in
+            let index : indexIn (firstProduct i) ≡ 0 = ap (λ (o : Origin). o .index) (origin-of-first i) in
             rw (b, h, ne-eqb (s .next) (suc (s .next)) (λ q. omega arith))
             (record { some = λ q. rw (maker, index, eq-eqb (suc i) (suc i) refl, eq-eqb 0 0 refl); none = λ q. absurd (false≢true q) })
         go (inner c b h z) =
@@ -187,7 +187,7 @@ row-at os ws gs n p l = getD-rows nothing (rowOf os ws gs) 0 n p l ∙ ap (rowOf
 module _ (s : State) {t : Table} {head : ℕ} {picks : List ℕ} (g : Legal t (stateIn s) head picks) where
   pub member-noted : {first : ℕ} {begun : List ℕ} {i : ℕ} → Tracked first begun i (stateIn s)
       → OneOf (cond (eqb (s .next) (applied t (suc i) (stateIn s) (moveOf t (head ∷ picks)) .next)) (markBy begun first (concernedBy (s .owners) head picks))
-      ((i + 1) * 1024)) (membersOf t i (stateIn s) (moveOf t (head ∷ picks)))
+      (firstProduct i)) (membersOf t i (stateIn s) (moveOf t (head ∷ picks)))
   unfolding stateIn
   member-noted {first} {begun} {i} tracked = by-bool (eqb (headKind head) 0)
       (λ e. let k = eqb-true (headKind head) 0 e in
@@ -210,10 +210,17 @@ module _ (s : State) {t : Table} {head : ℕ} {picks : List ℕ} (g : Legal t (s
           let l : p < s .len = omega (arith, f p (inl refl), length-rows (entryIn s) 0 (s .len)) in
           rw (row-at (s .owners) (s .items) (s .origins) (s .len) p l, go ps (λ q k. f q (inr k)))
 
-pub ends-marks : (t : Table) (i : ℕ) (s : semantics.State) (head : ℕ) (picks : List ℕ) (p : ℕ)
+-- an end in order has an id for its number
+end-narrow : (t : Table) (head : ℕ) (picks : List ℕ) → moveOk t (head ∷ picks) ≡ true
+    → eqb (headKind head) 0 || ltb 65535 (headNumber head) ≡ eqb (headKind head) 0
+end-narrow t head picks form =
+    by-bool (eqb (headKind head) 0) (λ e. rw e)
+    (λ e. rw (e, le-ltb 65535 (headNumber head) (end-id t (head ∷ picks) form (eqb-false (headKind head) 0 e))))
+
+pub ends-marks : (t : Table) (i : ℕ) (s : semantics.State) (head : ℕ) (picks : List ℕ) → moveOk t (head ∷ picks) ≡ true → (p : ℕ)
     → isEnd (moveOf t (head ∷ picks)) && anyMadeAt p (membersOf t i s (moveOf t (head ∷ picks))) ≡ anyMadeAt p (marksEnded head (s .entries))
 unfolding moveOf
-ends-marks t i s head picks p = go (eqb (headKind head) 0) (eqb (headKind head) 1)
+ends-marks t i s head picks form p = rw (end-narrow t head picks form) (go (eqb (headKind head) 0) (eqb (headKind head) 1))
   where
     go : (a b : Bool) → isEnd (cond a (react (headNumber head) (take (picksUsed t head) picks)) (cond b (commit (headNumber head)) (abort (headNumber head))))
         && anyMadeAt p (membersOf t i s (cond a (react (headNumber head) (take (picksUsed t head) picks))

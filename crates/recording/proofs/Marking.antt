@@ -1,5 +1,5 @@
 -- The loops over the member marks of a transaction.
-use Prim.Native.Nat.{ℕ, suc, _+_, _-_, _/_, _≤_, _<_}
+use Prim.Native.Nat.{ℕ, suc, _+_, _-_, _≤_, _<_}
 use mathlib.Core.Bool.{Bool, true, false, _&&_, _||_, cond}
 use mathlib.Core.List.{List, [], _∷_, _++_, map-append}
 use mathlib.Core.Logic.{_⊎_, ⊎-elim}
@@ -18,6 +18,7 @@ use Rattle.lists.specs.Found.{any-append}
 use Rattle.lists.specs.Rows.{rows, rows-none, rows-append, rows-each}
 use Rattle.semantics.specs.Words.{itemKind}
 use Rattle.semantics.specs.State.{Origin, Entry}
+use Rattle.words.specs.Origin.{makerIn}
 use Rattle.state.specs.Working.{rowOf}
 use Rattle.words.specs.Search.{inChunk}
 use Rattle.recording.specs.Marks.{isMarkOf, marksOf, anyMadeAt, NotedAt, RowsNoted}
@@ -91,7 +92,7 @@ module _ (f : ℕ → Entry) (id place : ℕ) where
 -- ---- one row
 
 module _ (os ws gs : List ℕ) (id place i : ℕ) where
-  pub row-noted : {maker : ℕ} → maker ≡ cond (eqb (itemKind (getD ws i 0)) 3 && eqb (getD os i 0) id) (getD gs i 0 / 1024) 0
+  pub row-noted : {maker : ℕ} → maker ≡ cond (eqb (itemKind (getD ws i 0)) 3 && eqb (getD os i 0) id) (makerIn (getD gs i 0)) 0
       → {a b : List ℕ} → NotedAt place (record { maker = maker; index = 0 } ∷ []) a b → RowsNoted (rowOf os ws gs) id place i (i + 1) a b
   unfolding rows
   row-noted {maker} is {a} {b} h =

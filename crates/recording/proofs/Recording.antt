@@ -13,7 +13,7 @@ use Rattle.lists.specs.Each.{All, All-map, All-append}
 use Rattle.semantics.specs.Table.{Table, sizesOf, tableOf}
 use Rattle.semantics.specs.State as semantics
 use Rattle.semantics.specs.Move.{Stepped, to, refused, moveOf, picksUsed, applied, step, stepWords}
-use Rattle.semantics.specs.Log.{moveCount, moveAt, movesOf, ended, onward, run}
+use Rattle.semantics.specs.Log.{moveCount, moveAt, movesOf, completed, onward, run}
 use Rattle.semantics.specs.Serial.{Act, picksOf, membersOf, after, acts}
 use Rattle.semantics.specs.declared.Refusal.{Refusal}
 use Rattle.semantics.specs.declared.Verdict.the-variants.{Allowed, Denied}
@@ -24,7 +24,7 @@ use Rattle.wellformed.specs.Step.{AcceptedMove, accepted-move}
 use Rattle.wellformed.specs.Held.{Held, step-holds}
 use Rattle.cells.specs.Shapes.{table-shaped}
 use Rattle.state.specs.declared.State.{State}
-use Rattle.words.specs.Origin.{originOf}
+use Rattle.words.specs.Origin.{originOf, firstProduct}
 use Rattle.state.specs.Working.{stateIn}
 use Rattle.step.specs.declared.make.Made.{Made}
 use Rattle.step.specs.Make.{MadeAs}
@@ -98,15 +98,16 @@ addAct t i s w s′ xs = xs ++ actAt t i s w ∷ []
 abbrev addNone : ℕ → semantics.State → Refusal → List Act → List Act
 addNone i s q xs = xs
 
-acts-fold : (ceiling : ℕ) (t : Table) (i : ℕ) (s : semantics.State) (ms : List (List ℕ)) (e : semantics.State) (xs : List Act) → run ceiling t i s ms ≡ ended e
+acts-fold : (ceiling : ℕ) (t : Table) (i : ℕ) (s : semantics.State) (ms : List (List ℕ)) (e : semantics.State) (xs : List Act)
+    → run ceiling t i s ms ≡ completed e
     → foldLog (addAct t) addNone ceiling t i s ms xs ≡ xs ++ acts t i s (map (moveOf t) ms)
 unfolding foldLog acts run
 acts-fold ceiling t i s [] e xs h = sym (append-nil xs)
 acts-fold ceiling t i s (m ∷ ms) e xs h = go (λ s′ ys k. acts-fold ceiling t (suc i) s′ ms e ys k) (stepWords ceiling t (suc i) s m) refl h
   where
-    go : ((s′ : semantics.State) (ys : List Act) → run ceiling t (suc i) s′ ms ≡ ended e
+    go : ((s′ : semantics.State) (ys : List Act) → run ceiling t (suc i) s′ ms ≡ completed e
         → foldLog (addAct t) addNone ceiling t (suc i) s′ ms ys ≡ ys ++ acts t (suc i) s′ (map (moveOf t) ms))
-        → (x : Stepped) → stepWords ceiling t (suc i) s m ≡ x → onward x i (λ s′. run ceiling t (suc i) s′ ms) ≡ ended e
+        → (x : Stepped) → stepWords ceiling t (suc i) s m ≡ x → onward x i (λ s′. run ceiling t (suc i) s′ ms) ≡ completed e
         → gatherBy (addAct t) addNone ceiling t x i s m xs (λ s′ a′. foldLog (addAct t) addNone ceiling t (suc i) s′ ms a′)
         ≡ xs ++ actAt t i s m ∷ acts t (suc i) (after t (suc i) s (moveOf t m)) (map (moveOf t) ms)
     go ih (to s′) q k =
@@ -173,8 +174,8 @@ module _ {T index l : List ℕ} {s₀ : State} {ceiling : ℕ} {before : List �
         {origins′ members₁ ended′ : List ℕ} (noted : MoveNoted (s .owners) (s .items) (s .origins) (s .len) begun (s₀ .next) head picks i origins
         members ended origins′ members₁ ended′)
         {x : Made} {s′ : State} (step : MadeAs x ceiling (tableOf T) (i + 1) (head ∷ picks) s s′)
-        {begun′ members′ : List ℕ} (marked : (begun′ ≡ ifGrown (s .next) (s′ .next) begun (s .next - s₀ .next) ((i + 1) * 1024))
-        × (members′ ≡ ifGrown (s .next) (s′ .next) members₁ i ((i + 1) * 1024)))
+        {begun′ members′ : List ℕ} (marked : (begun′ ≡ ifGrown (s .next) (s′ .next) begun (s .next - s₀ .next) (firstProduct i))
+        × (members′ ≡ ifGrown (s .next) (s′ .next) members₁ i (firstProduct i)))
       where
         place-fits : i < 1024
         place-fits = recording-place more
@@ -183,7 +184,7 @@ module _ {T index l : List ℕ} {s₀ : State} {ceiling : ℕ} {before : List �
         of-log = rw (← words) step
 
         members-are : members′ ≡ cond (eqb (s .next) (s′ .next)) (set members i (markBy begun (s₀ .next) (concernedBy (s .owners) head picks)))
-            (set (set members i (markBy begun (s₀ .next) (concernedBy (s .owners) head picks))) i ((i + 1) * 1024))
+            (set (set members i (markBy begun (s₀ .next) (concernedBy (s .owners) head picks))) i (firstProduct i))
         members-are = marked .1 ∙ rw (noted .member)
 
         row-room : 4 * i + 4 ≤ length origins
@@ -194,7 +195,7 @@ module _ {T index l : List ℕ} {s₀ : State} {ceiling : ℕ} {before : List �
           origins = omega (arith, noted .picked .size, h .room .origins);
           members = ap length members-are ∙ grown-size members i _ _ (eqb (s .next) (s′ .next)) ∙ h .room .members;
           ended = noted .ends .size;
-          begun = ap length (marked .0) ∙ grown-length begun (s .next - s₀ .next) ((i + 1) * 1024) (eqb (s .next) (s′ .next)) ∙ h .room .begun;
+          begun = ap length (marked .0) ∙ grown-length begun (s .next - s₀ .next) (firstProduct i) (eqb (s .next) (s′ .next)) ∙ h .room .begun;
         }
 
         pub recording-refused : {q : Refusal} → x .verdict ≡ Denied q → {ran : Ran} → ran .verdict ≡ x .verdict → ran .place ≡ i
@@ -240,7 +241,7 @@ module _ {T index l : List ℕ} {s₀ : State} {ceiling : ℕ} {before : List �
               ap (λ (x : semantics.State). x .next) (passed .result) in
               rw (
                 members-are,
-                grown-here members i (markBy begun (s₀ .next) (concernedBy (s .owners) head picks)) ((i + 1) * 1024)
+                grown-here members i (markBy begun (s₀ .next) (concernedBy (s .owners) head picks)) (firstProduct i)
                     (eqb (s .next) (s′ .next)) (omega (arith, h .room .members, place-fits)),
               )
               (rw next at (member-noted s legal (h .tracked)))
@@ -263,7 +264,7 @@ module _ {T index l : List ℕ} {s₀ : State} {ceiling : ℕ} {before : List �
           unfolding act stateIn
           act-ends p q =
               noted .ends .each p q
-              ∙ rw (endAfter-more p (getD before p 0) (h .made) act, ends-marks (tableOf T) i (stateIn s) head picks p, h .ends p q)
+              ∙ rw (endAfter-more p (getD before p 0) (h .made) act, ends-marks (tableOf T) i (stateIn s) head picks (passed .form) p, h .ends p q)
 
           next-folded : Folded (addAct (tableOf T)) addNone ceiling (tableOf T) l s₀ [] (i + 1) s′ (h .made ++ act ∷ [])
           unfolding act

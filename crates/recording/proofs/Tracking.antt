@@ -1,5 +1,5 @@
 -- The transactions begun in a log: by their ids, from the first on, the origins of their own marks.
-use Prim.Native.Nat.{ℕ, suc, _+_, _-_, _*_, _/_, _%_, _≤_, _<_}
+use Prim.Native.Nat.{ℕ, suc, _+_, _-_, _≤_, _<_}
 use mathlib.Core.Bool.{Bool, true, false, not, cond, true≢false}
 use mathlib.Core.List.{List, _∷_}
 use mathlib.Core.Logic.{inl, inr}
@@ -23,7 +23,7 @@ use Rattle.semantics.specs.declared.Sizes.{Sizes}
 use Rattle.wellformed.specs.Entries.{Sound}
 use Rattle.wellformed.specs.Products.{among-products}
 use Rattle.cells.specs.Rules.{Shape, plain, begin, inner, Shaped}
-use Rattle.words.specs.Origin.{originOf}
+use Rattle.words.specs.Origin.{originOf, firstProduct, origin-of-first}
 use Rattle.recording.proofs.MarksKept.{MarksHave, reacted-have, ended-have}
 use Rattle.recording.specs.Marks.{isMarkOf, marksOf, OneOf}
 use Rattle.recording.specs.Recordings.{markBy, ifGrown}
@@ -93,23 +93,25 @@ module _ {first : ℕ} {begun : List ℕ} {i : ℕ} {s : State} (h : Tracked fir
   module _ (few : i < 1024) where
     -- with the mark of a begin at place i
     abbrev grown : List ℕ
-    grown = set begun (s .next - first) ((i + 1) * 1024)
+    grown = set begun (s .next - first) (firstProduct i)
 
     others : (v : ℕ) (o : Origin) → Known first begun (s .next) v o → Known first grown (suc (s .next)) v o
     others v o (a, b, e) = (
       a,
       omega arith,
-      ap originOf (getD-set-other begun (s .next - first) (v - first) ((i + 1) * 1024) 0 (λ q. omega (arith, h .low))) ∙ e,
+      ap originOf (getD-set-other begun (s .next - first) (v - first) (firstProduct i) 0 (λ q. omega (arith, h .low))) ∙ e,
     )
 
     own : Known first grown (suc (s .next)) (s .next) (record { maker = suc i; index = 0 })
-    own =
-        let maker : (i + 1) * 1024 / 1024 ≡ suc i = omega arith in
-        let index : (i + 1) * 1024 % 1024 ≡ 0 = omega arith in
-        (h .low, omega arith, rw (getD-set-same begun (s .next - first) ((i + 1) * 1024) 0 (omega (arith, h .size, h .low, h .high)), maker, index))
+    own = (
+      h .low,
+      omega arith,
+      ap originOf (getD-set-same begun (s .next - first) (firstProduct i) 0 (omega (arith, h .size, h .low, h .high)))
+          ∙ origin-of-first i,
+    )
 
     reacted-tracked : (R : Rule) → Shape R → (ps : List ℕ) → (c : Bool) → begins R ≡ c
-        → Tracked first (ifGrown (s .next) (reacted R (suc i) s ps .next) begun (s .next - first) ((i + 1) * 1024)) (i + 1) (reacted R (suc i) s ps)
+        → Tracked first (ifGrown (s .next) (reacted R (suc i) s ps .next) begun (s .next - first) (firstProduct i)) (i + 1) (reacted R (suc i) s ps)
     unfolding reacted
     reacted-tracked R shape ps true b =
         rw (b, ne-eqb (s .next) (suc (s .next)) (λ q. omega arith))
@@ -130,7 +132,7 @@ module _ {first : ℕ} {begun : List ℕ} {i : ℕ} {s : State} (h : Tracked fir
           marks = reacted-have same R (suc i) s ps (h .marks) (λ e m k. absurd (clash (mark-product R s (picked s ps) (suc i) shape e m k .0) b));
         })
 
-    ended-tracked : (p : Entry → Bool) (b : ℕ) → Tracked first (ifGrown (s .next) (ended p b s .next) begun (s .next - first) ((i + 1) * 1024)) (i + 1)
+    ended-tracked : (p : Entry → Bool) (b : ℕ) → Tracked first (ifGrown (s .next) (ended p b s .next) begun (s .next - first) (firstProduct i)) (i + 1)
         (ended p b s)
     unfolding ended
     ended-tracked p b =
@@ -138,7 +140,7 @@ module _ {first : ℕ} {begun : List ℕ} {i : ℕ} {s : State} (h : Tracked fir
         (record { size = h .size; positive = h .positive; low = h .low; high = omega (arith, h .high); marks = ended-have same p b s (h .marks) })
 
     pub tracked-next : (t : Table) → Shaped t → (m : Move)
-        → Tracked first (ifGrown (s .next) (applied t (suc i) s m .next) begun (s .next - first) ((i + 1) * 1024)) (i + 1) (applied t (suc i) s m)
+        → Tracked first (ifGrown (s .next) (applied t (suc i) s m .next) begun (s .next - first) (firstProduct i)) (i + 1) (applied t (suc i) s m)
     unfolding applied
     tracked-next t shaped (react r ps) = reacted-tracked (ruleAt t r) (shaped r) ps (begins (ruleAt t r)) refl
     tracked-next t shaped (commit b) = ended-tracked _ b

@@ -1,9 +1,9 @@
 -- What the first pass notes of a move, and what it asks and says of the whole log.
 use Prim.Native.Nat.{ℕ, _-_, _*_, _≤_, _<_}
 use mathlib.Core.Path.{_≡_}
-use mathlib.Core.Bool.{false, cond}
+use mathlib.Core.Bool.{false, _||_, cond}
 use mathlib.Core.List.{List, [], map}
-use lib.Dec.{eqb, leb}
+use lib.Dec.{eqb, leb, ltb}
 use lib.ListN.{length, getD, set}
 use Rattle.lists.specs.Each.{All}
 use Rattle.lists.specs.Over.{Pasted}
@@ -38,9 +38,9 @@ concernedBy owners head picks = cond (eqb (headKind head) 0) (getD owners (getD 
 abbrev pub markBy : List ℕ → ℕ → ℕ → ℕ
 markBy begun first id = cond (leb first id) (getD begun (id - first) 0) 0
 
--- the member marks that a move with this head ends
+-- the member marks that a move with this head ends: none a reaction, or a number that is no id
 abbrev pub marksEnded : ℕ → List Entry → List Origin
-marksEnded head es = cond (eqb (headKind head) 0) [] (marksOf (headNumber head) es)
+marksEnded head es = cond (eqb (headKind head) 0 || ltb 65535 (headNumber head)) [] (marksOf (headNumber head) es)
 
 -- the origins of the picks, the mark of the transaction concerned, and the ends of the members that the move ends
 pub record MoveNoted (os ws gs : List ℕ) (n : ℕ) (begun : List ℕ) (first head : ℕ) (picks : List ℕ) (i : ℕ)

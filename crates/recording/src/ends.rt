@@ -7,7 +7,7 @@ ghost use lib.Dec.{eqb};
 ghost use lib.ListN.{length};
 ghost use Rattle.lists.specs.Rows.{rows};
 ghost use Rattle.semantics.specs.Words.{itemKind};
-ghost use Rattle.words.specs.Origin.{originOf};
+ghost use Rattle.words.specs.Origin.{makerIn};
 ghost use Rattle.state.specs.Working.{rowOf};
 ghost use Rattle.recording.specs.Marks.{Lent, marksOf, NotedAt, RowsNoted};
 ghost use Rattle.recording.specs.Recordings.{marksEnded};
@@ -18,15 +18,15 @@ use words::origin;
 use words::search::chunk_end;
 use words::search::chunk_has;
 
-fn is_mark(owner: u32, item: u32, id: u32) -> bool
+fn is_mark(owner: u16, item: u32, id: u16) -> bool
     ensures { λ r. ⌜ r ≡ eqb (itemKind item) 3 && eqb owner id ⌝ }
 {
     (kind_of(item) == MEMBER_MARK) & (owner == id)
 }
 
 // The maker of an entry that is a member mark of id, else 0.
-fn begun_by(owner: u32, item: u32, origin: u32, id: u32) -> u32
-    ensures { λ r. ⌜ r ≡ cond (eqb (itemKind item) 3 && eqb owner id) (originOf origin .maker) 0 ⌝ }
+fn begun_by(owner: u16, item: u32, origin: u16, id: u16) -> u16
+    ensures { λ r. ⌜ r ≡ cond (eqb (itemKind item) 3 && eqb owner id) (makerIn origin) 0 ⌝ }
 {
     if is_mark(owner, item, id) {
         origin::maker_of(origin)
@@ -36,7 +36,7 @@ fn begun_by(owner: u32, item: u32, origin: u32, id: u32) -> u32
 }
 
 // The end at this place is that of the begin by this maker; the start's maker, 0, has no place.
-fn note_end(ended: &mut [u32; 1024], maker: u32, place: u32)
+fn note_end(ended: &mut [u16; 1024], maker: u16, place: u16)
     requires { ⌜ length (now ended) ≡ 1024 ⌝ }
     ensures { λ _. ⌜ NotedAt place (record { maker = maker; index = 0 } ∷ []) (now (ended .entry)) (now (ended .exit)) ⌝ }
 {
@@ -51,14 +51,14 @@ fn note_end(ended: &mut [u32; 1024], maker: u32, place: u32)
 
 // The same for every member mark of id at the places from `from` on, before `to`.
 fn note_rows<'a>(
-    owners: &'a [u32; 1024],
+    owners: &'a [u16; 1024],
     items: &'a [u32; 1024],
-    origins: &'a [u32; 1024],
+    origins: &'a [u16; 1024],
     from: usize,
     to: usize,
-    id: u32,
-    place: u32,
-    ended: &mut [u32; 1024],
+    id: u16,
+    place: u16,
+    ended: &mut [u16; 1024],
 )
     requires { ⌜ Lent (now owners) (now items) (now origins) to × (from ≤ to) × (length (now ended) ≡ 1024) ⌝ }
     ensures { λ _. ⌜ RowsNoted (rowOf (now (owners .entry)) (now (items .entry)) (now (origins .entry)))
@@ -74,14 +74,14 @@ fn note_rows<'a>(
 
 // In most chunks id owns nothing.
 fn note_chunk<'a>(
-    owners: &'a [u32; 1024],
+    owners: &'a [u16; 1024],
     items: &'a [u32; 1024],
-    origins: &'a [u32; 1024],
+    origins: &'a [u16; 1024],
     from: usize,
     to: usize,
-    id: u32,
-    place: u32,
-    ended: &mut [u32; 1024],
+    id: u16,
+    place: u16,
+    ended: &mut [u16; 1024],
 )
     requires { ⌜ Lent (now owners) (now items) (now origins) to × (from ≤ to) × (to ≤ from + 32) × (from + 32 ≤ 1024) × (length (now ended) ≡ 1024) ⌝ }
     ensures { λ _. ⌜ RowsNoted (rowOf (now (owners .entry)) (now (items .entry)) (now (origins .entry)))
@@ -94,13 +94,13 @@ fn note_chunk<'a>(
 
 // The end of id at this place is that of every member that id has.
 fn note_ends<'a>(
-    owners: &'a [u32; 1024],
+    owners: &'a [u16; 1024],
     items: &'a [u32; 1024],
-    origins: &'a [u32; 1024],
+    origins: &'a [u16; 1024],
     n: usize,
-    id: u32,
-    place: u32,
-    ended: &mut [u32; 1024],
+    id: u16,
+    place: u16,
+    ended: &mut [u16; 1024],
 )
     requires { ⌜ Lent (now owners) (now items) (now origins) n × (length (now ended) ≡ 1024) ⌝ }
     ensures { λ _. ⌜ NotedAt place (marksOf id (rows (rowOf (now (owners .entry)) (now (items .entry)) (now (origins .entry))) 0 n))
@@ -114,15 +114,16 @@ fn note_ends<'a>(
     }
 }
 
-// A reaction ends nothing.
+// A reaction ends nothing, and neither does a number that no owner has: whether the move is in order
+// is not known yet.
 pub fn note_if_end<'a>(
-    owners: &'a [u32; 1024],
+    owners: &'a [u16; 1024],
     items: &'a [u32; 1024],
-    origins: &'a [u32; 1024],
+    origins: &'a [u16; 1024],
     n: usize,
     head: u32,
     place: usize,
-    ended: &mut [u32; 1024],
+    ended: &mut [u16; 1024],
 )
     requires { ⌜ Lent (now owners) (now items) (now origins) n × (place < 1024) × (length (now ended) ≡ 1024) ⌝ }
     ensures { λ _. ⌜ NotedAt place (marksEnded head (rows (rowOf (now (owners .entry)) (now (items .entry)) (now (origins .entry))) 0 n))
@@ -131,13 +132,16 @@ pub fn note_if_end<'a>(
     if head::kind_of(head) == head::REACT {
         return;
     }
+    if head::MAX_ID < head::number_of(head) {
+        return;
+    }
     note_ends(
         owners,
         items,
         origins,
         n,
-        head::number_of(head),
-        place as u32,
+        head::id_of(head),
+        place as u16,
         ended,
     );
 }

@@ -21,9 +21,9 @@ use step::make::make;
 use words::head;
 use words::head::MoveWords;
 use words::origin;
-use words::picks::put_picks;
+use words::picks::put_origins;
 
-fn word_at(column: &[u32; 1024], place: u32) -> u32
+fn word_at(column: &[u16; 1024], place: u32) -> u16
     requires { ⌜ length (now column) ≡ 1024 ⌝ }
     ensures { λ r. ⌜ r ≡ getD (now (column .entry)) place 0 ⌝ }
 {
@@ -34,8 +34,8 @@ fn word_at(column: &[u32; 1024], place: u32) -> u32
     }
 }
 
-// The origins of the picks, in the words from 4 i on.
-fn note_picks(column: &[u32; 1024], picks: [u32; 4], i: usize, wanted: &mut [u32])
+// The origins of the picks, at the places from 4 i on.
+fn note_picks(column: &[u16; 1024], picks: [u32; 4], i: usize, wanted: &mut [u16])
     requires { ⌜ (length (now column) ≡ 1024) × (i < 1024) × (4 * i + 4 ≤ length (now wanted)) ⌝ }
     ensures { λ _. ⌜ Pasted (now (wanted .entry)) (4 * i) (wordsAt (now (column .entry)) picks) 4 (now (wanted .exit)) ⌝ }
 {
@@ -45,23 +45,23 @@ fn note_picks(column: &[u32; 1024], picks: [u32; 4], i: usize, wanted: &mut [u32
         word_at(column, picks[2]),
         word_at(column, picks[3]),
     ];
-    put_picks(wanted, 4 * i, found);
+    put_origins(wanted, 4 * i, found);
 }
 
 // The transaction that a move concerns: the one that it ends, or that of its first pick.
-fn concerned(owners: &[u32; 1024], head: u32, picks: [u32; 4]) -> u32
+fn concerned(owners: &[u16; 1024], head: u32, picks: [u32; 4]) -> u32
     requires { ⌜ length (now owners) ≡ 1024 ⌝ }
     ensures { λ r. ⌜ r ≡ concernedBy (now (owners .entry)) head picks ⌝ }
 {
     if head::kind_of(head) == head::REACT {
-        word_at(owners, picks[0])
+        word_at(owners, picks[0]) as u32
     } else {
         head::number_of(head)
     }
 }
 
 // The origin of the own mark of a transaction begun in the log: they have the ids from `first` on.
-fn mark_of(begun: &[u32; 1024], first: u32, id: u32) -> u32
+fn mark_of(begun: &[u16; 1024], first: u32, id: u32) -> u16
     requires { ⌜ length (now begun) ≡ 1024 ⌝ }
     ensures { λ r. ⌜ r ≡ markBy (now (begun .entry)) first id ⌝ }
 {
@@ -74,17 +74,17 @@ fn mark_of(begun: &[u32; 1024], first: u32, id: u32) -> u32
 
 // What is noted of the move at place i in the state before it.
 fn note_move<'a>(
-    owners: &'a [u32; 1024],
+    owners: &'a [u16; 1024],
     items: &'a [u32; 1024],
-    origins: &'a [u32; 1024],
+    origins: &'a [u16; 1024],
     n: usize,
-    begun: &'a [u32; 1024],
+    begun: &'a [u16; 1024],
     first: u32,
     mv: MoveWords,
     i: usize,
-    wanted: &mut [u32],
-    members: &mut [u32; 1024],
-    ended: &mut [u32; 1024],
+    wanted: &mut [u16],
+    members: &mut [u16; 1024],
+    ended: &mut [u16; 1024],
 )
     requires { ⌜ Lent (now owners) (now items) (now origins) n × (length (now begun) ≡ 1024) × (i < 1024) × (4 * i + 4 ≤ length (now wanted))
         × (length (now members) ≡ 1024) × (length (now ended) ≡ 1024) ⌝ }
@@ -101,8 +101,8 @@ fn note_move<'a>(
 // The next id has grown where the move at place i begins a transaction. No begin emits, so the mark is
 // its first product.
 fn note_begin(
-    begun: &mut [u32; 1024],
-    members: &mut [u32; 1024],
+    begun: &mut [u16; 1024],
+    members: &mut [u16; 1024],
     i: usize,
     first: u32,
     next: u32,
@@ -125,16 +125,16 @@ fn note_begin(
 pub fn record<'a>(
     table: &'a [u32],
     starts: &'a [u32; 65],
-    owners: &mut [u32; 1024],
+    owners: &mut [u16; 1024],
     items: &mut [u32; 1024],
-    origins: &mut [u32; 1024],
+    origins: &mut [u16; 1024],
     start: Extent,
     log: &'a [u32],
     ceiling: usize,
-    wanted: &mut [u32],
-    members: &mut [u32; 1024],
-    ended: &mut [u32; 1024],
-    begun: &mut [u32; 1024],
+    wanted: &mut [u16],
+    members: &mut [u16; 1024],
+    ended: &mut [u16; 1024],
+    begun: &mut [u16; 1024],
 ) -> Ran
     requires log { ⌜ Recordable (now table) (now starts) (now log) (held (now owners) (now items) (now origins) start) ceiling ⌝ }
     requires room { ⌜ RecordRoom (now log) (now wanted) (now members) (now ended) (now begun) ⌝ }

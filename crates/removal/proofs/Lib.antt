@@ -1,1 +1,2 @@
-pub mod Nearest
+pub mod FirstOf
+pub mod SideBySide

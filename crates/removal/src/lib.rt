@@ -1,3 +1,6 @@
 // The picked entries taken out of the columns.
-mod lower;
+mod close;
+mod in_order;
+mod lower_halves;
+mod lower_words;
 pub mod remove;

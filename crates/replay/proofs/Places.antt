@@ -1,5 +1,5 @@
--- Entries found by their origins: an origin in one word is the same origin only in the same word.
-use Prim.Native.Nat.{ℕ, zero, suc, _+_, _/_, _%_, _≤_, _<_}
+-- Entries found by their origins.
+use Prim.Native.Nat.{ℕ, zero, suc, _+_, _≤_, _<_}
 use mathlib.Core.Bool.{true, false}
 use mathlib.Core.List.{List}
 use mathlib.Core.Path.{_≡_, sym, ap, subst, _∙_}
@@ -16,19 +16,17 @@ use Rattle.lists.specs.Rows.{rows, rowsFrom, rows-tails, rows-whole, length-row
 use Rattle.semantics.specs.State.{Entry}
 use Rattle.semantics.specs.Move.{nothing, entryAt}
 use Rattle.semantics.specs.Serial.{sameOrigin}
-use Rattle.words.specs.Origin.{originOf}
+use Rattle.words.specs.Origin.{makerIn, indexIn, originOf, origin-word}
 use Rattle.state.specs.Working.{rowOf}
 use Rattle.replay.specs.Replay.{placeIn}
 
 same-word : {w g : ℕ} → g ≡ w → sameOrigin (originOf w) (originOf g) ≡ true
-same-word {w} {g} e = and-intro (eq-eqb (w / 1024) (g / 1024) (rw e)) (eq-eqb (w % 1024) (g % 1024) (rw e))
+same-word {w} {g} e = and-intro (eq-eqb (makerIn w) (makerIn g) (rw e)) (eq-eqb (indexIn w) (indexIn g) (rw e))
 
 other-word : {w g : ℕ} → (g ≡ w → ⊥) → sameOrigin (originOf w) (originOf g) ≡ false
 other-word {w} {g} n = is-false _ (λ h.
-    let (a, b) = and-both (eqb (w / 1024) (g / 1024)) (eqb (w % 1024) (g % 1024)) h in
-    let p = eqb-true (w / 1024) (g / 1024) a in
-    let q = eqb-true (w % 1024) (g % 1024) b in
-    n (omega arith))
+    let (a, b) = and-both (eqb (makerIn w) (makerIn g)) (eqb (indexIn w) (indexIn g)) h in
+    n (sym (origin-word w g (eqb-true (makerIn w) (makerIn g) a) (eqb-true (indexIn w) (indexIn g) b))))
 
 module _ (os ws gs : List ℕ) (n : ℕ) where
   -- no entry before place i is of the origin w

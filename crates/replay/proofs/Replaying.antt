@@ -3,6 +3,7 @@ use Prim.Native.Nat.{ℕ, suc, _+_, _*_, _≤_, _<_}
 use mathlib.Core.Bool.{true, false}
 use mathlib.Core.List.{List, [], _∷_, _++_, map, nil≢cons, append-nil, append-assoc}
 use mathlib.Core.Path.{_≡_, refl, sym, ap, _∙_}
+use native.Mathlib.Nat.{zero-add}
 use native.Mathlib.Omega.{arith}
 use lib.Dec.{leb}
 use lib.ListN.{length, getD, take, drop, set, length-map}
@@ -24,7 +25,7 @@ use Rattle.wellformed.specs.Step.{stepWords-verdict, refused≢to, accepted-mov
 use Rattle.wellformed.specs.Length.{length-maker}
 use Rattle.cells.specs.Moves.{after-allowed}
 use Rattle.serial_laws.specs.Acts.{Recorded, wordsOfMove, ActsAgain, Replays, replayFits}
-use Rattle.replay.specs.Replay.{Words, Arranged}
+use Rattle.replay.specs.Replay.{Words, Arranged, PartWritten}
 use Rattle.replay.proofs.WordsAgain.{again-words}
 
 -- `rest` is left of the acts xs at the state c, and the rows of the others are written
@@ -34,6 +35,7 @@ pub record Replaying (ceiling : ℕ) (t : Table) (start : State) (l order origin
   pub recorded : All (Recorded t l origins members) rest
   pub replays : Replays t c rest
   pub fitting : replayFits ceiling t c rest ≡ replayFits ceiling t start xs
+  pub cut : (m : ℕ) → replayFits ceiling t c (take m rest) ≡ replayFits ceiling t start (take (j + m) xs)
   pub heads : take (1 + j) out ++ map headOf (replayed t c rest) ≡ moveCount l ∷ map headOf (replayed t start xs)
   pub picks : take (4 * j) (drop (1 + moveCount l) out) ++ allPicks (replayed t c rest) ≡ allPicks (replayed t start xs)
 
@@ -58,16 +60,50 @@ module _ (ceiling : ℕ) (t : Table) (start : State) (l order origins members : 
   pub replaying-start : Arranged t start l order origins members xs → (out : List ℕ) → 1 ≤ length out
       → Replaying ceiling t start l order origins members xs xs 0 start (set out 0 (moveCount l))
   replaying-start h [] n = absurd (omega arith)
-  replaying-start h (x ∷ out) n = record { places = h .places; recorded = h .recorded; replays = h .replays; fitting = refl; heads = refl; picks = refl }
+  replaying-start h (x ∷ out) n =
+      record {
+        places = h .places;
+        recorded = h .recorded;
+        replays = h .replays;
+        fitting = refl;
+        cut = λ m. rw (zero-add m);
+        heads = refl;
+        picks = refl;
+      }
 
   module _ {j : ℕ} (more : j < moveCount l) (few : moveCount l ≤ length order) where
     ahead : drop j (take (moveCount l) order) ≡ getD order j 0 ∷ drop (j + 1) (take (moveCount l) order)
     ahead = prefix-tails 0 order (moveCount l) few .more j more
 
     module _ {c : State} {out : List ℕ} {head : ℕ} {picks : List ℕ} (w : Words t (c .entries) l origins members (getD order j 0) head picks) where
-      -- the move is refused
+      -- the row of the act at hand is written behind the others
+      row-written : (a : Act) (rest : List Act) → Replaying ceiling t start l order origins members xs (a ∷ rest) j c out
+          → (room : 1 + 5 * moveCount l ≤ length out) (four : length picks ≡ 4)
+          → let new = row out (moveCount l) j head picks more room four in
+          let left = replayed t (after t (suc (a .place)) c (again c a (a .move))) rest in
+          (take (1 + (j + 1)) new ++ map headOf left ≡ moveCount l ∷ map headOf (replayed t start xs))
+          × (take (4 * (j + 1)) (drop (1 + moveCount l) new) ++ allPicks left ≡ allPicks (replayed t start xs))
+      unfolding replayed
+      row-written a rest r room four =
+          let m = again c a (a .move) in
+          let words = again-words (r .recorded .0) (r .replays .0) (sym (head-eq (r .places ∙ ahead))) w in (
+            rw (row-first out (moveCount l) j head picks more room four, head-eq words) (append-snoc (take (1 + j) out) (headOf m) _ ∙ r .heads),
+            rw (row-second out (moveCount l) j head picks more room four, tail-eq words)
+                (append-assoc (take (4 * j) (drop (1 + moveCount l) out)) (fourPicks m) _ ∙ r .picks),
+          )
+
+      pub replaying-part : (rest : List Act) → Replaying ceiling t start l order origins members xs rest j c out
+          → (room : 1 + 5 * moveCount l ≤ length out) (four : length picks ≡ 4)
+          → PartWritten (moveCount l) (j + 1) (replayed t start xs) (row out (moveCount l) j head picks more room four)
+      replaying-part [] r room four = absurd (nil≢cons (r .places ∙ ahead))
+      replaying-part (a ∷ rest) r room four =
+          let (heads, picks) = row-written a rest r room four in
+          record { heads = (_, heads); picks = (_, picks) }
+
+      -- the move is refused: the states up to the one that it leaves do not fit
       pub replaying-denied : (rest : List Act) → Replaying ceiling t start l order origins members xs rest j c out
-          → (maker : ℕ) {q : Refusal} → stepWords ceiling t maker c (head ∷ picks) ≡ refused q → false ≡ replayFits ceiling t start xs
+          → (maker : ℕ) {q : Refusal} → stepWords ceiling t maker c (head ∷ picks) ≡ refused q
+          → (false ≡ replayFits ceiling t start xs) × (replayFits ceiling t start (take (j + 1) xs) ≡ false)
       replaying-denied [] r maker d = absurd (nil≢cons (r .places ∙ ahead))
       replaying-denied (a ∷ rest) r maker d =
           let g = r .replays .0 in
@@ -75,7 +111,10 @@ module _ (ceiling : ℕ) (t : Table) (start : State) (l order origins members : 
           let e = again-words (r .recorded .0) g (sym (head-eq (r .places ∙ ahead))) w in
           by-bool (fits ceiling (after t (suc (a .place)) c m))
           (λ f. absurd (refused≢to {s = applied t maker c m} (sym d ∙ rw e (passes ceiling t (suc (a .place)) maker c a g f))))
-          (λ f. sym (and-right-false (fits ceiling c) (unfit ceiling t (after t (suc (a .place)) c m) rest f)) ∙ r .fitting)
+          (λ f. (
+            sym (and-right-false (fits ceiling c) (unfit ceiling t (after t (suc (a .place)) c m) rest f)) ∙ r .fitting,
+            sym (r .cut 1) ∙ and-right-false (fits ceiling c) f,
+          ))
 
       -- it is made, and its row is written
       pub replaying-next : (rest : List Act) → Replaying ceiling t start l order origins members xs rest j c out
@@ -99,10 +138,12 @@ module _ (ceiling : ℕ) (t : Table) (start : State) (l order origins members : 
               recorded = r .recorded .1;
               replays = rw next (r .replays .1);
               fitting = rw next (sym (and-true _ (le-leb (length (c .entries)) ceiling n)) ∙ r .fitting);
-              heads = rw (next, row-first out (moveCount l) j head picks more room four, head-eq words)
-                  (append-snoc (take (1 + j) out) (headOf m) _ ∙ r .heads);
-              picks = rw (next, row-second out (moveCount l) j head picks more room four, tail-eq words)
-                  (append-assoc (take (4 * j) (drop (1 + moveCount l) out)) (fourPicks m) _ ∙ r .picks);
+              cut = λ k.
+                  let e : j + suc k ≡ j + 1 + k = omega arith in
+                  rw next (sym (and-true _ (le-leb (length (c .entries)) ceiling n)) ∙ r .cut (suc k)
+                  ∙ ap (λ (i : ℕ). replayFits ceiling t start (take i xs)) e);
+              heads = rw next (row-written a rest r room four .0);
+              picks = rw next (row-written a rest r room four .1);
             },
           )
 

@@ -1,6 +1,6 @@
 -- The turns of the replay's loop on the working state and the target.
 use Prim.Native.Nat.{ℕ, _+_, _*_, _≤_, _<_}
-use mathlib.Core.Bool.{true, false, false≢true}
+use mathlib.Core.Bool.{true, false, false≢true, true≢false}
 use mathlib.Core.List.{List, _∷_, map}
 use mathlib.Core.Path.{_≡_, refl, sym, ap, subst, _∙_}
 use native.Mathlib.Omega.{arith}
@@ -22,8 +22,8 @@ use Rattle.state.specs.Arrays.{count-in}
 use Rattle.step.specs.declared.make.Made.{Made}
 use Rattle.step.specs.Make.{Workable, MadeAs}
 use Rattle.serial_laws.specs.Acts.{replayFits}
-use Rattle.replay.specs.Replay.{placeIn, Words, Replayable, Arranged, ReplayedAs}
-use Rattle.replay.proofs.Replaying.{Replaying, replaying-start, replaying-denied, replaying-next, replaying-end}
+use Rattle.replay.specs.Replay.{placeIn, Words, Replayable, Arranged, PartWritten, ReplayedAs}
+use Rattle.replay.proofs.Replaying.{Replaying, replaying-start, replaying-part, replaying-denied, replaying-next, replaying-end}
 
 -- j moves are written; `first` is the target with the count alone
 pub record Going (T index : List ℕ) (start : State) (l order origins members : List ℕ) (ceiling : ℕ) (first : List ℕ) (j : ℕ) (s : State)
@@ -35,6 +35,10 @@ pub record Going (T index : List ℕ) (start : State) (l order origins members :
   pub tail : drop (1 + 5 * moveCount l) out ≡ drop (1 + 5 * moveCount l) first
   pub acts : (xs : List Act) → Arranged (tableOf T) (stateIn start) l order origins members xs
       → (rest : List Act) × Replaying ceiling (tableOf T) (stateIn start) l order origins members xs rest j (stateIn s) out
+
+-- the count is no part of what lies behind the log
+tail-first : {first : List ℕ} (before : List ℕ) (k : ℕ) → first ≡ set before 0 k → drop (1 + 5 * k) first ≡ drop (1 + 5 * k) before
+tail-first before k e = ap (drop (1 + 5 * k)) e ∙ drop-set-lt (1 + 5 * k) before 0 k (omega arith)
 
 module _ {T index : List ℕ} {start : State} {l order origins members : List ℕ} {ceiling : ℕ} where
   pub going-start : {before : List ℕ} → Replayable T index start l order origins members ceiling before
@@ -70,42 +74,59 @@ module _ {T index : List ℕ} {start : State} {l order origins members : List �
           let least : length places ≤ 4 = omega (arith, w .used, length-map (take u wanted) (placeIn (stateIn s .entries)), length-take u wanted) in
           ap length (w .picks-now) ∙ length-padded 4 0 places least
 
+      written : new ≡ row out (moveCount l) j head picks more going-room four
+      unfolding row
+      written = p .value
+
+      tail-new : drop (1 + 5 * moveCount l) new ≡ drop (1 + 5 * moveCount l) first
+      tail-new = ap (drop (1 + 5 * moveCount l)) written ∙ row-rest out (moveCount l) j head picks more going-room four ∙ g .tail
+
       size-new : length new ≡ length first
       size-new = p .size ∙ length-set out (1 + j) head ∙ g .size
 
-      pub going-denied : {q : Refusal} → x .verdict ≡ Denied q → {before : List ℕ} → first ≡ set before 0 (moveCount l)
-          → ReplayedAs false ceiling (tableOf T) (stateIn start) l order origins members before new
-      going-denied {q} denied {before} e = record {
-        fits = λ xs h.
+      module _ {q : Refusal} (denied : x .verdict ≡ Denied q) where
+        unfitting : (xs : List Act) → Arranged (tableOf T) (stateIn start) l order origins members xs
+            → (false ≡ replayFits ceiling (tableOf T) (stateIn start) xs) × (replayFits ceiling (tableOf T) (stateIn start) (take (j + 1) xs) ≡ false)
+        unfitting xs h =
             let (rest, r) = g .acts xs h in
-            replaying-denied ceiling (tableOf T) (stateIn start) l order origins members xs more few w rest r (getD order j 0 + 1) (rw denied at (made .step));
-        target = λ xs h q. absurd (false≢true q);
-        size = size-new ∙ ap length e ∙ length-set before 0 (moveCount l);
-      }
+            replaying-denied ceiling (tableOf T) (stateIn start) l order origins members xs more few w rest r (getD order j 0 + 1) (rw denied at (made .step))
+
+        pub going-denied : {before : List ℕ} → first ≡ set before 0 (moveCount l)
+            → ReplayedAs false ceiling (tableOf T) (stateIn start) l order origins members before new
+        going-denied {before} e = record {
+          fits = λ xs h. unfitting xs h .0;
+          target = λ xs h q. absurd (false≢true q);
+          part = λ xs h q.
+              let (rest, r) = g .acts xs h in (
+                j + 1,
+                unfitting xs h .1,
+                subst (PartWritten (moveCount l) (j + 1) (replayed (tableOf T) (stateIn start) xs)) (sym written)
+                    (replaying-part ceiling (tableOf T) (stateIn start) l order origins members xs more few w rest r going-room four),
+              );
+          beyond = tail-new ∙ tail-first before (moveCount l) e;
+          size = size-new ∙ ap length e ∙ length-set before 0 (moveCount l);
+        }
 
       pub going-next : x .verdict ≡ Allowed → Going T index start l order origins members ceiling first (j + 1) s′ new
-      unfolding row
       going-next ok =
-          let e : new ≡ row out (moveCount l) j head picks more going-room four = p .value in
           record {
             given = g .given;
             within = omega arith;
             workable = made .workable;
             size = size-new;
-            tail = ap (drop (1 + 5 * moveCount l)) e ∙ row-rest out (moveCount l) j head picks more going-room four ∙ g .tail;
+            tail = tail-new;
             acts = λ xs h.
                 let (rest, r) = g .acts xs h in
                 let (left, q) = replaying-next ceiling (tableOf T) (stateIn start) l order origins members xs more few w rest r
                 (rw ok at (made .step)) fit going-room four in
-                (left, subst (Replaying ceiling (tableOf T) (stateIn start) l order origins members xs left (j + 1) (stateIn s′)) (sym e) q);
+                (left, subst (Replaying ceiling (tableOf T) (stateIn start) l order origins members xs left (j + 1) (stateIn s′)) (sym written) q);
           }
 
     pub going-end : moveCount l ≤ j → {before : List ℕ} → first ≡ set before 0 (moveCount l)
         → ReplayedAs true ceiling (tableOf T) (stateIn start) l order origins members before out
     going-end done {before} e =
         let k : j ≡ moveCount l = omega (arith, g .within) in
-        let tail : drop (1 + 5 * moveCount l) out ≡ drop (1 + 5 * moveCount l) before =
-        g .tail ∙ ap (drop (1 + 5 * moveCount l)) e ∙ drop-set-lt (1 + 5 * moveCount l) before 0 (moveCount l) (omega arith) in
+        let tail = g .tail ∙ tail-first before (moveCount l) e in
         let ended : (xs : List Act) → Arranged (tableOf T) (stateIn start) l order origins members xs
         → (true ≡ replayFits ceiling (tableOf T) (stateIn start) xs) × (out ≡ over (logWords (replayed (tableOf T) (stateIn start) xs)) before) = λ xs h.
         let (rest, r) = g .acts xs h in
@@ -113,5 +134,7 @@ module _ {T index : List ℕ} {start : State} {l order origins members : List �
         record {
           fits = λ xs h. ended xs h .0;
           target = λ xs h q. ended xs h .1;
+          part = λ xs h q. absurd (true≢false q);
+          beyond = tail;
           size = g .size ∙ ap length e ∙ length-set before 0 (moveCount l);
         }

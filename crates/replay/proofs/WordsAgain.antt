@@ -30,11 +30,11 @@ module _ (es : List Entry) (head member : ℕ) where
     owner-now : owner ≡ entryAt es (placeIn es member) .owner
     owner-now = e ∙ ap (λ (n : ℕ). entryAt es n .owner) p
 
-    pub head-commit : headKind head ≡ 1 → headWord 1 (headNumber owner) ≡ headAgain es head member
+    pub head-commit : headKind head ≡ 1 → headWord 1 owner ≡ headAgain es head member
     unfolding headAgain
     head-commit h = rw (ne-eqb (headKind head) 0 k, eq-eqb (headKind head) 1 h, ← owner-now)
 
-    pub head-abort : (headKind head ≡ 1 → ⊥) → headWord 2 (headNumber owner) ≡ headAgain es head member
+    pub head-abort : (headKind head ≡ 1 → ⊥) → headWord 2 owner ≡ headAgain es head member
     unfolding headAgain
     head-abort h = rw (ne-eqb (headKind head) 0 k, ne-eqb (headKind head) 1 h, ← owner-now)
 
@@ -51,18 +51,6 @@ words-made {t} {es} {l} {origins} {members} {p} w h (u, le) v q =
       head-now = h ∙ ap (λ (n : ℕ). headAgain es n (getD members p 0)) w;
       picks-now = q ∙ rw (used, v);
     }
-
--- an id in words has 24 bits
-id-narrow : (t : Table) (w : ℕ) (ps : List ℕ) → headNumber (idOf (moveOf t (w ∷ ps))) ≡ idOf (moveOf t (w ∷ ps))
-unfolding moveOf
-id-narrow t w ps = go (eqb (headKind w) 0) (eqb (headKind w) 1)
-  where
-    go : (k one : Bool)
-        → headNumber (idOf (cond k (react (headNumber w) (take (picksUsed t w) ps)) (cond one (commit (headNumber w)) (abort (headNumber w)))))
-        ≡ idOf (cond k (react (headNumber w) (take (picksUsed t w) ps)) (cond one (commit (headNumber w)) (abort (headNumber w))))
-    go true one = omega arith
-    go false true = omega arith
-    go false false = omega arith
 
 abbrev picksIn : Move → List ℕ
 picksIn (react r ps) = ps
@@ -92,33 +80,24 @@ module _ {t : Table} {l origins members : List ℕ} {c : State} {a : Act} (r : R
   abbrev was : ℕ
   was = getD l (1 + a .place) 0
 
-  id-now : headNumber (idOf (again c a (a .move))) ≡ idOf (again c a (a .move))
-  id-now =
-      let m = again c a (a .move) in
-      let n = id-narrow t (headOf m) (fourPicks m) in
-      let e = ap idOf (g .words) in
-      omega arith
-
   owner-now-is : isEnd (a .move) ≡ true → entryAt (c .entries) (placeIn (c .entries) (getD members (a .place) 0)) .owner ≡ idOf (again c a (a .move))
   owner-now-is h = g .owner h (originOf (getD members (a .place) 0)) (r .some (g .present h))
 
   head-same : headAgain (c .entries) was (getD members (a .place) 0) ≡ headOf (again c a (a .move))
   unfolding headAgain moveOf again
   head-same = go (entryAt (c .entries) (placeIn (c .entries) (getD members (a .place) 0)) .owner) (eqb (headKind was) 0) (eqb (headKind was) 1) (a .move) _
-      (eqb-true (headKind was) 0) (r .move) owner-now-is id-now
+      (eqb-true (headKind was) 0) (r .move) owner-now-is
     where
       go : (owner : ℕ) (k one : Bool) (m : Move) (ps : List ℕ) → (k ≡ true → headKind was ≡ 0)
           → m ≡ cond k (react (headNumber was) ps) (cond one (commit (headNumber was)) (abort (headNumber was)))
-          → (isEnd m ≡ true → owner ≡ idOf (again c a m)) → headNumber (idOf (again c a m)) ≡ idOf (again c a m)
-          → cond k was (headWord (cond one 1 2) (headNumber owner)) ≡ headOf (again c a m)
-      go owner true one m ps z e o l = let k = z refl in rw e (omega arith)
-      go owner false true m ps z e o l =
+          → (isEnd m ≡ true → owner ≡ idOf (again c a m))
+          → cond k was (headWord (cond one 1 2) owner) ≡ headOf (again c a m)
+      go owner true one m ps z e o = let k = z refl in rw e (omega arith)
+      go owner false true m ps z e o =
           let p = (rw e at o) refl in
-          let q = rw e at l in
           rw e (omega arith)
-      go owner false false m ps z e o l =
+      go owner false false m ps z e o =
           let p = (rw e at o) refl in
-          let q = rw e at l in
           rw e (omega arith)
 
   picks-same : picksUsed t was ≤ 4 → padded 4 0 (map (placeIn (c .entries)) (take (picksUsed t was) (take 4 (drop (4 * a .place) origins)))) ≡ fourPicks

@@ -26,7 +26,7 @@ use words::picks::put_picks;
 use words::search::chunk_of;
 
 // The place of the first entry of that origin, n if there is none.
-fn place_of(origins: &[u32; 1024], n: usize, origin: u32) -> usize
+fn place_of(origins: &[u16; 1024], n: usize, origin: u16) -> usize
     requires { ⌜ (n ≤ 1024) × (length (now origins) ≡ 1024) ⌝ }
     ensures { λ r. ⌜ ((os ws : List ℕ) → r ≡ placeIn (rows (rowOf os ws (now (origins .entry))) 0 n) origin) × (r ≤ n) ⌝ }
 {
@@ -41,7 +41,7 @@ fn place_of(origins: &[u32; 1024], n: usize, origin: u32) -> usize
 }
 
 // The places of the first k origins wanted, then 0.
-fn places_of(origins: &[u32; 1024], n: usize, wanted: [u32; 4], k: usize) -> [u32; 4]
+fn places_of(origins: &[u16; 1024], n: usize, wanted: [u16; 4], k: usize) -> [u32; 4]
     requires { ⌜ (n ≤ 1024) × (length (now origins) ≡ 1024) × (k ≤ 4) ⌝ }
     ensures { λ r. ⌜ ((os ws : List ℕ) → r ≡ padded 4 0 (map (placeIn (rows (rowOf os ws (now (origins .entry))) 0 n)) (take k wanted))) ⌝ }
 {
@@ -56,7 +56,7 @@ fn places_of(origins: &[u32; 1024], n: usize, wanted: [u32; 4], k: usize) -> [u3
 }
 
 // The origins recorded for the picks of the move at place p.
-fn wanted_at(origins: &[u32], p: usize) -> [u32; 4]
+fn wanted_at(origins: &[u16], p: usize) -> [u16; 4]
     requires { ⌜ (p < 1024) × (4 * p + 4 ≤ length (now origins)) ⌝ }
     ensures { λ r. ⌜ r ≡ take 4 (drop (4 * p) (now (origins .entry))) ⌝ }
 {
@@ -86,7 +86,7 @@ fn picks_used<'a>(table: &'a [u32], starts: &'a [u32; 65], head: u32) -> usize
 }
 
 // The owner of the entry at a place, 0 past the last.
-fn owner_at(owners: &[u32; 1024], n: usize, place: usize) -> u32
+fn owner_at(owners: &[u16; 1024], n: usize, place: usize) -> u16
     requires { ⌜ (n ≤ 1024) × (length (now owners) ≡ 1024) ⌝ }
     ensures { λ r. ⌜ ((ws gs : List ℕ) → r ≡ entryAt (rows (rowOf (now (owners .entry)) ws gs) 0 n) place .owner) ⌝ }
 {
@@ -95,11 +95,11 @@ fn owner_at(owners: &[u32; 1024], n: usize, place: usize) -> u32
 
 // A head now: a reaction's is as it was, an end has the id that owns the mark of its member.
 fn head_again<'a>(
-    owners: &'a [u32; 1024],
-    origins: &'a [u32; 1024],
+    owners: &'a [u16; 1024],
+    origins: &'a [u16; 1024],
     n: usize,
     head: u32,
-    member: u32,
+    member: u16,
 ) -> u32
     requires { ⌜ Columns (now owners) (now origins) n ⌝ }
     ensures { λ r. ⌜ ((ws : List ℕ) → r ≡ headAgain (rows (rowOf (now (owners .entry)) ws (now (origins .entry))) 0 n) head member) ⌝ }
@@ -108,7 +108,7 @@ fn head_again<'a>(
     if kind == head::REACT {
         return head;
     }
-    let id = head::number_of(owner_at(owners, n, place_of(origins, n, member)));
+    let id = owner_at(owners, n, place_of(origins, n, member)) as u32;
     if kind == head::COMMIT {
         head::head_of(head::COMMIT, id)
     } else {
@@ -120,12 +120,12 @@ fn head_again<'a>(
 fn again_at<'a>(
     table: &'a [u32],
     starts: &'a [u32; 65],
-    owners: &'a [u32; 1024],
-    origins: &'a [u32; 1024],
+    owners: &'a [u16; 1024],
+    origins: &'a [u16; 1024],
     n: usize,
     log: &'a [u32],
-    wanted: &'a [u32],
-    members: &'a [u32; 1024],
+    wanted: &'a [u16],
+    members: &'a [u16; 1024],
     p: usize,
 ) -> MoveWords
     requires { ⌜ Readable (now table) (now starts) (now log) (now wanted) (now members) × Columns (now owners) (now origins) n × (p < moveCount (now log)) ⌝ }
@@ -156,14 +156,14 @@ fn put_move(out: &mut [u32], k: usize, j: usize, mv: MoveWords)
 pub fn replay<'a>(
     table: &'a [u32],
     starts: &'a [u32; 65],
-    owners: &mut [u32; 1024],
+    owners: &mut [u16; 1024],
     items: &mut [u32; 1024],
-    origins: &mut [u32; 1024],
+    origins: &mut [u16; 1024],
     start: Extent,
     log: &'a [u32],
-    order: &'a [u32; 1024],
-    wanted: &'a [u32],
-    members: &'a [u32; 1024],
+    order: &'a [u16; 1024],
+    wanted: &'a [u16],
+    members: &'a [u16; 1024],
     ceiling: usize,
     out: &mut [u32],
 ) -> bool

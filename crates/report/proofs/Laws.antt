@@ -14,7 +14,8 @@ use Rattle.semantics.specs.Program.{Line, linesFrom, lines, firstLine, wordsOf}
 use Rattle.semantics.specs.declared.Refusal.{Refusal}
 use Rattle.semantics.specs.declared.Verdict.the-variants.{Allowed, Denied}
 use Rattle.intake.specs.Gather.{Gathered, gathered-all}
-use Rattle.ready.specs.Ready.{ready-table, ready-sizes}
+use Rattle.state.specs.Parts.{Loadable, loadable}
+use Rattle.ready.specs.Ready.{ready-table}
 use Rattle.intake.specs.Split.{SplitAs, accepted-input}
 use Rattle.intake.specs.declared.parts.Parts as intake
 use Rattle.log.specs.Form.{log-sized}
@@ -66,13 +67,13 @@ module _ {ws : List ℕ} {bytes : ℕ} {p : intake.Parts} (h : SplitAs ws bytes 
 
   module _ (allowed : p .verdict ≡ Allowed) where
     pub prepared : Prepared (take (p .«state_at») ws) (p .starts) (take (p .end - p .«log_at») (drop (p .«log_at») ws))
-        × (stateSizesOk (take (p .«log_at» - p .«state_at») (drop (p .«state_at») ws)) ≡ true)
+        × Loadable (take (p .«log_at» - p .«state_at») (drop (p .«state_at») ws))
     prepared =
         let a = accepted-input (sym (h .verdict) ∙ allowed) in
         let r = h .ready allowed in
         rw (h .cut .table, h .cut .state, h .cut .log) (
           record { indexed = record { table = ready-table r; starts = r .starts }; log = log-sized _ (a .log) },
-          ready-sizes r,
+          loadable _ _ (r .accepted),
         )
 
     pub accepted-figures :

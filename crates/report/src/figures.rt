@@ -1,11 +1,10 @@
 // The figures that the program prints of its input: all but the printing is proved here.
 ghost use Prim.Native.Nat.{_*_, _≤_};
 ghost use mathlib.Core.Path.{_≡_};
-ghost use mathlib.Core.Bool.{true};
 ghost use lib.ListN.{length};
-ghost use Rattle.semantics.specs.State.{stateSizesOk};
 ghost use Rattle.semantics.specs.Program.{wordsOf};
 ghost use Rattle.semantics.specs.declared.Verdict.the-variants.{Allowed, Denied};
+ghost use Rattle.state.specs.Parts.{Loadable};
 ghost use Rattle.run.specs.Runs.{Prepared};
 ghost use Rattle.report.specs.Shown.{Shows, FiguresOf};
 use run::trace::trace;
@@ -43,7 +42,7 @@ fn of_parts<'a>(
     state: &'a [u32],
     log: &'a [u32],
 ) -> Figures
-    requires { ⌜ Prepared (now table) (now starts) (now log) × (stateSizesOk (now state) ≡ true) ⌝ }
+    requires { ⌜ Prepared (now table) (now starts) (now log) × Loadable (now state) ⌝ }
     ensures { λ f. ⌜ (f .verdict ≡ Allowed) × (4 * f .count ≤ length (f .lines))
         × Shows (record { table = now (table .entry); state = now (state .entry); log = now (log .entry) }) f ⌝ }
 {

@@ -1,9 +1,9 @@
 // A rule of a well-formed table, decoded.
 ghost use mathlib.Core.Path.{_≡_};
-ghost use mathlib.Core.List.{map};
 ghost use Prim.Native.Nat.{_≤_, _<_};
 ghost use lib.Dec.{eqb};
-ghost use lib.ListN.{length, take};
+ghost use lib.ListN.{length};
+ghost use Rattle.lists.specs.Lists.{oneIf};
 ghost use Rattle.semantics.specs.Words.{atomMode, valueOf};
 ghost use Rattle.semantics.specs.Table.{sizesOf, numbersOf, atomValue, atomOf, ruleOf, tableOf, ruleAt, consumed};
 ghost use Rattle.wellformed.specs.Tables.{RuleFits};
@@ -12,7 +12,6 @@ ghost use Rattle.semantics.specs.declared.Verdict.the-variants.{Allowed};
 ghost use Rattle.table.specs.Index.{Starts};
 ghost use Rattle.rules.specs.Decode.{Decodes};
 use legal::rule::consumes_of;
-use legal::rule::has_role;
 use legal::rule::rule_class;
 use semantics::Atom;
 use semantics::AtomValue;
@@ -53,36 +52,39 @@ pub fn atom_of(w: u32) -> Atom
     }
 }
 
-fn atoms_of(ws: &[u32]) -> [Atom; 16]
-    requires { ⌜ length (now ws) ≤ 16 ⌝ }
-    ensures { λ r. ⌜ (length r ≡ 16) × (take (length (now (ws .entry))) r ≡ map atomOf (now (ws .entry))) ⌝ }
+fn one_if(b: bool) -> usize
+    ensures { λ r. ⌜ (r ≡ oneIf b) × (r ≤ 1) ⌝ }
 {
-    let blank = atom_of(0);
-    let mut atoms = [blank; 16];
-    let mut i = 0;
-    while i < ws.len() {
-        atoms[i] = atom_of(ws[i]);
-        i += 1;
-    }
-    atoms
+    if b { 1 } else { 0 }
 }
 
+// In one pass, and the atoms are written where the answer has them: copying them costs time.
 fn rule_of(ws: &[u32], z: Sizes) -> Rule
     requires { ⌜ RuleFits z (now ws) ⌝ }
     ensures { λ x. ⌜ Decodes x (ruleOf z (now (ws .entry))) ⌝ }
 {
-    let atoms = atoms_of(ws);
-    let count = ws.len();
-    let consumes = consumes_of(ws);
-    let class = rule_class(ws, z);
-    let begins = has_role(ws, 2);
-    Rule {
-        atoms,
-        count,
-        consumes,
-        class,
-        begins,
+    let blank = atom_of(0);
+    let mut rule = Rule {
+        atoms: [blank; 16],
+        count: ws.len(),
+        consumes: 0,
+        class: rule_class(ws, z),
+        begins: false,
+    };
+    let mut consumes = 0;
+    let mut begins = false;
+    let mut i = 0;
+    while i < ws.len() {
+        let w = ws[i];
+        let role = atom::role_of(w);
+        rule.atoms[i] = atom_of(w);
+        consumes += one_if(role == 0);
+        begins = begins | (role == 2);
+        i += 1;
     }
+    rule.consumes = consumes;
+    rule.begins = begins;
+    rule
 }
 
 pub fn rule_at<'a>(table: &'a [u32], starts: &'a [u32; 65], r: u32) -> Rule

@@ -1,4 +1,4 @@
-// Whether an opening rule has a give (14).
+// Whether some rule begins a transaction and emits too (14).
 ghost use mathlib.Core.Bool.{_&&_};
 ghost use mathlib.Core.Path.{_≡_};
 ghost use Rattle.semantics.specs.declared.Sizes.{Sizes};

@@ -12,7 +12,7 @@ use Rattle.lists.specs.Ahead.{Tails}
 use Rattle.semantics.specs.Table.{Table}
 use Rattle.semantics.specs.State as semantics
 use Rattle.semantics.specs.Move.{Stepped, to, refused, steppedBy, stepWords}
-use Rattle.semantics.specs.Log.{moveCount, moveAt, movesOf, Ran, ended, stopped, onward, run}
+use Rattle.semantics.specs.Log.{moveCount, moveAt, movesOf, Ran, completed, stopped, onward, run}
 use Rattle.semantics.specs.declared.Refusal.{Refusal}
 use Rattle.semantics.specs.declared.Verdict.{Verdict}
 use Rattle.semantics.specs.declared.Verdict.the-variants.{Allowed, Denied}
@@ -36,7 +36,7 @@ movesBefore l i = map (moveAt l) (upFrom 0 i)
 
 -- what the code says of a run, as a value of semantics
 abbrev pub ranBy : Verdict → ℕ → semantics.State → Ran
-ranBy Allowed i s = ended s
+ranBy Allowed i s = completed s
 ranBy (Denied q) i s = stopped i q
 
 -- what a run asks
@@ -47,7 +47,7 @@ pub record Runnable (t index l : List ℕ) (ceiling : ℕ) (s : State) : Type 0 
 -- the answer and s′ are the run of the log from s; the moves before the place lead to s′: a refused move changes nothing
 pub record RanAs (ran : code.Ran) (ceiling : ℕ) (t : Table) (l : List ℕ) (s s′ : State) : Type 0 where
   pub value : ranBy (ran .verdict) (ran .place) (stateIn s′) ≡ run ceiling t 0 (stateIn s) (movesOf l)
-  pub reached : run ceiling t 0 (stateIn s) (movesBefore l (ran .place)) ≡ ended (stateIn s′)
+  pub reached : run ceiling t 0 (stateIn s) (movesBefore l (ran .place)) ≡ completed (stateIn s′)
   pub workable : Workable s′ ceiling
 
 -- ---- parts of a log
@@ -85,20 +85,20 @@ module _ (l : List ℕ) where
 
 -- ---- parts of a run
 
-ended-same : {a b : semantics.State} → ended a ≡ ended b → a ≡ b
+ended-same : {a b : semantics.State} → completed a ≡ completed b → a ≡ b
 ended-same h = cc
 
 module _ (ceiling : ℕ) (t : Table) where
   -- what follows an accepted part goes on from the state that it left
-  run-append : (i : ℕ) (s : semantics.State) (xs ys : List (List ℕ)) (s′ : semantics.State) → run ceiling t i s xs ≡ ended s′
+  run-append : (i : ℕ) (s : semantics.State) (xs ys : List (List ℕ)) (s′ : semantics.State) → run ceiling t i s xs ≡ completed s′
       → run ceiling t i s (xs ++ ys) ≡ run ceiling t (i + length xs) s′ ys
   unfolding run
   run-append i s [] ys s′ h = rw (add-zero i, ended-same h)
   run-append i s (m ∷ xs) ys s′ h = go (stepWords ceiling t (suc i) s m) (λ x. run-append (suc i) x xs ys s′) h
     where
-      go : (x : Stepped) → ((x : semantics.State) → run ceiling t (suc i) x xs ≡ ended s′
+      go : (x : Stepped) → ((x : semantics.State) → run ceiling t (suc i) x xs ≡ completed s′
           → run ceiling t (suc i) x (xs ++ ys) ≡ run ceiling t (suc i + length xs) s′ ys)
-          → onward x i (λ x. run ceiling t (suc i) x xs) ≡ ended s′
+          → onward x i (λ x. run ceiling t (suc i) x xs) ≡ completed s′
           → onward x i (λ x. run ceiling t (suc i) x (xs ++ ys)) ≡ run ceiling t (i + suc (length xs)) s′ ys
       go (to x) ih k =
           let e : suc i + length xs ≡ i + suc (length xs) = omega arith in
@@ -109,7 +109,7 @@ module _ (ceiling : ℕ) (t : Table) where
 
 pub record Reached (ceiling : ℕ) (t : Table) (l : List ℕ) (start : State) (i : ℕ) (s : State) : Type 0 where
   pub within : i ≤ moveCount l
-  pub so-far : run ceiling t 0 (stateIn start) (movesBefore l i) ≡ ended (stateIn s)
+  pub so-far : run ceiling t 0 (stateIn start) (movesBefore l i) ≡ completed (stateIn s)
   pub workable : Workable s ceiling
 
 pub reached-start : {ceiling : ℕ} (t : Table) (l : List ℕ) {s : State} → Workable s ceiling → Reached ceiling t l s 0 s

@@ -22,13 +22,14 @@ pub struct Ran {
     pub left: Extent,
 }
 
-// The move at place i of a log, decided and made. Its maker is i + 1: the maker 0 is the start.
+// The move at place i of a log, decided and made. Its maker is i + 1: the maker 0 is the start. What it
+// leaves is handed on field by field: loaded as a whole, it would wait for the stores of its parts.
 pub fn make_at<'a>(
     table: &'a [u32],
     starts: &'a [u32; 65],
-    owners: &mut [u32; 1024],
+    owners: &mut [u16; 1024],
     items: &mut [u32; 1024],
-    origins: &mut [u32; 1024],
+    origins: &mut [u16; 1024],
     at: Extent,
     log: &'a [u32],
     i: usize,
@@ -41,7 +42,7 @@ pub fn make_at<'a>(
         (held (now (owners .exit)) (now (items .exit)) (now (origins .exit)) (r .left)) ⌝ }
 {
     let mv = move_at(log, i);
-    make(
+    let made = make(
         table,
         starts,
         owners,
@@ -51,16 +52,22 @@ pub fn make_at<'a>(
         mv,
         (i + 1) as u32,
         ceiling,
-    )
+    );
+    let verdict = made.verdict;
+    let at = made.left;
+    let len = at.len;
+    let next = at.next;
+    let left = Extent { len, next };
+    Made { verdict, left }
 }
 
 // The moves of the log one after another, to the first that is refused.
 pub fn run_log<'a>(
     table: &'a [u32],
     starts: &'a [u32; 65],
-    owners: &mut [u32; 1024],
+    owners: &mut [u16; 1024],
     items: &mut [u32; 1024],
-    origins: &mut [u32; 1024],
+    origins: &mut [u16; 1024],
     start: Extent,
     log: &'a [u32],
     ceiling: usize,

@@ -39,9 +39,9 @@ fn put_line(lines: &mut [u32], i: usize, answer: u32, left: Extent)
 pub fn trace<'a>(
     table: &'a [u32],
     starts: &'a [u32; 65],
-    owners: &mut [u32; 1024],
+    owners: &mut [u16; 1024],
     items: &mut [u32; 1024],
-    origins: &mut [u32; 1024],
+    origins: &mut [u16; 1024],
     start: Extent,
     log: &'a [u32],
     lines: &mut [u32],

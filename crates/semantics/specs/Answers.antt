@@ -8,7 +8,7 @@ use Rattle.lists.specs.Lists.{over}
 use Rattle.semantics.specs.Table.{sizesOf, tableSizesOk, tableContentsOk, tableOf}
 use Rattle.semantics.specs.State.{State, maxEntries, stateSizesOk, entriesOk, stateOf, stateWords}
 use Rattle.semantics.specs.Move.{unless, firstFault, Move, moveOk, moveOf, Stepped, to, refused, stepWords}
-use Rattle.semantics.specs.Log.{moveCount, movesOf, logSizesOk, logWords, Ran, ended, stopped, run}
+use Rattle.semantics.specs.Log.{moveCount, movesOf, logSizesOk, logWords, Ran, completed, stopped, run}
 use Rattle.semantics.specs.Serial.{beginsEmit, anyOpen, serial, serialFits}
 use Rattle.semantics.specs.declared.Refusal.{Refusal}
 use Rattle.semantics.specs.declared.Refusal.the-variants.{TableSizes, TableContents, StateSizes, StateContents, MoveForm, TargetTooShort}
@@ -142,7 +142,7 @@ makeMoveTarget t s m target = targetAfter (moveResult lineCeiling t s m target) 
 -- ---- the run
 
 abbrev pub ranResult : Ran → Result
-ranResult (ended s) = write (stateWords s)
+ranResult (completed s) = write (stateWords s)
 ranResult (stopped i r) = refuseMove i r
 
 -- what the run and the serial log ask of table, state and log: 1, 2, 3, 4, 13
@@ -190,7 +190,7 @@ serialEndFaults ceiling t s l end = unless (not (anyOpen end)) TransactionOpen �
 
 abbrev pub serialAfter : ℕ → List ℕ → List ℕ → List ℕ → Ran → Result
 serialAfter ceiling t s l (stopped i r) = refuseMove i r
-serialAfter ceiling t s l (ended end) = unlessDenied (firstFault (serialEndFaults ceiling t s l end)) (write (logWords (serialOf t s l)))
+serialAfter ceiling t s l (completed end) = unlessDenied (firstFault (serialEndFaults ceiling t s l end)) (write (logWords (serialOf t s l)))
 
 unfoldable pub serialResult : ℕ → List ℕ → List ℕ → List ℕ → List ℕ → Result
 serialResult ceiling t s l target =

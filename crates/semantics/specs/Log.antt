@@ -52,7 +52,7 @@ logWords ms = length ms ∷ map headOf ms ++ allPicks ms
 -- ---- the run
 
 pub data Ran : Type 0 where
-  ended : State → Ran
+  completed : State → Ran
   stopped : ℕ → Refusal → Ran
 
 abbrev pub onward : Stepped → ℕ → (State → Ran) → Ran
@@ -62,5 +62,5 @@ onward (refused r) i rest = stopped i r
 -- Each move is made on what the one before it left, and the first that is refused ends the run with its place and its reason (16). The first of these moves
 -- has the place i, and so the maker i + 1.
 unfoldable pub run : ℕ → Table → ℕ → State → List (List ℕ) → Ran
-run ceiling t i s [] = ended s
+run ceiling t i s [] = completed s
 run ceiling t i s (m ∷ ms) = onward (stepWords ceiling t (suc i) s m) i (λ s′. run ceiling t (suc i) s′ ms)

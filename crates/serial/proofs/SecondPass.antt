@@ -1,14 +1,15 @@
 -- The second pass of the serial log: the keys, the order, and what the replay writes.
-use Prim.Native.Nat.{ℕ, zero, suc, _+_, _*_, _≤_, _<_}
-use mathlib.Core.Bool.{Bool, true, false, cond}
-use mathlib.Core.List.{List, [], _∷_, map}
-use mathlib.Core.Path.{_≡_, refl, sym, ap, subst, _∙_}
+use Prim.Native.Nat.{ℕ, _+_, _*_, _≤_, _<_}
+use mathlib.Core.Bool.{Bool, true, false}
+use mathlib.Core.List.{List, map}
+use mathlib.Core.Path.{_≡_, sym, ap, subst, _∙_}
 use native.Mathlib.Omega.{arith}
-use lib.ListN.{length, getD, take, drop, replicate}
+use lib.ListN.{length, getD, take, drop}
 use lib.Seq.{getD-take, take-at, length-take-le}
 use Rattle.lists.specs.Lists.{over}
-use Rattle.lists.specs.Choices.{by-bool}
-use Rattle.lists.specs.Each.{All}
+use Rattle.lists.specs.Choices.{by-bool, cond-true, cond-false}
+use Rattle.lists.specs.Each.{All, All-getD, All-at}
+use Rattle.lists.specs.Padded.{getD-replicate-any}
 use Rattle.semantics.specs.Table.{tableOf}
 use Rattle.semantics.specs.State.{stateOf}
 use Rattle.semantics.specs.Log.{moveCount, logWords}
@@ -34,28 +35,6 @@ use Rattle.serial_laws.specs.Keys.{Told, keysBy, recorded-told}
 use Rattle.serial_laws.specs.ByKey.{arranged-below}
 use Rattle.serial_laws.specs.Facts.{actsIn, orderIn, SerialFacts, serial-facts}
 use Rattle.serial.specs.Serialized.{Sortable, SortedAs, Reorderable, ReorderedAs, WrittenAs}
-
-cond-true : {A : Type 0} (x y : A) {b : Bool} → b ≡ true → cond b x y ≡ x
-cond-true x y h = rw h
-
-cond-false : {A : Type 0} (x y : A) {b : Bool} → b ≡ false → cond b x y ≡ y
-cond-false x y h = rw h
-
-zeros-getD : (n p : ℕ) → _≡_ {A = ℕ} (getD (replicate n 0) p 0) 0
-zeros-getD zero p = refl
-zeros-getD (suc n) zero = refl
-zeros-getD (suc n) (suc p) = zeros-getD n p
-
-module _ {A : Type 0} (P : A → Type 0) (d : A) where
-  All-getD : (xs : List A) (j : ℕ) → All P xs → j < length xs → P (getD xs j d)
-  All-getD [] j h k = absurd (omega arith)
-  All-getD (x ∷ xs) zero h k = h .0
-  All-getD (x ∷ xs) (suc j) h k = All-getD xs j (h .1) (omega arith)
-
-  -- the elements at these places
-  All-at : (xs : List A) (ps : List ℕ) → All P xs → All (λ p. p < length xs) ps → All P (map (λ p. getD xs p d) ps)
-  All-at xs [] h k = tt
-  All-at xs (p ∷ ps) h k = (All-getD xs p h (k .0), All-at xs ps h (k .1))
 
 -- ---- the order, with the count as the code has it
 
@@ -90,7 +69,7 @@ module _ (t index s l origins members ends target : List ℕ) (k : Reorderable t
         places = facts .all-places;
         each = k .recordings .each;
         begun = facts .begun;
-        ends = λ p h. k .recordings .ends p h ∙ ap (λ (e : ℕ). endAfter p e (actsIn t s l)) (zeros-getD 1024 p);
+        ends = λ p h. k .recordings .ends p h ∙ ap (λ (e : ℕ). endAfter p e (actsIn t s l)) (getD-replicate-any 1024 p 0);
       }
 
   module _ (keys : List ℕ) (found : KeysOf l members ends (moveCount l) keys) where

@@ -9,7 +9,7 @@ use Rattle.semantics.specs.Table.{sizesOf, numbersOf, tableOf}
 use Rattle.semantics.specs.State as semantics
 use Rattle.semantics.specs.State.{stateOf}
 use Rattle.semantics.specs.Move.{moveOf}
-use Rattle.semantics.specs.Log.{moveCount, movesOf, logSizesOk, logWords, ended}
+use Rattle.semantics.specs.Log.{moveCount, movesOf, logSizesOk, logWords, completed}
 use Rattle.semantics.specs.Serial.{beginsEmit, anyOpen, acts}
 use Rattle.semantics.specs.Answers.{Result, write, refuse, outcomeOf, targetAfter, stateVerdict, lineCeiling, runOf, serialOf, serialFitsOf, serialAfter}
 use Rattle.semantics.specs.declared.Refusal.the-variants.{SerialTooManyEntries}
@@ -47,7 +47,7 @@ pub record SerializedAs (t s l before after : List ℕ) (o : Outcome) : Type 0 w
 pub record Reorderable (t index s l origins members ends target : List ℕ) : Type 0 where
   pub begun : Tested t index s l target
   pub end : semantics.State
-  pub ran : runOf lineCeiling t s l ≡ ended end
+  pub ran : runOf lineCeiling t s l ≡ completed end
   pub shut : anyOpen end ≡ false
   pub recordings : Recordings (tableOf t) l (acts (tableOf t) 0 (stateOf s) (map (moveOf (tableOf t)) (movesOf l))) origins members (replicate 1024 0) ends
   pub record-sizes : (4 * moveCount l ≤ length origins) × (length members ≡ 1024) × (length ends ≡ 1024)

@@ -15,24 +15,24 @@ use semantics::Outcome;
 use semantics::Refusal;
 use semantics::Verdict;
 use state::State;
-use state::any_open;
+use state::any_owned;
 use state::load;
 use words::copy::copy_words;
 
 // The places of the log's moves in the serial order.
 fn order_log<'a>(
     log: &'a [u32],
-    members: &'a [u32; 1024],
-    ended: &'a [u32; 1024],
-    order: &mut [u32; 1024],
+    members: &'a [u16; 1024],
+    ended: &'a [u16; 1024],
+    order: &mut [u16; 1024],
 )
     requires { ⌜ Sortable (now log) (now members) (now ended) × (length (now order) ≡ 1024) ⌝ }
     ensures { λ _. ⌜ SortedAs (now (log .entry)) (now (members .entry)) (now (ended .entry)) (now (order .exit)) ⌝ }
 {
     let k = count_of(log);
-    let mut keys = [0u32; 1024];
+    let mut keys = [0u16; 1024];
     keys_of(log, members, ended, k, &mut keys);
-    let mut starts = [0u32; 1024];
+    let mut starts = [0u16; 1024];
     order_of(&keys, k, &mut starts, order);
 }
 
@@ -49,26 +49,27 @@ fn written(fits: bool, k: usize, out: &[u32], target: &mut [u32]) -> Outcome
     Outcome::Written(n as u32)
 }
 
-// The second pass, on the same columns: the log's moves in serial order.
+// The second pass, on the same columns: the log's moves in serial order. They are written into a room of their own,
+// since 17 may be found midway.
 fn reordered<'a>(
     table: &'a [u32],
     starts: &'a [u32; 65],
     state: &'a [u32],
     log: &'a [u32],
-    wanted: &'a [u32],
-    members: &'a [u32; 1024],
-    ended: &'a [u32; 1024],
-    owners: &mut [u32; 1024],
+    wanted: &'a [u16],
+    members: &'a [u16; 1024],
+    ended: &'a [u16; 1024],
+    owners: &mut [u16; 1024],
     items: &mut [u32; 1024],
-    origins: &mut [u32; 1024],
-    out: &mut [u32],
+    origins: &mut [u16; 1024],
+    room: &mut [u32],
     target: &mut [u32],
 ) -> Outcome
     requires { ⌜ Reorderable (now table) (now starts) (now state) (now log) (now wanted) (now members) (now ended) (now target)
-        × Arrays (now owners) (now items) (now origins) × (1 + 5 * moveCount (now log) ≤ length (now out)) ⌝ }
+        × Arrays (now owners) (now items) (now origins) × (1 + 5 * moveCount (now log) ≤ length (now room)) ⌝ }
     ensures { λ r. ⌜ ReorderedAs (now (table .entry)) (now (state .entry)) (now (log .entry)) (now (target .entry)) (now (target .exit)) r ⌝ }
 {
-    let mut order = [0u32; 1024];
+    let mut order = [0u16; 1024];
     order_log(log, members, ended, &mut order);
     let at = load(state, owners, items, origins);
     let fits = replay(
@@ -83,9 +84,9 @@ fn reordered<'a>(
         wanted,
         members,
         State::MAX_ENTRIES,
-        out,
+        room,
     );
-    written(fits, count_of(log), out, target)
+    written(fits, count_of(log), room, target)
 }
 
 // The first pass, and what it may find: 16, then 15 at the end.
@@ -94,7 +95,7 @@ fn serialized<'a>(
     starts: &'a [u32; 65],
     state: &'a [u32],
     log: &'a [u32],
-    wanted: &mut [u32],
+    wanted: &mut [u16],
     out: &mut [u32],
     target: &mut [u32],
 ) -> Outcome
@@ -106,9 +107,9 @@ fn serialized<'a>(
     let mut items = s.items;
     let mut origins = s.origins;
     let at = load(state, &mut owners, &mut items, &mut origins);
-    let mut members = [0u32; 1024];
-    let mut ended = [0u32; 1024];
-    let mut begun = [0u32; 1024];
+    let mut members = [0u16; 1024];
+    let mut ended = [0u16; 1024];
+    let mut begun = [0u16; 1024];
     let ran = record(
         table,
         starts,
@@ -127,7 +128,7 @@ fn serialized<'a>(
     if let Verdict::Denied(refusal) = verdict {
         return Outcome::MoveRefused(ran.place, refusal);
     }
-    if any_open(&owners, ran.left.len) {
+    if any_owned(&owners, ran.left.len) {
         return Outcome::Refused(Refusal::TransactionOpen);
     }
     reordered(
@@ -159,11 +160,11 @@ pub fn serialize_log<'a>(
     ensures { λ r. ⌜ SerializedAs (now (table .entry)) (now (state .entry)) (now (log .entry)) (now (target .entry)) (now (target .exit)) r ⌝ }
 {
     if count_of(log) <= 128 {
-        let mut wanted = [0u32; 512];
+        let mut wanted = [0u16; 512];
         let mut out = [0u32; 641];
         return serialized(table, starts, state, log, &mut wanted, &mut out, target);
     }
-    let mut wanted = [0u32; 4096];
+    let mut wanted = [0u16; 4096];
     let mut out = [0u32; 5121];
     serialized(table, starts, state, log, &mut wanted, &mut out, target)
 }

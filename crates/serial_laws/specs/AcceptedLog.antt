@@ -1,14 +1,13 @@
 -- The laws for a log of decoded moves, accepted from a state without open transactions and ending in one.
-use Prim.Native.Nat.{ℕ, zero, suc, _+_, _-_, _≤_, _<_}
+use Prim.Native.Nat.{ℕ, suc, _+_, _-_, _≤_, _<_}
 use mathlib.Core.Bool.{true, false, false≢true}
 use mathlib.Core.List.{List, [], _∷_, _++_, map, map-append}
 use mathlib.Core.Path.{_≡_, refl, sym, ap, subst, _∙_}
-use native.Mathlib.Nat.{not-suc-le-zero}
 use native.Mathlib.Omega.{arith}
-use lib.ListN.{length, getD}
+use lib.ListN.{length, getD, length-map}
 use Rattle.lists.specs.Lists.{all, any, isEmpty}
 use Rattle.lists.specs.Choices.{by-bool}
-use Rattle.lists.specs.Each.{All, All-map, All-unmap, empty-nil}
+use Rattle.lists.specs.Each.{All, All-map, All-unmap, All-getD, empty-nil}
 use Rattle.lists.specs.Members.{Among}
 use Rattle.semantics.specs.Table.{Table}
 use Rattle.semantics.specs.State.{Origin, State}
@@ -39,11 +38,6 @@ use Rattle.lists.specs.Splits.{All-split, All-among}
 use Rattle.serial_laws.specs.Places.{noAct, places-below}
 use Rattle.serial_laws.specs.MadeAgain.{EndsSome, ends-some, replays}
 use Rattle.serial_laws.specs.Room.{room-along}
-
-getD-below : {A : Type 0} (key : A → ℕ) (n : ℕ) (xs : List A) → All (λ x. key x < n) xs → (i : ℕ) → i < length xs → getD (map key xs) i 0 < n
-getD-below key n [] h i l = absurd (not-suc-le-zero l)
-getD-below key n (x ∷ xs) h zero l = h .0
-getD-below key n (x ∷ xs) h (suc i) l = getD-below key n xs (h .1) i (omega arith)
 
 module _ (t : Table) (right : TableRight t) (few : length (t .rules) ≤ 64) (ne : beginsEmit t ≡ false) (s : State) (S : Start (t .sizes) s) (ms : List Move)
     (known : All (RuleKnown t) ms) (e : State) (run : Accepted t 0 s ms e) (cl : anyOpen e ≡ false) where
@@ -127,7 +121,9 @@ module _ (t : Table) (right : TableRight t) (few : length (t .rules) ≤ 64) (ne
   pub keys-below : (members : List ℕ) → All (Told members) log-acts → (i : ℕ) → i < length ms → getD (keysBy log-acts members) i 0 < length ms
   keys-below members told i h =
       let n = deeds-length t 0 s ms in
-      let k = getD-below (λ x. x .key) (0 + length ds) ds bounds i (omega arith) in
+      let Below : ℕ → Type 0 = λ k. k < 0 + length ds in
+      let k = All-getD Below 0 (map (λ x. x .key) ds) i (All-unmap (λ x. x .key) Below ds bounds)
+      (omega (arith, length-map ds (λ x. x .key))) in
       let q = ap (λ (l : List ℕ). getD l i 0) (keys-of members told) in
       omega arith
 

@@ -1,5 +1,5 @@
 -- The log's acts as the arrays of the first pass hold them, and the replay of the second pass.
-use Prim.Native.Nat.{ℕ, suc, _-_, _*_, _/_, _≤_}
+use Prim.Native.Nat.{ℕ, suc, _-_, _*_}
 use mathlib.Core.Path.{_≡_}
 use mathlib.Core.Bool.{Bool, true, false, _&&_, cond}
 use mathlib.Core.List.{List, [], _∷_, map}
@@ -12,7 +12,7 @@ use Rattle.semantics.specs.Move.{Move, react, commit, abort, allowed, moveOk, m
 use Rattle.semantics.specs.Log.{moveAt, headOf, fourPicks}
 use Rattle.semantics.specs.Serial.{Act, after, isEnd, isInner, sameOrigin, placeOf, again, fits}
 use Rattle.semantics.specs.declared.Verdict.the-variants.{Allowed}
-use Rattle.words.specs.Origin.{originOf}
+use Rattle.words.specs.Origin.{Maker, makerIn, originOf}
 
 -- o is the origin of a member concerned
 abbrev pub concerns : Act → Origin → Bool
@@ -20,7 +20,7 @@ concerns a o = any (sameOrigin o) (a .members)
 
 -- the members concerned were begun in the log
 abbrev pub Begun : Act → Type 0
-Begun a = (o : Origin) → concerns a o ≡ true → (1 ≤ o .maker) × (o .maker ≤ 1024)
+Begun a = (o : Origin) → concerns a o ≡ true → Maker (o .maker)
 
 -- ---- the first pass
 
@@ -42,7 +42,7 @@ endAfter p e (a ∷ rest) = endAfter p (cond (endsBegun p a) (a .place) e) rest
 
 -- the key of an act: its own place, or the place of the end of its member
 abbrev pub keyBy : List Act → ℕ → Act → ℕ
-keyBy all member a = cond (isInner a) (endAfter (member / 1024 - 1) 0 all) (a .place)
+keyBy all member a = cond (isInner a) (endAfter (makerIn member - 1) 0 all) (a .place)
 
 -- ---- the second pass
 

@@ -3,6 +3,7 @@ use Prim.Native.Nat.{ℕ, zero, suc, _+_, _<_}
 use mathlib.Core.Bool.{Bool, true, false}
 use mathlib.Core.List.{List, [], _∷_, _++_, map, map-append}
 use mathlib.Core.Path.{_≡_, refl, sym, ap, _∙_}
+use native.Mathlib.Nat.{zero-add}
 use native.Mathlib.Omega.{arith}
 use lib.Dec.{eqb}
 use lib.ListN.{length, getD, length-map}
@@ -46,9 +47,6 @@ module _ (d : Act) (ds : List Deed) where
       map-append at (placesOfKey e 0 keys) (placesFrom (suc e) n keys)
       ∙ (λ j. of-key actOf d (λ a. a .key) (map actOf ds) e 0 ds (λ i. ap at (zero-add i)) j ++ from-key (suc e) n j)
       ∙ sym (map-append actOf (keep (keyIs e) ds) (arrange (suc e) n ds))
-    where
-      zero-add : (i : ℕ) → 0 + i ≡ i
-      zero-add i = omega arith
 
   pub arranged-acts : map at (arrangedBy keys) ≡ map actOf (arrange 0 (length ds) ds)
   unfolding arrangedBy

@@ -9,7 +9,7 @@ use Rattle.lists.specs.Lists.{any, countIf, oneIf}
 use Rattle.lists.specs.Tests.{eqb-swap}
 use Rattle.lists.specs.Choices.{by-bool, and-left, and-right}
 use Rattle.lists.specs.Counting.{count-append}
-use Rattle.lists.specs.Each.{All, count-same, count-zero}
+use Rattle.lists.specs.Each.{All, any-same, count-same, count-zero}
 use Rattle.lists.specs.Members.{Among, any-some, among-left}
 use Rattle.semantics.specs.Table.{Table}
 use Rattle.semantics.specs.State.{Origin}
@@ -22,10 +22,6 @@ use Rattle.serial_laws.specs.Acts.{concerns, endsBegun, endAfter}
 use Rattle.lists.specs.Splits.{among-split, All-split, All-among}
 
 -- ---- tests on the members of an act
-
-any-same : {A : Type 0} (p q : A → Bool) (xs : List A) → All (λ x. p x ≡ q x) xs → any p xs ≡ any q xs
-any-same p q [] h = refl
-any-same p q (x ∷ xs) h = λ j. h .0 j || any-same p q xs (h .1) j
 
 All-concerned : (P : Origin → Type 0) (os : List Origin) → ((o : Origin) → any (sameOrigin o) os ≡ true → P o) → All P os
 All-concerned P [] h = tt

@@ -13,7 +13,7 @@ use Rattle.lists.specs.Each.{All, All-map}
 use Rattle.semantics.specs.Table.{tableOf}
 use Rattle.semantics.specs.State.{Origin, State, stateOf}
 use Rattle.semantics.specs.Move.{moveOf}
-use Rattle.semantics.specs.Log.{moveCount, moveAt, movesOf, logSizesOk, logWords, ended}
+use Rattle.semantics.specs.Log.{moveCount, moveAt, movesOf, logSizesOk, logWords, completed}
 use Rattle.semantics.specs.Serial.{Act, beginsEmit, anyOpen, acts, ordered, replayed, serial, serialFits}
 use Rattle.semantics.specs.Answers.{stateVerdict, runOf, serialOf, serialFitsOf, serialResult, write, refuse}
 use Rattle.semantics.specs.declared.Refusal.the-variants.{SerialTooManyEntries}
@@ -70,7 +70,7 @@ pub record SerialFacts (ceiling : ℕ) (T S L : List ℕ) : Type 0 where
       → serialResult ceiling T S L target ≡ cond (serialFitsOf ceiling T S L) (write (logWords (serialOf T S L))) (refuse SerialTooManyEntries)
 
 module _ (ceiling : ℕ) (T S L : List ℕ) (e : State) (ok : stateVerdict T S ≡ Allowed) (ne : beginsEmit (tableOf T) ≡ false) (op : anyOpen (stateOf S) ≡ false)
-    (lo : logSizesOk L ≡ true) (ran : runOf ceiling T S L ≡ ended e) (cl : anyOpen e ≡ false) where
+    (lo : logSizesOk L ≡ true) (ran : runOf ceiling T S L ≡ completed e) (cl : anyOpen e ≡ false) where
   serializable : Serializable ceiling T S L e
   serializable = demand3 ceiling T S L e ok ne op lo ran cl
 

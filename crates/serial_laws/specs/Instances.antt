@@ -7,23 +7,24 @@ use Rattle.semantics.specs.Table.{tableSizesOk, numbersOk, atomOk, ruleOk, rule
 use Rattle.semantics.specs.State.{State, stateOf, stateSizesOk, entryOk, entriesOk}
 use Rattle.semantics.specs.Move.{moveOk, moveOf, reacted, allowed, applied, step, stepWords}
 use Rattle.semantics.specs.Move as Move
-use Rattle.semantics.specs.Log.{logSizesOk, Ran, ended, stopped, run}
+use Rattle.semantics.specs.Log.{logSizesOk, Ran, completed, stopped, run}
 use Rattle.semantics.specs.Serial.{after, acts}
 use Rattle.semantics.specs.Answers.{tableVerdict, stateOwnVerdict, stateVerdict, lineCeiling, runOf}
 use Rattle.semantics.specs.Cases.{twoLot, start, logA, logD, logOf}
+use Rattle.words.specs.Origin.{firstProduct, makerIn, indexIn}
 use Rattle.serial_laws.specs.Order.{arrangedBy}
 use Rattle.serial_laws.specs.Keys.{Told}
 use Rattle.serial_laws.specs.Facts.{actsIn, orderIn, SerialFacts, serial-facts}
 
 abbrev endOf : Ran → State
-endOf (ended e) = e
+endOf (completed e) = e
 endOf (stopped i r) = record { next = 0; entries = [] }
 
 abbrev endOfLog : List (List ℕ) → State
 endOfLog ms = endOf (runOf lineCeiling twoLot start (logOf ms))
 
 abbrev members : List ℕ
-members = 1024 ∷ 2048 ∷ 1024 ∷ 2048 ∷ 2048 ∷ 1024 ∷ []
+members = map firstProduct (0 ∷ 1 ∷ 0 ∷ 1 ∷ 1 ∷ 0 ∷ [])
 
 abbrev placesBy : List (List ℕ) → List ℕ
 placesBy ms = map (λ a. a .place) (orderIn twoLot start (logOf ms))
@@ -33,11 +34,11 @@ unfolding twoLot start logA tableSizesOk numbersOk atomOk ruleOk rulesOk tableCo
 facts-a = serial-facts lineCeiling twoLot start (logOf logA) (endOfLog logA) refl refl refl refl refl refl
 
 told-a : All (Told members) (actsIn twoLot start (logOf logA))
-unfolding twoLot start logA ruleOf tableOf stateOf moveOf reacted Move.ended allowed applied step after acts
+unfolding twoLot start logA ruleOf tableOf stateOf moveOf reacted Move.ended allowed applied step after acts makerIn indexIn
 told-a = (λ _. refl, (λ _. refl, (λ _. refl, (λ _. refl, (λ _. refl, (λ _. refl, tt))))))
 
 pub order-a : placesBy logA ≡ 0 ∷ 1 ∷ 2 ∷ 3 ∷ 4 ∷ 5 ∷ []
-unfolding twoLot start logA ruleOf tableOf stateOf moveOf reacted Move.ended allowed applied step after acts arrangedBy
+unfolding twoLot start logA ruleOf tableOf stateOf moveOf reacted Move.ended allowed applied step after acts arrangedBy makerIn
 order-a = facts-a .order-places members told-a
 
 facts-d : SerialFacts lineCeiling twoLot start (logOf logD)
@@ -45,9 +46,9 @@ unfolding twoLot start logD tableSizesOk numbersOk atomOk ruleOk rulesOk tableCo
 facts-d = serial-facts lineCeiling twoLot start (logOf logD) (endOfLog logD) refl refl refl refl refl refl
 
 told-d : All (Told members) (actsIn twoLot start (logOf logD))
-unfolding twoLot start logD ruleOf tableOf stateOf moveOf reacted Move.ended allowed applied step after acts
+unfolding twoLot start logD ruleOf tableOf stateOf moveOf reacted Move.ended allowed applied step after acts makerIn indexIn
 told-d = (λ _. refl, (λ _. refl, (λ _. refl, (λ _. refl, (λ _. refl, (λ _. refl, tt))))))
 
 pub order-d : placesBy logD ≡ 1 ∷ 3 ∷ 4 ∷ 0 ∷ 2 ∷ 5 ∷ []
-unfolding twoLot start logD ruleOf tableOf stateOf moveOf reacted Move.ended allowed applied step after acts arrangedBy
+unfolding twoLot start logD ruleOf tableOf stateOf moveOf reacted Move.ended allowed applied step after acts arrangedBy makerIn
 order-d = facts-d .order-places members told-d

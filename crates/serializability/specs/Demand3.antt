@@ -11,7 +11,7 @@ use Rattle.lists.specs.Each.{All, All-map, All-unmap}
 use Rattle.semantics.specs.Table.{Table, tableOf}
 use Rattle.semantics.specs.State.{entriesOf, ownersOf, itemsOf, State, stateOf, stateWords}
 use Rattle.semantics.specs.Move.{Move, unless, moveOk, moveOf}
-use Rattle.semantics.specs.Log.{moveCount, movesOf, logSizesOk, logWords, ended, run}
+use Rattle.semantics.specs.Log.{moveCount, movesOf, logSizesOk, logWords, completed, run}
 use Rattle.semantics.specs.Serial.{beginsEmit, anyOpen, serial, along, fits, serialFits}
 use Rattle.semantics.specs.Answers.{tableVerdict, stateVerdict, unlessDenied, logVerdict, runOf, ranResult, runResult, serialOf, serialFitsOf, serialResult, write, refuse}
 use Rattle.semantics.specs.declared.Refusal.the-variants.{SerialTooManyEntries}
@@ -37,7 +37,7 @@ unfolding stateOf
 state-numbered S = entries-numbered 0 (ownersOf S) (itemsOf S)
 
 module _ (ceiling : ℕ) (T S L : List ℕ) (e : State) (ok : stateVerdict T S ≡ Allowed) (ne : beginsEmit (tableOf T) ≡ false) (op : anyOpen (stateOf S) ≡ false)
-    (lo : logSizesOk L ≡ true) (ran : runOf ceiling T S L ≡ ended e) (cl : anyOpen e ≡ false) where
+    (lo : logSizesOk L ≡ true) (ran : runOf ceiling T S L ≡ completed e) (cl : anyOpen e ≡ false) where
   abbrev pub t : Table
   t = tableOf T
 
@@ -92,7 +92,7 @@ module _ (ceiling : ℕ) (T S L : List ℕ) (e : State) (ok : stateVerdict T S �
       go true = refl
       go false = refl
 
-  rerun-is : all (fits ceiling) (along t 0 s (serial t s ms)) ≡ true → run ceiling t 0 s (movesOf (logWords (serial t s ms))) ≡ ended (serial-log .end)
+  rerun-is : all (fits ceiling) (along t 0 s (serial t s ms)) ≡ true → run ceiling t 0 s (movesOf (logWords (serial t s ms))) ≡ completed (serial-log .end)
   rerun-is f = ap (run ceiling t 0 s) (moves-back (serial t s ms))
       ∙ accepted-run ceiling t 0 s (serial t s ms) (serial-log .end) (serial-log .accepted) f serial-held
 

@@ -8,7 +8,7 @@ use Rattle.semantics.specs.Table.{tableSizesOk, numbersOk, atomOk, ruleOk, rule
 use Rattle.semantics.specs.State.{State, stateOf, stateSizesOk, entryOk, entriesOk}
 use Rattle.semantics.specs.Move.{moveOk, moveOf, reacted, allowed, applied, step, stepWords}
 use Rattle.semantics.specs.Move as Move
-use Rattle.semantics.specs.Log.{logSizesOk, Ran, ended, stopped, run}
+use Rattle.semantics.specs.Log.{logSizesOk, Ran, completed, stopped, run}
 use Rattle.semantics.specs.Serial.{after, acts, again, replayed, serial, along}
 use Rattle.semantics.specs.Answers.{tableVerdict, stateOwnVerdict, stateVerdict, lineCeiling, runOf, serialOf, refuse, serialResult}
 use Rattle.semantics.specs.Cases.{twoLot, start, rule1, rule2, release, logA, logD, logOf}
@@ -17,7 +17,7 @@ use Rattle.serializability.specs.Statement.{roomAlong, Serializable}
 use Rattle.serializability.specs.Demand3.{demand3}
 
 abbrev endOf : Ran → State
-endOf (ended e) = e
+endOf (completed e) = e
 endOf (stopped i r) = record { next = 0; entries = [] }
 
 abbrev endFrom : ℕ → List ℕ → List ℕ → List (List ℕ) → State

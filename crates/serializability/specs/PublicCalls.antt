@@ -5,9 +5,8 @@ use mathlib.Core.Bool.{Bool, true, false, cond}
 use mathlib.Core.List.{List}
 use mathlib.Core.Path.{_≡_, refl, sym, ap, _∙_}
 use native.Mathlib.Omega.{arith}
-use lib.ListN.{length, take, drop}
-use lib.Seq.{take-append-seam, drop-append-seam}
-use Rattle.lists.specs.Lists.{over}
+use lib.ListN.{length, take}
+use Rattle.lists.specs.Over.{take-over, drop-over}
 use Rattle.semantics.specs.State.{State, stateWords}
 use Rattle.semantics.specs.Log.{moveCount, logWords}
 use Rattle.semantics.specs.Answers.{Result, write, refuse, answerOf, outcomeOf, targetAfter, lineCeiling, runResult, runLog, runLogTarget, serialOf, serialResult, serialize, serializeTarget}
@@ -15,14 +14,6 @@ use Rattle.semantics.specs.declared.Refusal.the-variants.{SerialTooManyEntries}
 use Rattle.semantics.specs.declared.Answer.{Answer}
 use Rattle.serializability.specs.Statement.{Serializable, roomAlong, Serialized, Rerun, PublicDemand3}
 use Rattle.serializability.specs.Demand3.{demand3}
-
--- ---- answers and targets of a result
-
-take-over : (new old : List ℕ) → take (length new) (over new old) ≡ new
-take-over new old = take-append-seam new (drop (length new) old)
-
-drop-over : (new old : List ℕ) → drop (length new) (over new old) ≡ drop (length new) old
-drop-over new old = drop-append-seam new (drop (length new) old)
 
 -- ---- the theorem
 

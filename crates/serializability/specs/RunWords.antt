@@ -12,7 +12,7 @@ use Rattle.lists.specs.Choices.{and-left, and-right}
 use Rattle.lists.specs.Each.{All}
 use Rattle.semantics.specs.Table.{Table}
 use Rattle.semantics.specs.State.{State, owned}
-use Rattle.semantics.specs.Move.{Move, react, commit, abort, moveOk, moveOf, isOpen, ended, allowed, applied, to, refused, steppedBy, step, within, stepWords}
+use Rattle.semantics.specs.Move.{Move, react, commit, abort, moveOk, moveOf, isOpen, allowed, applied, to, refused, steppedBy, step, within, stepWords}
 use Rattle.semantics.specs.Log as Log
 use Rattle.semantics.specs.Log.{stopped, onward, run}
 use Rattle.semantics.specs.Serial.{after, along, fits}
@@ -31,30 +31,30 @@ use Rattle.serializability.specs.LogWords.{moveWords, Holdable, words-ok
 
 -- ---- from words to moves
 
-not-ended : {i : ℕ} {r : Refusal} {e : State} → stopped i r ≡ Log.ended e → ⊥
+not-ended : {i : ℕ} {r : Refusal} {e : State} → stopped i r ≡ Log.completed e → ⊥
 not-ended h = let z : _≡_ {A = ℕ} 0 1 = cc in omega arith
 
-pub run-accepted : (ceiling : ℕ) (t : Table) (i : ℕ) (s : State) (ws : List (List ℕ)) (e : State) → run ceiling t i s ws ≡ Log.ended e
+pub run-accepted : (ceiling : ℕ) (t : Table) (i : ℕ) (s : State) (ws : List (List ℕ)) (e : State) → run ceiling t i s ws ≡ Log.completed e
     → Accepted t i s (map (moveOf t) ws) e × All (λ w. moveOk t w ≡ true) ws
 unfolding run stepWords step
 run-accepted ceiling t i s [] e h = (ended-inj h, tt)
   where
-    ended-inj : {s e : State} → Log.ended s ≡ Log.ended e → s ≡ e
+    ended-inj : {s e : State} → Log.completed s ≡ Log.completed e → s ≡ e
     ended-inj h = cc
 run-accepted ceiling t i s (w ∷ ws) e h = go (λ s′ k. run-accepted ceiling t (suc i) s′ ws e k) (moveOk t w) refl (allowed t s (moveOf t w)) refl h
   where
     s1 : State
     s1 = applied t (suc i) s (moveOf t w)
 
-    go : ((s′ : State) → run ceiling t (suc i) s′ ws ≡ Log.ended e → Accepted t (suc i) s′ (map (moveOf t) ws) e × All (λ w. moveOk t w ≡ true) ws)
+    go : ((s′ : State) → run ceiling t (suc i) s′ ws ≡ Log.completed e → Accepted t (suc i) s′ (map (moveOf t) ws) e × All (λ w. moveOk t w ≡ true) ws)
         → (b : Bool) → moveOk t w ≡ b → (v : Verdict) → allowed t s (moveOf t w) ≡ v
-        → onward (cond b (within ceiling (steppedBy v s1)) (refused MoveForm)) i (λ s′. run ceiling t (suc i) s′ ws) ≡ Log.ended e
+        → onward (cond b (within ceiling (steppedBy v s1)) (refused MoveForm)) i (λ s′. run ceiling t (suc i) s′ ws) ≡ Log.completed e
         → Accepted t i s (map (moveOf t) (w ∷ ws)) e × All (λ w. moveOk t w ≡ true) (w ∷ ws)
     go ih false p v q k = absurd (not-ended k)
     go ih true p (Denied r) q k = absurd (not-ended k)
     go ih true p Allowed q k = two (leb (length (s1 .entries)) ceiling) k
       where
-        two : (c : Bool) → onward (cond c (to s1) (refused TooManyEntries)) i (λ s′. run ceiling t (suc i) s′ ws) ≡ Log.ended e
+        two : (c : Bool) → onward (cond c (to s1) (refused TooManyEntries)) i (λ s′. run ceiling t (suc i) s′ ws) ≡ Log.completed e
             → Accepted t i s (map (moveOf t) (w ∷ ws)) e × All (λ w. moveOk t w ≡ true) (w ∷ ws)
         two true x = let r = ih s1 x in ((q, r .0), (p, r .1))
         two false x = absurd (not-ended x)
@@ -68,9 +68,9 @@ along-head p t i s (m ∷ ms) h = and-left (p s) (all p (along t (suc i) (after 
 
 pub accepted-run : (ceiling : ℕ) (t : Table) (i : ℕ) (s : State) (ms : List Move) (e : State) → Accepted t i s ms e → all (fits ceiling) (along t i s ms) ≡ true
     → All (Holdable t) ms
-    → run ceiling t i s (map moveWords ms) ≡ Log.ended e
+    → run ceiling t i s (map moveWords ms) ≡ Log.completed e
 unfolding run stepWords step along
-accepted-run ceiling t i s [] e a f h = ap Log.ended a
+accepted-run ceiling t i s [] e a f h = ap Log.completed a
 accepted-run ceiling t i s (m ∷ ms) e a f h =
     let q = after-allowed t (suc i) s m (a .0) in
     let s1 = applied t (suc i) s m in
@@ -80,9 +80,9 @@ accepted-run ceiling t i s (m ∷ ms) e a f h =
     go (moveOf t (moveWords m)) (words-ok t m (h .0)) (words-back t m (h .0)) (a .0) small (accepted-run ceiling t (suc i) s1 ms e (a .1) rest (h .1))
   where
     go : (m′ : Move) → moveOk t (moveWords m) ≡ true → m′ ≡ m → allowed t s m ≡ Allowed → leb (length (applied t (suc i) s m .entries)) ceiling ≡ true
-        → run ceiling t (suc i) (applied t (suc i) s m) (map moveWords ms) ≡ Log.ended e
+        → run ceiling t (suc i) (applied t (suc i) s m) (map moveWords ms) ≡ Log.completed e
         → onward (cond (moveOk t (moveWords m)) (within ceiling (steppedBy (allowed t s m′) (applied t (suc i) s m′))) (refused MoveForm)) i
-        (λ s′. run ceiling t (suc i) s′ (map moveWords ms)) ≡ Log.ended e
+        (λ s′. run ceiling t (suc i) s′ (map moveWords ms)) ≡ Log.completed e
     go m′ ok q al sm r = rw (ok, q, al, sm) r
 
 -- ---- the moves of an accepted log can be held

@@ -9,7 +9,7 @@ use lib.ListN.{length}
 use Rattle.lists.specs.Lists.{isEmpty, isIn, least}
 use Rattle.lists.specs.Choices.{by-bool, clash}
 use Rattle.lists.specs.Numbers.{least-some}
-use Rattle.lists.specs.Each.{All, All-map, All-two}
+use Rattle.lists.specs.Each.{All, All-map, All-two, All-forall}
 use Rattle.semantics.specs.Table.{Table}
 use Rattle.semantics.specs.State.{Origin}
 use Rattle.semantics.specs.Serial.{isEnd, isBegin}
@@ -89,10 +89,6 @@ module _ (t : Table) (sd : Shaped t) (G : Seen) where
           (subst (λ (x : Bool). Mark (astep t F a .cell) (cond x (least (a .touched)) v)) p (moved (λ z. absurd (clash z q)))) in omega arith
       go ih false p d q =
           let h = ih v nz (subst (λ (x : Bool). Mark (astep t F a .cell) (cond x (least (a .touched)) v)) p (moved (λ z. p))) in omega arith
-
-  All-forall : (Q : ℕ → Type 0) (P : ℕ → Deed → Type 0) (xs : List Deed) → ((v : ℕ) → Q v → All (P v) xs) → All (λ x. (v : ℕ) → Q v → P v x) xs
-  All-forall Q P [] h = tt
-  All-forall Q P (x ∷ xs) h = (λ v q. h v q .0, All-forall Q P xs (λ v q. h v q .1))
 
   -- a place is not above its key
   pub places-below-keys : (i : ℕ) (F : Seen) (xs : List Deed) → LogRuns t i F xs G → All (λ x. (i ≤ x .place) × (x .place ≤ x .key)) xs

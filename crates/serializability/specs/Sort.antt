@@ -129,7 +129,8 @@ count-ins : (p : Deed → Bool) (m : Deed) (xs : List Deed) → countIf p (ins m
 count-ins p m [] = refl
 count-ins p m (x ∷ xs) = go (leb (m .key) (x .key)) (count-ins p m xs)
   where
-    go : (b : Bool) → countIf p (ins m xs) ≡ oneIf (p m) + countIf p xs → countIf p (cond b (m ∷ x ∷ xs) (x ∷ ins m xs)) ≡ oneIf (p m) + (oneIf (p x) + countIf p xs)
+    go : (b : Bool) → countIf p (ins m xs) ≡ oneIf (p m) + countIf p xs
+        → countIf p (cond b (m ∷ x ∷ xs) (x ∷ ins m xs)) ≡ oneIf (p m) + (oneIf (p x) + countIf p xs)
     go true ih = refl
     go false ih = omega arith
 

@@ -10,7 +10,7 @@ use Rattle.lists.specs.Lists.{all, any, keep, countIf, least, upFrom}
 use Rattle.semantics.specs.Table.{Table, ruleAt, tableOf}
 use Rattle.semantics.specs.State.{Origin, Entry, State, owned, markValues, stateOf, stateWords}
 use Rattle.semantics.specs.Move.{Move, react, commit, abort, picked, entriesIn, allowed, applied, moveOf}
-use Rattle.semantics.specs.Log.{moveCount, movesOf, logSizesOk, logWords, ended}
+use Rattle.semantics.specs.Log.{moveCount, movesOf, logSizesOk, logWords, completed}
 use Rattle.semantics.specs.Serial.{beginsEmit, anyOpen, Act, originsOf, marksIn, membersOf, after, acts, isEnd, isBegin, isInner, sameOrigin, belongsTo, ordered, serial, along, fits}
 use Rattle.semantics.specs.Answers.{stateVerdict, lineCeiling, runOf, serialOf, write, refuse, runResult, runLog, runLogTarget, serialResult, serialize, serializeTarget}
 use Rattle.semantics.specs.declared.Refusal.the-variants.{SerialTooManyEntries}
@@ -147,7 +147,7 @@ pub record Serializable (ceiling : ℕ) (T S L : List ℕ) (e : State) : Type 0 
 -- transaction at the start (15), a well-formed log (13) whose run is accepted (16), and no open transaction at its end (15).
 abbrev pub Demand3 : Type 0
 Demand3 = (ceiling : ℕ) (T S L : List ℕ) (e : State) → stateVerdict T S ≡ Allowed → beginsEmit (tableOf T) ≡ false → anyOpen (stateOf S) ≡ false
-    → logSizesOk L ≡ true → runOf ceiling T S L ≡ ended e → anyOpen e ≡ false → Serializable ceiling T S L e
+    → logSizesOk L ≡ true → runOf ceiling T S L ≡ completed e → anyOpen e ≡ false → Serializable ceiling T S L e
 
 -- ---- the same of the public calls
 
@@ -174,5 +174,5 @@ pub record Serialized (T S L : List ℕ) (end : State) (target : List ℕ) : Typ
 -- Under the premises of demand 3, for the line's 1,024 entries.
 abbrev pub PublicDemand3 : Type 0
 PublicDemand3 = (T S L : List ℕ) (e : State) → stateVerdict T S ≡ Allowed → beginsEmit (tableOf T) ≡ false → anyOpen (stateOf S) ≡ false
-    → logSizesOk L ≡ true → runOf lineCeiling T S L ≡ ended e → anyOpen e ≡ false
+    → logSizesOk L ≡ true → runOf lineCeiling T S L ≡ completed e → anyOpen e ≡ false
     → (h : Serializable lineCeiling T S L e) × ((target : List ℕ) → 1 + 5 * moveCount L ≤ length target → Serialized T S L (h .serial .end) target)

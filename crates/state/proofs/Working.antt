@@ -1,5 +1,5 @@
 -- Laws of the working state: an entry of the start, and what its words are.
-use Prim.Native.Nat.{ℕ, _+_, _*_, _/_, _%_, _≤_, _<_}
+use Prim.Native.Nat.{ℕ, _+_, _*_, _≤_, _<_}
 use mathlib.Core.Path.{_≡_, refl, sym, _∙_}
 use mathlib.Core.List.{List, [], _∷_, _++_, map}
 use native.Mathlib.Omega.{arith}
@@ -10,6 +10,7 @@ use Rattle.lists.specs.Over.{Pasted, over-two, over-column}
 use Rattle.lists.specs.Rows.{rows, length-rows, rows-ext, rows-take, map-rows, tails-rows}
 use Rattle.lists.specs.Filled.{Filled}
 use Rattle.words.specs.Copy.{copied-length, copied-each}
+use Rattle.words.specs.Origin.{origin-of-start}
 use Rattle.semantics.specs.Words.{itemWord}
 use Rattle.semantics.specs.State.{entryOf, entriesOf, entryCount, nextOf, ownersOf, itemsOf, stateOf, stateWords}
 use Rattle.wellformed.specs.RoundTrip.{itemWord-fields}
@@ -20,10 +21,7 @@ use Rattle.state.specs.declared.State.{State}
 
 -- an entry of the start has its place as its origin
 from-place : (i o w : ℕ) → i < 1024 → entryFrom o w i ≡ entryOf i o w
-from-place i o w h =
-    let m : i / 1024 ≡ 0 = omega arith in
-    let x : i % 1024 ≡ i = omega arith in
-    rw (m, x)
+from-place i o w h = rw (origin-of-start i h)
 
 -- a column of the words copied
 pub copied-column : (from column after : List ℕ) (n : ℕ) → n ≤ length from → length column ≡ 1024 → n ≤ 1024 → after ≡ over (take n from) column

@@ -17,6 +17,7 @@ use Rattle.semantics.specs.Answers.{tableVerdict}
 use Rattle.semantics.specs.declared.Refusal.{Refusal}
 use Rattle.semantics.specs.declared.Verdict.{Verdict}
 use Rattle.semantics.specs.declared.Verdict.the-variants.{Allowed, Denied}
+use Rattle.wellformed.specs.Preservation.{end-id}
 use Rattle.rules.specs.declared.decode.Rule.{Rule}
 use Rattle.rules.specs.Decode.{Decodes}
 use Rattle.state.specs.declared.State.{State}
@@ -27,6 +28,7 @@ use Rattle.reaction.specs.Decoded.{ruleIn}
 use Rattle.state.specs.Lent.{stateFrom}
 use Rattle.reaction.specs.Verdict.{reactVerdict}
 use Rattle.ending.specs.End.{endVerdict}
+use Rattle.words.specs.Origin.{Maker}
 use Rattle.products.specs.Narrow.{rule-ready}
 use Rattle.products.specs.React.{Permitted}
 use Rattle.step.specs.declared.make.Made.{Made}
@@ -64,7 +66,7 @@ module _ {T : List ℕ} {x : Rule} {head : ℕ} {picks : List ℕ} (g : Chosen T
       reaction-refused i v h = made-refused w form v (sym verdict-is ∙ h)
 
       module _ (h : r ≡ Allowed) where
-        pub reaction-asked : {maker : ℕ} → maker ≤ 1024 → Permitted x picks maker (held os ws gs at)
+        pub reaction-asked : {maker : ℕ} → Maker maker → Permitted x picks maker (held os ws gs at)
         reaction-asked {maker} l = record {
           arrays = w .arrays;
           fits = omega (arith, w .bounds .fits, w .limit);
@@ -84,6 +86,7 @@ module _ {T : List ℕ} {x : Rule} {head : ℕ} {picks : List ℕ} (g : Chosen T
 pub record Ending (t : Table) (head : ℕ) (picks : List ℕ) : Type 0 where
   pub kind : headKind head ≡ 0 → ⊥
   pub small : headKind head ≤ 2
+  pub narrow : headNumber head < 65536
   pub form : moveOk t (head ∷ picks) ≡ true
 
 -- 5: the test of its form
@@ -92,10 +95,12 @@ pub end-formed : (t : Table) (head : ℕ) (picks : List ℕ) → length picks �
 end-formed t head picks four k e h =
     let form = sym e ∙ h in
     let range = and-left (leb (headKind head) 2 && leb 1 (headNumber head) && leb (headNumber head) 65535) (all isZero (drop 0 picks)) form in
+    let ok = sym (form-end t head picks four k) ∙ form in
     record {
       kind = k;
       small = leb-true (headKind head) 2 (and-three (leb (headKind head) 2) (leb 1 (headNumber head)) (leb (headNumber head) 65535) range .0);
-      form = sym (form-end t head picks four k) ∙ form;
+      narrow = omega (arith, end-id t (head ∷ picks) ok k);
+      form = ok;
     }
 
 -- with its kind and its id as they were read

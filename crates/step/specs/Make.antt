@@ -15,6 +15,7 @@ use Rattle.table.specs.Index.{Starts}
 use Rattle.state.specs.declared.State.{State}
 use Rattle.state.specs.Working.{stateIn}
 use Rattle.state.specs.Arrays.{Arrays, HoldsIn}
+use Rattle.words.specs.Origin.{Maker}
 use Rattle.step.specs.declared.make.Made.{Made}
 use Rattle.step.specs.Bounds.{Bounded, applied-bounded}
 use Rattle.semantics.specs.State as semantics
@@ -33,7 +34,7 @@ pub record Workable (s : State) (ceiling : ℕ) : Type 0 where
 -- what a move asks: its table, its maker, and the columns lent to it
 pub record Makeable (t index : List ℕ) (maker ceiling : ℕ) (s : State) : Type 0 where
   pub indexed : Indexed t index
-  pub maker-fits : maker ≤ 1024
+  pub maker-fits : Maker maker
   pub workable : Workable s ceiling
 
 -- s′ is what the move w, of this maker, leaves of s; the verdict says why it is refused, and then s is as it was

@@ -29,10 +29,13 @@ pub fn end_form(mv: MoveWords) -> bool
 {
     let picks = mv.picks;
     let id = head::number_of(mv.head);
-    (head::kind_of(mv.head) <= head::ABORT) & (1 <= id) & (id <= 65535) & unused_zero(picks, 0)
+    (head::kind_of(mv.head) <= head::ABORT)
+        & (1 <= id)
+        & (id <= head::MAX_ID)
+        & unused_zero(picks, 0)
 }
 
-// 5: kind, rule or id out of range, unused pick not 0.
+// 5: a kind, a rule or an id that there is not, or a pick that is not used and not 0.
 pub fn form_ok<'a>(table: &'a [u32], starts: &'a [u32; 65], mv: MoveWords) -> bool
     requires { ⌜ Indexed (now table) (now starts) ⌝ }
     ensures { λ r. ⌜ r ≡ moveOk (tableOf (now (table .entry))) (wordsIn mv) ⌝ }

@@ -43,9 +43,9 @@ fn refused(refusal: Refusal, left: Extent) -> Made
 fn make_reaction<'a>(
     table: &'a [u32],
     starts: &'a [u32; 65],
-    owners: &mut [u32; 1024],
+    owners: &mut [u16; 1024],
     items: &mut [u32; 1024],
-    origins: &mut [u32; 1024],
+    origins: &mut [u16; 1024],
     at: Extent,
     mv: MoveWords,
     maker: u32,
@@ -78,9 +78,9 @@ fn make_reaction<'a>(
 // A commit (kind 1) frees the transaction's messages (0), an abort (kind 2) its compensations (1).
 fn make_end(
     table: &[u32],
-    owners: &mut [u32; 1024],
+    owners: &mut [u16; 1024],
     items: &mut [u32; 1024],
-    origins: &mut [u32; 1024],
+    origins: &mut [u16; 1024],
     at: Extent,
     mv: MoveWords,
     ceiling: usize,
@@ -96,7 +96,7 @@ fn make_end(
         return refused(Refusal::MoveForm, at);
     }
     let kind = head::kind_of(mv.head);
-    let id = head::number_of(mv.head);
+    let id = head::id_of(mv.head);
     let sizes = sizes_of(table);
     let from = first_owned(owners, at.len, id);
     let verdict = end_verdict(owners, items, from, at, kind, id, sizes.globals);
@@ -111,9 +111,9 @@ fn make_end(
 pub fn make<'a>(
     table: &'a [u32],
     starts: &'a [u32; 65],
-    owners: &mut [u32; 1024],
+    owners: &mut [u16; 1024],
     items: &mut [u32; 1024],
-    origins: &mut [u32; 1024],
+    origins: &mut [u16; 1024],
     at: Extent,
     mv: MoveWords,
     maker: u32,

@@ -1,17 +1,19 @@
 -- What every state of a log is: read from accepted words, left by an accepted move, and its words are accepted again.
 use Prim.Native.Nat.{ℕ, suc, _+_, _*_, _≤_, _<_}
 use mathlib.Core.Bool.{true}
-use mathlib.Core.List.{List, [], _∷_}
-use mathlib.Core.Path.{_≡_, refl, ap, subst, _∙_}
+use mathlib.Core.List.{List, [], _∷_, map}
+use mathlib.Core.Path.{_≡_, refl, sym, ap, subst, _∙_}
 use native.Mathlib.Omega.{arith}
 use lib.Dec.{eqb}
-use lib.ListN.{length}
+use lib.ListN.{length, getD}
 use borrow.Author.Tests.{eqb-true, eqb-false, le-leb, eq-eqb}
 use Rattle.lists.specs.Choices.{by-bool, and-intro}
+use Rattle.lists.specs.Members.{Among, among-map}
+use Rattle.lists.specs.Parts.{getD-each}
 use Rattle.semantics.specs.Table.{sizesOf, tableOf, portCount}
-use Rattle.semantics.specs.State.{Entry, State, stateOf, stateWords, stateSizesOk}
+use Rattle.semantics.specs.State.{Entry, State, ownersOf, itemsOf, entriesOf, stateOf, stateWords, stateSizesOk}
 use Rattle.semantics.specs.Move.{moveOf, Stepped, to, refused, stepWords}
-use Rattle.semantics.specs.Log.{ended, onward, run}
+use Rattle.semantics.specs.Log.{completed, onward, run}
 use Rattle.semantics.specs.Answers.{tableVerdict, stateOwnVerdict, stateVerdict}
 use Rattle.semantics.specs.declared.Sizes.{Sizes}
 use Rattle.semantics.specs.declared.Refusal.the-variants.{StateSizes, StateContents}
@@ -25,7 +27,7 @@ use Rattle.wellformed.specs.Step.{accepted-move}
 use Rattle.wellformed.specs.Preservation.{rule-known, applied-keeps, applied-small}
 use Rattle.wellformed.specs.Bare.{bareState, entriesOk-same}
 use Rattle.wellformed.specs.RoundTrip.{bare-numbered, Fits, stateOf-stateWords, stateWords-stateOf, length-stateWords, entryCount-stateWords}
-use Rattle.wellformed.specs.RoundTrip.{nextOf-stateWords, next-stateOf, stateOf-small}
+use Rattle.wellformed.specs.RoundTrip.{nextOf-stateWords, next-stateOf, owners-entriesOf, stateOf-small}
 
 -- what the states of a log keep: well formed, values small, few enough entries
 pub record Held (z : Sizes) (s : State) : Type 0 where
@@ -48,6 +50,27 @@ stateOf-held T S h =
       small = stateOf-small S;
       few = omega arith;
     }
+
+-- an owner fits 16 bits: it is the value of its transaction's own mark, and that is below the next id
+owner-lt : {z : Sizes} (s : State) → Sound z s → (e : Entry) → Among e (s .entries) → e .owner < 65536
+owner-lt s h e m =
+    by-bool (eqb (e .owner) 0)
+    (λ q. let o = eqb-true (e .owner) 0 q in omega arith)
+    (λ q. let (mark, there, kind, owner, value) = h .right .own e m (eqb-false (e .owner) 0 q) in
+    omega (arith, h .right .each mark there .member-mark kind .value-lt, h .next-high))
+
+-- so each owner in accepted words fits 16 bits
+pub owners-narrow : (T S : List ℕ) → stateVerdict T S ≡ Allowed → (k : ℕ) → getD (ownersOf S) k 0 < 65536
+unfolding stateOf
+owners-narrow T S h =
+    let g = state-sized S (state-given S T h .1) in
+    let es = entriesOf 0 (ownersOf S) (itemsOf S) in
+    let same : map (λ e. e .owner) es ≡ ownersOf S = owners-entriesOf 0 (ownersOf S) (itemsOf S) (g .owners ∙ sym (g .items)) in
+    getD-each (λ (o : ℕ). o < 65536) 0 (ownersOf S)
+    (λ o m.
+    let (e, there, q) = among-map (λ (e : Entry). e .owner) es o (subst (Among o) (sym same) m) in
+    rw q (owner-lt (stateOf S) (stateOf-held T S h .sound) e there))
+    (omega arith)
 
 -- ---- to words
 
@@ -96,16 +119,16 @@ module _ (T : List ℕ) (table : tableVerdict T ≡ Allowed) where
       }
 
   pub run-holds : (ceiling i : ℕ) (s : State) (ms : List (List ℕ)) (s′ : State) → ceiling ≤ 1024 → Held (sizesOf T) s
-      → run ceiling (tableOf T) i s ms ≡ ended s′ → Held (sizesOf T) s′
+      → run ceiling (tableOf T) i s ms ≡ completed s′ → Held (sizesOf T) s′
   unfolding run
   run-holds ceiling i s [] s′ c h e = subst (Held (sizesOf T)) (same e) h
     where
-      same : {a b : State} → ended a ≡ ended b → a ≡ b
+      same : {a b : State} → completed a ≡ completed b → a ≡ b
       same h = cc
   run-holds ceiling i s (m ∷ ms) s′ c h e = go (stepWords ceiling (tableOf T) (suc i) s m) refl (λ x k. run-holds ceiling (suc i) x ms s′ c k) e
     where
       go : (x : Stepped) → stepWords ceiling (tableOf T) (suc i) s m ≡ x
-          → ((x : State) → Held (sizesOf T) x → run ceiling (tableOf T) (suc i) x ms ≡ ended s′ → Held (sizesOf T) s′)
-          → onward x i (λ x. run ceiling (tableOf T) (suc i) x ms) ≡ ended s′ → Held (sizesOf T) s′
+          → ((x : State) → Held (sizesOf T) x → run ceiling (tableOf T) (suc i) x ms ≡ completed s′ → Held (sizesOf T) s′)
+          → onward x i (λ x. run ceiling (tableOf T) (suc i) x ms) ≡ completed s′ → Held (sizesOf T) s′
       go (to x) q ih k = ih x (step-holds ceiling (suc i) s m x c h q) k
       go (refused r) q ih k = absurd (let z : _≡_ {A = ℕ} 0 1 = cc in omega arith)

@@ -6,7 +6,7 @@ use mathlib.Core.Path.{_≡_}
 use native.Mathlib.Omega.{arith}
 use lib.Dec.{leb, ltb, eqb}
 use lib.ListN.{length, getD, take, drop}
-use borrow.Author.Tests.{ltb-true, eqb-true, eq-eqb}
+use borrow.Author.Tests.{leb-true, ltb-true, eqb-true, eq-eqb, ne-eqb}
 use Rattle.lists.specs.Lists.{all}
 use Rattle.lists.specs.Choices.{and-right, and-three, given-holds}
 use Rattle.lists.specs.Members.{Among, all-each, keep-among}
@@ -29,6 +29,15 @@ abbrev pub RuleKnown : Table → Move → Type 0
 RuleKnown t (react r ps) = r < length (t .rules)
 RuleKnown t (commit b) = Unit
 RuleKnown t (abort b) = Unit
+
+-- the number of an end in order is an id
+pub end-id : (t : Table) (m : List ℕ) → moveOk t m ≡ true → (headKind (getD m 0 0) ≡ 0 → ⊥) → headNumber (getD m 0 0) ≤ 65535
+unfolding moveOk
+end-id t m h k =
+    let head = getD m 0 0 in
+    let ok = and-three (eqb (length m) 5) (headOk t head) (all isZero (drop (picksUsed t head) (drop 1 m))) h .1 in
+    let range = rw (ne-eqb (headKind head) 0 k) at ok in
+    leb-true (headNumber head) 65535 (and-three (leb (headKind head) 2) (leb 1 (headNumber head)) (leb (headNumber head) 65535) range .2)
 
 pub rule-known : (t : Table) (m : List ℕ) → moveOk t m ≡ true → RuleKnown t (moveOf t m)
 unfolding moveOk moveOf

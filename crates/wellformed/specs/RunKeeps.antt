@@ -7,7 +7,7 @@ use lib.ListN.{length}
 use Rattle.semantics.specs.Table.{tableOf}
 use Rattle.semantics.specs.State.{State, entryCount, stateOf, stateWords}
 use Rattle.semantics.specs.Move.{unless, both}
-use Rattle.semantics.specs.Log.{movesOf, logSizesOk, Ran, ended, stopped, run}
+use Rattle.semantics.specs.Log.{movesOf, logSizesOk, Ran, completed, stopped, run}
 use Rattle.semantics.specs.Answers.{stateVerdict, answerOf, Result, write, refuseMove, outcomeOf, unlessDenied, hasWords, ranResult, logVerdict}
 use Rattle.semantics.specs.Answers.{runOf, runResult}
 use Rattle.semantics.specs.declared.Refusal.{Refusal}
@@ -22,12 +22,12 @@ use Rattle.wellformed.specs.Held.{stateOf-held, words-pass, run-holds}
 use Rattle.wellformed.specs.OneByOne.{oneByOne, run-one-by-one}
 use Rattle.wellformed.specs.OwnNumbers.{OwnNumber, stopped-number}
 
-ranResult-write : (x : Ran) (ws : List ℕ) → ranResult x ≡ write ws → (s : State) × (x ≡ ended s) × (stateWords s ≡ ws)
-ranResult-write (ended s) ws h = (s, refl, write-same h)
+ranResult-write : (x : Ran) (ws : List ℕ) → ranResult x ≡ write ws → (s : State) × (x ≡ completed s) × (stateWords s ≡ ws)
+ranResult-write (completed s) ws h = (s, refl, write-same h)
 ranResult-write (stopped i r) ws h = absurd (let z : _≡_ {A = ℕ} 0 1 = cc in omega arith)
 
 ranResult-refuse : (x : Ran) (i : ℕ) (r : Refusal) → ranResult x ≡ refuseMove i r → x ≡ stopped i r
-ranResult-refuse (ended s) i r h = absurd (let z : _≡_ {A = ℕ} 0 1 = cc in omega arith)
+ranResult-refuse (completed s) i r h = absurd (let z : _≡_ {A = ℕ} 0 1 = cc in omega arith)
 ranResult-refuse (stopped j q) i r h = cc
 
 unlessDenied-refuse : (v : Verdict) (x : Result) (i : ℕ) (r : Refusal) → unlessDenied v x ≡ refuseMove i r → x ≡ refuseMove i r

@@ -29,6 +29,17 @@ pub fn number_of(head: u32) -> u32
     head % 16777216
 }
 
+// The largest id that a transaction can have.
+pub const MAX_ID: u32 = 65535;
+
+// The id of an end, whose form is in order.
+pub fn id_of(head: u32) -> u16
+    requires { ⌜ headNumber head < 65536 ⌝ }
+    ensures { λ r. ⌜ r ≡ headNumber head ⌝ }
+{
+    number_of(head) as u16
+}
+
 pub fn head_of(kind: u32, number: u32) -> u32
     requires { ⌜ (kind < 256) × (number < 16777216) ⌝ }
     ensures { λ r. ⌜ r ≡ headWord kind number ⌝ }

@@ -84,7 +84,6 @@ const FIELD_MODULES: [&str; 5] = [
     "crates/words/src/origin.rt",
     "crates/intake/src/gather.rt",
 ];
-const ORIGINS: &str = "crates/words/src/origin.rt";
 const FIELDS: [&str; 3] = ["16777216", "268435456", "33554432"];
 
 /// Fields taken apart, or put together, by hand in code or contracts.
@@ -94,8 +93,7 @@ pub fn fields_in_code(tree: &Tree) -> Vec<Finding> {
         let is_field = |place: usize| {
             let scales = place > 0 && matches!(words[place - 1], "*" | "/" | "%");
             match words[place] {
-                "1024" => scales && file.path != ORIGINS,
-                "65536" => scales && !at_home,
+                "16" | "65536" => scales && !at_home,
                 word => FIELDS.contains(&word) && !at_home,
             }
         };
@@ -195,7 +193,7 @@ mod tests {
     #[test]
     fn fields_by_hand_are_found() {
         let code =
-            "head / 16777216; // 16777216\n[u32; 1024]\nn <= 1024\nx=(y)/ 1024\n1167772160\nv < 65536\nw % 65536\n";
+            "head / 16777216; // 16777216\n[u32; 1024]\nn <= 1024\nx=(y)/ 16\n1167772160\nv < 65536\nw % 65536\n";
         let specs = "-- 2 ^ 24\na = 2 ^ 28\nb = 2 ^ 16\nc = x + 33554432\n";
         let tree = Tree::of(&[
             ("crates/a/src/lib.rt", code),
@@ -207,9 +205,8 @@ mod tests {
         ]);
         let wanted = [
             "crates/a/src/lib.rt:1: 16777216 by hand",
-            "crates/a/src/lib.rt:4: 1024 by hand",
+            "crates/a/src/lib.rt:4: 16 by hand",
             "crates/a/src/lib.rt:7: 65536 by hand",
-            "crates/words/src/item.rt:4: 1024 by hand",
         ];
         assert_eq!(shown(fields_in_code(&tree)), wanted);
         let wanted = ["crates/a/specs/A.antt:2: 2 ^ 28 by hand", "crates/a/specs/A.antt:4: 33554432 by hand"];

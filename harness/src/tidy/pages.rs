@@ -30,6 +30,34 @@ pub fn stale_edits(tree: &Tree) -> Vec<Finding> {
     found
 }
 
+const EDITS: &str = "docs/EDITS.md";
+
+/// Edits that the page of edits has not, or has with another comment, and edits on it that are gone.
+pub fn edits_listed(tree: &Tree) -> Vec<Finding> {
+    let Some(page) = tree.file(EDITS) else { return Vec::new() };
+    let mut listed = BTreeSet::new();
+    let mut own = "";
+    let mut found = Vec::new();
+    for (number, line) in page.lines() {
+        if let Some((name, _)) = line.strip_prefix('`').and_then(|rest| rest.split_once("` (")) {
+            own = name;
+        }
+        let Some((name, rest)) = line.strip_prefix("| `").and_then(|rest| rest.split_once("` | ")) else { continue };
+        let path = format!("crates/{own}/must-fail/{name}.edit");
+        let comment = rest.split(" | ").next().unwrap_or_default();
+        let says = |edit: &File| {
+            edit.text.lines().next().unwrap_or_default().trim_start_matches("# ").trim_end_matches('.') == comment
+        };
+        if !tree.file(&path).is_some_and(says) {
+            found.push(page.at(number, format!("{own}/{name} is not there, or says something else")));
+        }
+        listed.insert(path);
+    }
+    let missing = tree.in_part(Part::MustFail).filter(|edit| !listed.contains(&edit.path));
+    found.extend(missing.map(|edit| edit.at(1, format!("is not in {EDITS}"))));
+    found
+}
+
 /// Crates that stand above one that they depend on, and dependencies that no file of theirs names. A
 /// value's type needs its crate without a name, so a crate that declares types is taken as needed.
 pub fn layers(tree: &Tree) -> Vec<Finding> {
@@ -196,6 +224,24 @@ mod tests {
             "crates/a/must-fail/silent.edit:1: does not say what it breaks",
         ];
         assert_eq!(shown(stale_edits(&tree)), wanted);
+    }
+
+    // Catches an edit that the page forgets, goes on naming, or describes as something else.
+    #[test]
+    fn edits_and_the_page_agree() {
+        let page = "# E\n\n`a` (x)\n\n| edit | what |\n|---|---|\n| `right` | why | y |\n| `other` | because | y |\n| `gone` | why | y |\n";
+        let tree = Tree::of(&[
+            (EDITS, page),
+            ("crates/a/must-fail/right.edit", "# why.\nfile: src/lib.rt\n"),
+            ("crates/a/must-fail/other.edit", "# why\nfile: src/lib.rt\n"),
+            ("crates/b/must-fail/right.edit", "# why\nfile: src/lib.rt\n"),
+        ]);
+        let wanted = [
+            "docs/EDITS.md:8: a/other is not there, or says something else",
+            "docs/EDITS.md:9: a/gone is not there, or says something else",
+            "crates/b/must-fail/right.edit:1: is not in docs/EDITS.md",
+        ];
+        assert_eq!(shown(edits_listed(&tree)), wanted);
     }
 
     // Catches a layer out of its order, and a dependency that is no longer one.

@@ -44,7 +44,7 @@ make-requires : tie.Need-make-requires Inv μ
 make-requires c κs =
     let turn = turn-of c in
     let g = turn .before .loop .inv in
-    record { indexed = g .given .read .indexed; maker-fits = omega (arith, place-small turn); workable = g .workable }
+    record { indexed = g .given .read .indexed; maker-fits = (omega arith, omega (arith, place-small turn)); workable = g .workable }
 
 same-length : tie.Need-same-length Inv μ
 same-length c =

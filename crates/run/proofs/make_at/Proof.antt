@@ -17,10 +17,10 @@ cast-make c =
 make-requires : tie.Need-make-requires
 make-requires c κs =
     let p = c .before .before .before .before .before .before .pre in
-    record { indexed = p .0 .0 .indexed; maker-fits = omega (arith, p .0 .1, p .0 .0 .log .few); workable = p .1 }
+    record { indexed = p .0 .0 .indexed; maker-fits = (omega arith, omega (arith, p .0 .1, p .0 .0 .log .few)); workable = p .1 }
 
 returns : tie.Need-returns
-returns c = rw (c .before .before .before .before .move-at .ensures) at (c .make .ensures)
+returns c = let made = c .before in rw (made .before .before .before .before .move-at .ensures) at (made .make .ensures)
 
 pub make-at-spec : {M : Type 1} → statement M
 make-at-spec = tie.close (tie.spec move-at-requires (λ c. search needs) cast-make make-requires returns)

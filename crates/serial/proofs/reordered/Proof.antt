@@ -1,7 +1,8 @@
 use Prim.Native.Nat.{ℕ}
 use lib.ListN.{length-replicate}
+use native.Mathlib.Omega.{arith}
 use borrow.Author.Needs.{needs}
-use Rattle.wellformed.specs.States.{state-given}
+use Rattle.state.specs.Parts.{loadable}
 use Rattle.serial.proofs.SecondPass.{sortable, replay-asked, written-asked, reordered-as}
 use Rattle.serial.proofs.reordered.Statement.{statement}
 use Rattle.serial.proofs.reordered.Tie as tie
@@ -12,14 +13,15 @@ order-log-requires c κs = (sortable _ _ _ _ _ _ _ _ (c .before .before .before 
 load-requires : tie.Need-load-requires
 load-requires c κs =
     let p = c .before .before .before .before .before .before .before .before .before .before .before .pre in
-    (state-given _ _ (p .0 .begun .state) .1, p .1)
+    (loadable _ _ (p .0 .begun .state), p .1)
 
 replay-requires : tie.Need-replay-requires
 replay-requires c κs =
     let loaded = c .before .before .before .before .before in
     let ordered = loaded .before .before .before .before in
     let p = ordered .before .before .before .before .before .before .before .before .pre in
-    replay-asked _ _ _ _ _ _ _ _ (p .0) (ordered .order-log .ensures) (loaded .load .ensures) (p .2)
+    replay-asked _ _ _ _ _ _ _ _ (p .0) (ordered .order-log .ensures) (loaded .load .ensures)
+    (omega (arith, p .2, p .0 .begun .room))
 
 written-requires : tie.Need-written-requires
 written-requires c κs =
@@ -29,7 +31,7 @@ written-requires c κs =
     let ordered = loaded .before .before .before .before in
     let p = ordered .before .before .before .before .before .before .before .before .pre in
     written-asked _ _ _ _ _ _ _ _ (p .0) (ordered .order-log .ensures) (loaded .load .ensures) (replayed .replay .ensures)
-    (counted .count-of .ensures .0) (p .2)
+    (counted .count-of .ensures .0) (omega (arith, p .2, p .0 .begun .room))
 
 returns : tie.Need-returns
 returns c =

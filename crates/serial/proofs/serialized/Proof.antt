@@ -1,15 +1,14 @@
 use mathlib.Core.Path.{refl}
 use native.Mathlib.Omega.{arith}
 use borrow.Author.Needs.{needs}
-use Rattle.wellformed.specs.States.{state-given}
+use Rattle.state.specs.Parts.{loadable}
 use Rattle.serial.proofs.FirstPass.{recordable, record-room, ran-refused, ran-open, ran-closed, reorder-asked}
 use Rattle.serial.proofs.serialized.Statement.{statement}
 use Rattle.serial.proofs.serialized.Tie as tie
 
 load-requires : tie.Need-load-requires
 load-requires c κs = (
-  state-given _ _
-      (c .before .before .before .before .before .before .before .before .before .before .before .before .before .pre .0 .state) .1,
+  loadable _ _ (c .before .before .before .before .before .before .before .before .before .before .before .before .before .pre .0 .state),
   search needs,
 )
 
@@ -26,8 +25,8 @@ returns c =
     let p = loaded .before .before .before .before .before .before .before .before .before .before .before .before .before .before .pre in
     ran-refused _ _ _ _ _ (p .0) (loaded .load .ensures) (ran .«record» .ensures .0) (c .before .verdict .given .1)
 
-any-open-requires : tie.Need-any-open-requires
-any-open-requires c κs =
+any-owned-requires : tie.Need-any-owned-requires
+any-owned-requires c κs =
     let w = c .before .before .before .before .before .«record» .ensures .0 .ran .workable in
     omega (arith, w .bounds .fits, w .arrays .owners)
 
@@ -37,7 +36,7 @@ returns-2 c =
     let loaded = ran .before .before .before .before .before .before .before .before in
     let p = loaded .before .before .before .before .before .before .before .before .before .before .before .before .before .before .pre in
     ran-open _ _ _ _ _ (p .0) (loaded .load .ensures) (ran .«record» .ensures .0) (c .before .before .before .enum-told .given .1)
-    (c .before .any-open .ensures) (c .if1 .taken)
+    (c .before .any-owned .ensures) (c .if1 .taken)
 
 reordered-requires : tie.Need-reordered-requires
 reordered-requires c κs =
@@ -46,7 +45,7 @@ reordered-requires c κs =
     let loaded = ran .before .before .before .before .before .before .before .before in
     let p = loaded .before .before .before .before .before .before .before .before .before .before .before .before .before .before .pre in (
       reorder-asked _ _ _ _ _ (p .0) (loaded .load .ensures) (ran .«record» .ensures .0) (tested .before .before .before .enum-told .given .1)
-          (tested .before .any-open .ensures) (tested .if1 .left) refl (ran .«record» .ensures .1),
+          (tested .before .any-owned .ensures) (tested .if1 .left) refl (ran .«record» .ensures .1),
       ran .«record» .ensures .0 .ran .workable .arrays,
       p .1 .words,
     )
@@ -58,11 +57,11 @@ returns-3 c =
     let loaded = ran .before .before .before .before .before .before .before .before in
     let p = loaded .before .before .before .before .before .before .before .before .before .before .before .before .before .before .pre in
     ran-closed _ _ _ _ _ (p .0) (loaded .load .ensures) (ran .«record» .ensures .0) (tested .before .before .before .enum-told .given .1)
-    (tested .before .any-open .ensures) (tested .if1 .left) (c .before .before .before .before .reordered .ensures)
+    (tested .before .any-owned .ensures) (tested .if1 .left) (c .before .before .before .before .reordered .ensures)
 
 pub serialized-spec : {M : Type 1} → statement M
 serialized-spec =
     tie.close
     (tie.spec (λ c κs. search needs) load-requires record-requires (λ c. search needs) (λ c. search needs) returns (λ c. search needs)
-    (λ c. search needs) any-open-requires (λ c. search needs) returns-2 reordered-requires (λ c. search needs) (λ c. search needs)
+    (λ c. search needs) any-owned-requires (λ c. search needs) returns-2 reordered-requires (λ c. search needs) (λ c. search needs)
     (λ c. search needs) returns-3)

@@ -1,5 +1,6 @@
 -- `run_and_store` meets its contract (`Running`).
 use native.Mathlib.Omega.{arith}
+use Rattle.state.specs.Parts.{loadable}
 use Rattle.ready.specs.Ready.{ready-sizes}
 use Rattle.run.specs.Whole.{words-prepared, loaded-workable}
 use Rattle.calls.proofs.Running.{finish-refused, finish-written}
@@ -10,7 +11,7 @@ use Rattle.calls.proofs.logs.run_and_store.Tie as tie
 load-requires : tie.Need-load-requires
 load-requires c κs =
     let p = c .before .before .before .before .before .before .before .before .before .before .before .pre in
-    (ready-sizes (p .ready), search needs)
+    (loadable _ _ (p .ready .accepted), search needs)
 
 run-log-requires : tie.Need-run-log-requires
 run-log-requires c κs =
@@ -28,7 +29,10 @@ store-requires c κs =
     let ran = c .before .before .before .before .before in
     let w = ran .run-log .ensures .workable in
     let p = ran .before .before .before .before .before .before .before .before .before .before .before .before .before .before .before .before .pre in
-    (record { owners = w .arrays .owners; items = w .arrays .items; fits = w .bounds .fits }, omega (arith, w .bounds .fits, p .room))
+    let loaded = ran .before .before .before .before .load .ensures .holds .fits in (
+      record { owners = w .arrays .owners; items = w .arrays .items; fits = omega (arith, w .bounds .fits, loaded) },
+      omega (arith, w .bounds .fits, loaded, p .room),
+    )
 
 returns-2 : tie.Need-returns-2
 returns-2 c =

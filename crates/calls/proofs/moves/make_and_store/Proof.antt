@@ -1,5 +1,6 @@
 -- `make_and_store` meets its contract (`Moving`).
 use native.Mathlib.Omega.{arith}
+use Rattle.state.specs.Parts.{loadable}
 use Rattle.ready.specs.Ready.{ready-sizes}
 use Rattle.run.specs.Whole.{words-indexed, loaded-workable}
 use Rattle.calls.proofs.Moving.{moved-refused, moved-written}
@@ -10,7 +11,7 @@ use Rattle.calls.proofs.moves.make_and_store.Tie as tie
 load-requires : tie.Need-load-requires
 load-requires c κs =
     let p = c .before .before .before .before .before .before .before .before .before .before .pre in
-    (ready-sizes (p .ready), search needs)
+    (loadable _ _ (p .ready .accepted), search needs)
 
 make-requires : tie.Need-make-requires
 make-requires c κs =
@@ -18,7 +19,7 @@ make-requires c κs =
     let loaded = c .before .before .before .load .ensures in
     record {
       indexed = words-indexed _ _ (p .ready .accepted) (p .ready .starts);
-      maker-fits = omega arith;
+      maker-fits = (omega arith, omega arith);
       workable = loaded-workable _ (ready-sizes (p .ready)) loaded;
     }
 
@@ -32,7 +33,10 @@ store-requires c κs =
     let made = c .before .before .before .before .before in
     let w = made .make .ensures .workable in
     let p = made .before .before .before .before .before .before .before .before .before .before .before .before .before .before .before .pre in
-    (record { owners = w .arrays .owners; items = w .arrays .items; fits = w .bounds .fits }, omega (arith, w .bounds .fits, p .room))
+    let loaded = made .before .before .before .before .load .ensures .holds .fits in (
+      record { owners = w .arrays .owners; items = w .arrays .items; fits = omega (arith, w .bounds .fits, loaded) },
+      omega (arith, w .bounds .fits, loaded, p .room),
+    )
 
 returns-2 : tie.Need-returns-2
 returns-2 c =

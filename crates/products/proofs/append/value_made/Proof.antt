@@ -19,16 +19,16 @@ returns-2 c =
 
 returns-3 : tie.Need-returns-3
 returns-3 c =
-    let received = c .before .before .before .value2 .given .1 in
-    let items = c .before .before .before .before .before .before .before .args .t2 in (
-      rw (ne-eqb _ _ (c .before .before .before .before .before .if1 .left), received) (c .value-of .ensures ∙ sym (List·getD-map valueOf items _ 0)),
+    let received = c .before .before .before .before .value2 .given .1 in
+    let items = c .before .before .before .before .before .before .before .before .args .items .now in (
+      rw (ne-eqb _ _ (c .before .before .before .before .before .before .if1 .left), received) (c .value-of .ensures ∙ sym (List·getD-map valueOf items _ 0)),
       omega (arith, c .value-of .ensures),
     )
 
 returns-4 : tie.Need-returns-4
 returns-4 c =
     let received = c .before .before .value2 .given .1 in
-    let items = c .before .before .before .before .before .before .args .t2 in (
+    let items = c .before .before .before .before .before .before .args .items .now in (
       rw (ne-eqb _ _ (c .before .before .before .before .if1 .left), received)
           (sym (List·getD-eq-default (map valueOf items) 0 (omega (arith, length-map items valueOf)))),
       search needs,

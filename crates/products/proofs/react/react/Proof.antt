@@ -19,11 +19,11 @@ facts c =
 in-place : (c : tie.Start) → Places 1024 (take (c .args .rule .consumes) (c .args .picks))
 in-place c p m = let l = facts c .in-place p m in omega (arith, c .pre .fits)
 
-at-picks-requires : tie.Need-at-picks-requires
-at-picks-requires c κs = (search needs, search needs, in-place (c .before))
+owners-at-requires : tie.Need-owners-at-requires
+owners-at-requires c κs = (search needs, search needs, in-place (c .before))
 
-at-picks-requires-2 : tie.Need-at-picks-requires-2
-at-picks-requires-2 c κs = (search needs, search needs, in-place (c .before .before .before))
+items-at-requires : tie.Need-items-at-requires
+items-at-requires c κs = (search needs, search needs, in-place (c .before .before .before))
 
 remove-requires : tie.Need-remove-requires
 remove-requires c κs =
@@ -51,13 +51,13 @@ returns c =
     let l = removed .remove .last in
     reacted-holds (a .rule) (start .pre .ready .rule) (a .picks) (four start) (a .owners .now) (a .items .now) (a .origins .now) (a .at)
     (start .pre .verdict) (a .maker) (found .smallest .result)
-    (l .0) (l .1 .0) (l .1 .1 .0) (merged .merge .last .0) (received .before .before .at-picks .ensures) (received .at-picks2 .ensures)
+    (l .0) (l .1 .0) (l .1 .1 .0) (merged .merge .last .0) (received .before .before .owners-at .ensures) (received .items-at .ensures)
     (found .smallest .ensures)
     (removed .remove .ensures .1) (merged .merge .ensures .1) (c .append-products .ensures)
 
 pub react-spec : {M : Type 1} → statement M
 react-spec =
     tie.close
-    (tie.spec at-picks-requires at-picks-requires-2 (λ c κs. search needs) remove-requires
+    (tie.spec owners-at-requires items-at-requires (λ c κs. search needs) remove-requires
     (λ c. facts (c .before .before .before .before .before .before .before .before .before .before) .enough) (λ c κs. search needs)
     append-products-requires returns)

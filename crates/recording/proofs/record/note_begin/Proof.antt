@@ -1,6 +1,4 @@
 use borrow.Author.Needs.{needs}
-use mathlib.Core.Path.{_∙_}
-use native.Mathlib.Nat.{add-zero}
 use native.Mathlib.Omega.{arith}
 use borrow.Author.Tests.{eq-eqb, ne-eqb}
 use Rattle.recording.proofs.record.note_begin.Statement.{statement}
@@ -11,9 +9,9 @@ note-begin-spec =
     tie.close
     (tie.spec
     (λ c. (rw (eq-eqb _ _ (c .if1 .taken)), rw (eq-eqb _ _ (c .if1 .taken))))
-    (λ c. search needs) (λ c. search needs) (λ c κs. (omega arith, omega arith)) (λ c. search needs) (λ c. search needs) (λ c. search needs)
+    (λ c. search needs) (λ c. search needs) (λ c κs. ((omega arith, omega arith), omega arith)) (λ c. search needs) (λ c. search needs) (λ c. search needs)
     (λ c. search needs) (λ c. search needs) (λ c. search needs)
     (λ c. (
-      rw (ne-eqb _ _ (c .before .if1 .left), c .origin-of .ensures ∙ add-zero _),
-      rw (ne-eqb _ _ (c .before .if1 .left), c .origin-of .ensures ∙ add-zero _),
+      rw (ne-eqb _ _ (c .before .if1 .left), c .origin-of .ensures),
+      rw (ne-eqb _ _ (c .before .if1 .left), c .origin-of .ensures),
     )))

@@ -23,11 +23,11 @@ returns c =
     let e : first .word-at .result ∷ second .word-at2 .result ∷ third .word-at3 .result ∷ fourth .word-at4 .result ∷ [] ≡ wordsAt (a .column .now) (a .t2) =
     rw (first .word-at .ensures, second .word-at2 .ensures, third .word-at3 .ensures, fourth .word-at4 .ensures)
     (four-words (a .column .now) (a .t2) (four-picks (first .before .before))) in
-    subst (λ (found : List ℕ). Pasted (a .wanted .now) (4 * a .i) found 4 (put .put-picks .last .0)) e (put .put-picks .ensures)
+    subst (λ (found : List ℕ). Pasted (a .wanted .now) (4 * a .i) found 4 (put .put-origins .last .0)) e (put .put-origins .ensures)
 
 pub note-picks-spec : {M : Type 1} → statement M
 note-picks-spec =
     tie.close
     (tie.spec
     (λ c. search needs) (λ c κs. search needs) (λ c. search needs) (λ c κs. search needs) (λ c. search needs) (λ c κs. search needs)
-    (λ c. search needs) (λ c κs. search needs) (λ c. search needs) (λ c κs. search needs) (λ c. c .before .before .put-picks .ensures .size) returns)
+    (λ c. search needs) (λ c κs. search needs) (λ c. search needs) (λ c κs. search needs) (λ c. c .before .before .put-origins .ensures .size) returns)

@@ -55,7 +55,7 @@ make-requires : tie.Need-make-requires Inv μ
 make-requires c κs =
     let at = turn (read-of c) in
     let v = at .before .loop .inv .2 in
-    record { indexed = v .asked .prepared .indexed; maker-fits = omega (arith, small at); workable = v .folded .reached .workable }
+    record { indexed = v .asked .prepared .indexed; maker-fits = (omega arith, omega (arith, small at)); workable = v .folded .reached .workable }
 
 note-begin-requires : tie.Need-note-begin-requires Inv μ
 note-begin-requires c κs =

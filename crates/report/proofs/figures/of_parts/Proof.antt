@@ -12,19 +12,19 @@ use Rattle.report.proofs.figures.of_parts.Tie as tie
 trace-requires : tie.Need-trace-requires
 trace-requires c κs =
     let pre = c .before .before .before .before .before .before .before .before .before .before .before .before .before .before .before .pre in
-    traceable (pre .0) _ (pre .1) (c .before .before .before .before .load .ensures) (length-replicate {A = ℕ} 4096 0)
+    traceable (pre .0) _ (pre .1 .sizes) (c .before .before .before .before .load .ensures) (length-replicate {A = ℕ} 4096 0)
 
 shared-slice-read-t24 : tie.Need-shared-slice-read-t24
 shared-slice-read-t24 c =
     let read = c .before .before .before .before .before .before .before .before .before in
     let pre = read .before .before .before .before .before .before .before .before .before .before .pre in
-    omega (arith, States.state-sized _ (pre .1) .size)
+    omega (arith, States.state-sized _ (pre .1 .sizes) .size)
 
 shared-slice-read-t26 : tie.Need-shared-slice-read-t26
 shared-slice-read-t26 c =
     let read = c .before .before .before .before .before .before .before .before .before .before in
     let pre = read .before .before .before .before .before .before .before .before .before .before .pre in
-    omega (arith, States.state-sized _ (pre .1) .size)
+    omega (arith, States.state-sized _ (pre .1 .sizes) .size)
 
 returns : tie.Need-returns
 returns c =

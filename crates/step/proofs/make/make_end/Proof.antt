@@ -48,8 +48,8 @@ globals c = ap (λ (z : Sizes). z .globals) (c .sizes-of .ensures)
 kind-is : (c : tie.After-end-verdict) → sizes-at c .before .before .kind-of .result ≡ headKind (start (formed-at c) .args .mv .head)
 kind-is c = sizes-at c .before .before .kind-of .ensures
 
-id-is : (c : tie.After-end-verdict) → sizes-at c .before .number-of .result ≡ headNumber (start (formed-at c) .args .mv .head)
-id-is c = sizes-at c .before .number-of .ensures
+id-is : (c : tie.After-end-verdict) → sizes-at c .before .id-of .result ≡ headNumber (start (formed-at c) .args .mv .head)
+id-is c = sizes-at c .before .id-of .ensures
 
 end-verdict-requires : tie.Need-end-verdict-requires
 end-verdict-requires c κs =
@@ -85,7 +85,7 @@ pub make-end-spec : {M : Type 1} → statement M
 make-end-spec =
     tie.close
     (tie.spec
-    (λ c κs. search needs) (λ c κs. search needs) returns (λ c κs. search needs) (λ c κs. search needs)
+    (λ c κs. search needs) (λ c κs. search needs) returns (λ c κs. search needs) (λ c κs. formed (c .before) .narrow)
     (λ c κs. well-formed _ (c .before .before .before .before .before .pre .0) .sizes .long)
     (λ c κs. let w = start (c .before .before .before .before) .pre .1 .0 in (omega (arith, w .bounds .fits, w .limit), w .arrays .owners))
     end-verdict-requires (λ c. search needs) (λ c κs. search needs) returns-2
