@@ -18,16 +18,14 @@ fn outcome_of_check(verdict: Verdict) -> Outcome
 pub fn check_table(table: &[u32]) -> Outcome
     ensures { λ r. ⌜ answerOf r ≡ checkTable (now (table .entry)) ⌝ }
 {
-    let checked = table::check(table);
-    let verdict = checked.verdict;
-    outcome_of_check(verdict)
+    let mut starts = [0u32; 65];
+    outcome_of_check(table::check(table, &mut starts))
 }
 
 // Whether a state is well formed under its table: 0, or 1 to 4.
 pub fn check_state(table: &[u32], state: &[u32]) -> Outcome
     ensures { λ r. ⌜ answerOf r ≡ checkState (now (table .entry)) (now (state .entry)) ⌝ }
 {
-    let checked = ready(table, state);
-    let verdict = checked.verdict;
-    outcome_of_check(verdict)
+    let mut starts = [0u32; 65];
+    outcome_of_check(ready(table, state, &mut starts))
 }

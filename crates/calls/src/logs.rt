@@ -48,8 +48,8 @@ pub fn run<'a>(table: &'a [u32], state: &'a [u32], log: &'a [u32], target: &mut 
     ensures answer { λ r. ⌜ answerOf r ≡ runLog (now (table .entry)) (now (state .entry)) (now (log .entry)) (now (target .entry)) ⌝ }
     ensures contents { λ _. ⌜ now (target .exit) ≡ runLogTarget (now (table .entry)) (now (state .entry)) (now (log .entry)) (now (target .entry)) ⌝ }
 {
-    let checked = ready(table, state);
-    let said = checked.verdict;
+    let mut starts = [0u32; 65];
+    let said = ready(table, state, &mut starts);
     if let Verdict::Denied(refusal) = said {
         return Outcome::Refused(refusal);
     }
@@ -59,6 +59,5 @@ pub fn run<'a>(table: &'a [u32], state: &'a [u32], log: &'a [u32], target: &mut 
     if target.len() < State::MAX_WORDS {
         return Outcome::Refused(Refusal::TargetTooShort);
     }
-    let starts = checked.starts;
     run_and_store(table, &starts, state, log, target)
 }

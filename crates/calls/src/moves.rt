@@ -57,15 +57,14 @@ pub fn make_move<'a>(
     ensures answer { λ r. ⌜ answerOf r ≡ makeMove (now (table .entry)) (now (state .entry)) (now (mv .entry)) (now (target .entry)) ⌝ }
     ensures contents { λ _. ⌜ now (target .exit) ≡ makeMoveTarget (now (table .entry)) (now (state .entry)) (now (mv .entry)) (now (target .entry)) ⌝ }
 {
-    let checked = ready(table, state);
-    let said = checked.verdict;
+    let mut starts = [0u32; 65];
+    let said = ready(table, state, &mut starts);
     if let Verdict::Denied(refusal) = said {
         return Outcome::Refused(refusal);
     }
     if mv.len() != 5 {
         return Outcome::Refused(Refusal::MoveForm);
     }
-    let starts = checked.starts;
     let head = mv[0];
     let picks = [mv[1], mv[2], mv[3], mv[4]];
     let words = MoveWords { head, picks };

@@ -35,8 +35,8 @@ pub fn serialize<'a>(
     ensures answer { λ r. ⌜ answerOf r ≡ serialize (now (table .entry)) (now (state .entry)) (now (log .entry)) (now (target .entry)) ⌝ }
     ensures contents { λ _. ⌜ now (target .exit) ≡ serializeTarget (now (table .entry)) (now (state .entry)) (now (log .entry)) (now (target .entry)) ⌝ }
 {
-    let checked = ready(table, state);
-    let said = checked.verdict;
+    let mut starts = [0u32; 65];
+    let said = ready(table, state, &mut starts);
     if let Verdict::Denied(refusal) = said {
         return Outcome::Refused(refusal);
     }
@@ -46,7 +46,6 @@ pub fn serialize<'a>(
     if target.len() < 1 + 5 * count_of(log) {
         return Outcome::Refused(Refusal::TargetTooShort);
     }
-    let starts = checked.starts;
     if begins_emit(table, &starts) {
         return Outcome::Refused(Refusal::BeginEmits);
     }

@@ -11,7 +11,6 @@ use Rattle.semantics.specs.Program.{partsOf, inputVerdict}
 use Rattle.semantics.specs.declared.Refusal.the-variants.{LogSizes}
 use Rattle.semantics.specs.declared.Verdict.{Verdict}
 use Rattle.semantics.specs.declared.Verdict.the-variants.{Allowed, Denied}
-use Rattle.table.specs.declared.verdict.Checked.{Checked}
 use Rattle.ready.specs.Ready.{ReadyAs}
 use Rattle.intake.specs.Split.{CutAt, SplitAs, cut-words, accepted-input}
 use Rattle.intake.specs.declared.parts.Parts.{Parts}
@@ -24,16 +23,16 @@ both-three (Denied r) b c = refl
 pub split-as :
     (ws : List ℕ) (bytes : ℕ) (p : Parts)
     → CutAt ws (p .«state_at») (p .«log_at») (p .end)
-    → (c : Checked) → ReadyAs (take (p .«state_at») ws) (take (p .«log_at» - p .«state_at») (drop (p .«state_at») ws)) c → p .starts ≡ c .starts
+    → {first : Verdict} → ReadyAs (take (p .«state_at») ws) (take (p .«log_at» - p .«state_at») (drop (p .«state_at») ws)) first (p .starts)
     → p .verdict
     ≡ firstFault
-    (c .verdict ∷ unless (logSizesOk (take (p .end - p .«log_at») (drop (p .«log_at») ws))) LogSizes ∷ unless (eqb bytes (4 * p .end)) LogSizes ∷ [])
+    (first ∷ unless (logSizesOk (take (p .end - p .«log_at») (drop (p .«log_at») ws))) LogSizes ∷ unless (eqb bytes (4 * p .end)) LogSizes ∷ [])
     → SplitAs ws bytes p
 unfolding inputVerdict logVerdict
-split-as ws bytes p cut c k s e =
-    let k : ReadyAs (partsOf ws .table) (partsOf ws .state) c = rw (cut .table, cut .state) at k in
+split-as ws bytes p cut {first} k e =
+    let k : ReadyAs (partsOf ws .table) (partsOf ws .state) first (p .starts) = rw (cut .table, cut .state) at k in
     let q = partsOf ws in
     let log = unless (logSizesOk (q .log)) LogSizes in
     let v : p .verdict ≡ inputVerdict ws bytes =
     rw (cut-words cut) (rw (cut .log, k .verdict) at e ∙ both-three (stateVerdict (q .table) (q .state)) log (unless (eqb bytes (4 * p .end)) LogSizes)) in
-    record { verdict = v; cut = cut; ready = λ h. rw s (k .ready (accepted-input (sym v ∙ h) .state)) }
+    record { verdict = v; cut = cut; ready = λ h. k .ready (accepted-input (sym v ∙ h) .state) }

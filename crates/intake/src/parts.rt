@@ -80,9 +80,8 @@ pub fn split(words: &[u32], bytes: usize) -> Parts
     let state_at = cuts.state_at;
     let log_at = cuts.log_at;
     let end = cuts.end;
-    let checked = ready(&words[..state_at], &words[state_at..log_at]);
-    let first = checked.verdict;
-    let starts = checked.starts;
+    let mut starts = [0u32; 65];
+    let first = ready(&words[..state_at], &words[state_at..log_at], &mut starts);
     let verdict = verdict_of(first, &words[log_at..end], bytes == 4 * end);
     Parts {
         verdict,

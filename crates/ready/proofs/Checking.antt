@@ -9,19 +9,18 @@ use Rattle.semantics.specs.declared.Verdict.{Verdict}
 use Rattle.semantics.specs.declared.Verdict.the-variants.{Allowed, Denied}
 use Rattle.wellformed.specs.Verdicts.{denied≢allowed}
 use Rattle.table.specs.Check.{CheckedAs}
-use Rattle.table.specs.declared.verdict.Checked.{Checked}
 use Rattle.ready.specs.Ready.{ReadyAs}
 
-module _ (t s : List ℕ) (c : Checked) (checked : CheckedAs t c) where
-  pub table-denied : {r : Refusal} → c .verdict ≡ Denied r → ReadyAs t s c
+module _ (t s : List ℕ) {u : Verdict} {index : List ℕ} (checked : CheckedAs t u index) where
+  pub table-denied : {r : Refusal} → u ≡ Denied r → ReadyAs t s (Denied r) index
   unfolding stateVerdict
   table-denied {r} e =
       let d : tableVerdict t ≡ Denied r = sym (checked .verdict) ∙ e in
       let v : stateVerdict t s ≡ Denied r = rw d in
-      record { verdict = e ∙ sym v; ready = λ a. absurd (denied≢allowed (sym v ∙ a)) }
+      record { verdict = sym v; ready = λ a. absurd (denied≢allowed (sym v ∙ a)) }
 
-  pub state-checked : c .verdict ≡ Allowed → (v : Verdict) → v ≡ stateOwnVerdict (sizesOf t) s → ReadyAs t s (record { verdict = v; starts = c .starts })
+  pub state-checked : u ≡ Allowed → {v : Verdict} → v ≡ stateOwnVerdict (sizesOf t) s → ReadyAs t s v index
   unfolding stateVerdict
-  state-checked e v h =
+  state-checked e h =
       let a : tableVerdict t ≡ Allowed = sym (checked .verdict) ∙ e in
       record { verdict = h ∙ rw a; ready = λ accepted. record { accepted = accepted; starts = checked .starts a } }

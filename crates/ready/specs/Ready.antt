@@ -6,10 +6,10 @@ use mathlib.Core.List.{List}
 use Rattle.semantics.specs.Table.{sizesOf, numbersOf}
 use Rattle.semantics.specs.State.{stateSizesOk}
 use Rattle.semantics.specs.Answers.{tableVerdict, stateVerdict}
+use Rattle.semantics.specs.declared.Verdict.{Verdict}
 use Rattle.semantics.specs.declared.Verdict.the-variants.{Allowed}
 use Rattle.wellformed.specs.States.{state-given}
 use Rattle.table.specs.Index.{Starts}
-use Rattle.table.specs.declared.verdict.Checked.{Checked}
 
 -- an accepted table with the index of its rules, and an accepted state
 pub record Ready (t s index : List ℕ) : Type 0 where
@@ -23,6 +23,6 @@ pub ready-sizes : {t s index : List ℕ} → Ready t s index → stateSizesOk s 
 ready-sizes {t} {s} r = state-given s t (r .accepted) .1
 
 -- the verdict on table and state; where it is Allowed they are ready
-pub record ReadyAs (t s : List ℕ) (c : Checked) : Type 0 where
-  pub verdict : c .verdict ≡ stateVerdict t s
-  pub ready : stateVerdict t s ≡ Allowed → Ready t s (c .starts)
+pub record ReadyAs (t s : List ℕ) (v : Verdict) (index : List ℕ) : Type 0 where
+  pub verdict : v ≡ stateVerdict t s
+  pub ready : stateVerdict t s ≡ Allowed → Ready t s index

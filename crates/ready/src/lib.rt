@@ -1,18 +1,17 @@
 // A table and a state made ready for a call: both checked, with the index of the table's rules.
+ghost use mathlib.Core.Path.{_≡_};
+ghost use lib.ListN.{length};
 ghost use Rattle.ready.specs.Ready.{ReadyAs};
 use semantics::Verdict;
-use table::Checked;
 
 // The verdict on a table and a state, 1 to 4; where it is Allowed the starts are the table's.
-pub fn ready(table: &[u32], state: &[u32]) -> Checked
-    ensures { λ r. ⌜ ReadyAs (now (table .entry)) (now (state .entry)) r ⌝ }
+pub fn ready(table: &[u32], state: &[u32], starts: &mut [u32; 65]) -> Verdict
+    requires { ⌜ length (now starts) ≡ 65 ⌝ }
+    ensures { λ r. ⌜ ReadyAs (now (table .entry)) (now (state .entry)) r (now (starts .exit)) ⌝ }
 {
-    let checked = table::check(table);
-    let of_table = checked.verdict;
+    let of_table = table::check(table, starts);
     if let Verdict::Denied(refusal) = of_table {
-        return checked;
+        return Verdict::Denied(refusal);
     }
-    let starts = checked.starts;
-    let verdict = state_check::check(table::sizes_of(table), state);
-    Checked { verdict, starts }
+    state_check::check(table::sizes_of(table), state)
 }

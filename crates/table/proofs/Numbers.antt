@@ -1,5 +1,5 @@
 -- The numbers of a well-formed table follow each other with no gap, so that one pass checks them and finds where each rule begins.
-use Prim.Native.Nat.{ℕ, _+_, _-_, _≤_, _<_}
+use Prim.Native.Nat.{ℕ, zero, suc, _+_, _-_, _≤_, _<_}
 use mathlib.Core.List.{List, [], _∷_, _++_}
 use mathlib.Core.Bool.{Bool, true, false, _&&_, false≢true}
 use mathlib.Core.Path.{_≡_, refl, sym, ap, _∙_}
@@ -7,7 +7,7 @@ use native.Mathlib.Omega.{arith}
 use native.Mathlib.Numerals.{add-one}
 use borrow.Author.Tests.{ltb-true, leb-true, eqb-true, lt-ltb, le-ltb, le-leb, eq-eqb, ne-eqb}
 use lib.Dec.{leb, ltb, eqb}
-use lib.ListN.{length, getD, take, drop, set, replicate, getD-replicate, length-set}
+use lib.ListN.{length, getD, take, drop, set, length-set}
 use lib.Seq.{take-suc, take-all, getD-set-same, getD-set-other, length-take-le}
 use Rattle.lists.specs.Lists.{all, countIf, risesFrom, allBelow}
 use Rattle.lists.specs.Tests.{and-both, or-true, or-false, or-right-true, same-test}
@@ -132,9 +132,12 @@ pub record Marked (numbers : List ℕ) (i seen : ℕ) (starts : List ℕ) : Type
   pub under : all (λ n. ltb n seen) (take i numbers) ≡ true
   pub each : (r : ℕ) → r ≤ seen → getD starts r 0 ≡ countIf (λ n. ltb n r) (take i numbers)
 
-pub marked-start : (numbers : List ℕ) {starts : List ℕ} → starts ≡ replicate 65 0 → Marked numbers 0 0 starts
-marked-start numbers e =
-    rw e (record { room = refl; under = refl; each = λ r l. getD-replicate 65 r 0 0 (omega arith) })
+pub marked-start : (numbers : List ℕ) (starts : List ℕ) → length starts ≡ 65 → Marked numbers 0 0 (set starts 0 0)
+marked-start numbers starts e = record { room = length-set starts 0 0 ∙ e; under = refl; each = first }
+  where
+    first : (r : ℕ) → r ≤ 0 → getD (set starts 0 0) r 0 ≡ 0
+    first zero l = getD-set-same starts 0 0 0 (omega arith)
+    first (suc r) l = absurd (omega arith)
 
 module _ (numbers : List ℕ) (i seen : ℕ) (starts : List ℕ) (was : Marked numbers i seen starts) where
   module _ (n : ℕ) (here : n ≡ getD numbers i 0) (l : i < length numbers) (rules : ℕ) (few : rules ≤ 64) (f : Follows rules seen n) where

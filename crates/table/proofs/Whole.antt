@@ -72,7 +72,7 @@ module _
 
 -- ---- the answers
 module _ (t starts : List ℕ) where
-  pub sizes-wrong : tableSizesOk t ≡ false → CheckedAs t (record { verdict = Denied TableSizes; starts = starts })
+  pub sizes-wrong : tableSizesOk t ≡ false → CheckedAs t (Denied TableSizes) starts
   unfolding tableVerdict
   sizes-wrong e =
       record { verdict = rw e; starts = λ yes. absurd (false≢true (sym e ∙ table-given t yes .0)) }
@@ -82,7 +82,7 @@ module _ (t starts : List ℕ) where
       → tableSizesOk t ≡ true
       → IndexOf t (tableContentsOk t) ok starts
       → ok ≡ b
-      → CheckedAs t (record { verdict = unless b TableContents; starts = starts })
+      → CheckedAs t (unless b TableContents) starts
   unfolding tableVerdict
   sizes-right b e f g =
       let h : tableContentsOk t ≡ b = sym (f .answer) ∙ g in

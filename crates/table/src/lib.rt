@@ -4,5 +4,4 @@ pub mod parts;
 pub mod verdict;
 
 pub use parts::sizes_of;
-pub use verdict::Checked;
 pub use verdict::check;

@@ -1,7 +1,8 @@
-// The check of a whole table. The index that it makes on the way serves later calls.
+// The check of a whole table. The index that it makes on the way is lent by the caller, whom it serves: returned by value it
+// would be copied.
 ghost use mathlib.Core.Path.{_≡_};
 ghost use Prim.Native.Nat.{ℕ, _<_};
-ghost use lib.ListN.{length, replicate};
+ghost use lib.ListN.{length};
 ghost use Rattle.lists.specs.Lists.{allBelow};
 ghost use Rattle.semantics.specs.Table.{sizesOf, numbersOf, tableSizesOk, tableContentsOk, ruleOk};
 ghost use Rattle.wellformed.specs.Tables.{TableSized};
@@ -16,12 +17,6 @@ use legal::rule::rule_ok;
 use semantics::Refusal;
 use semantics::Sizes;
 use semantics::Verdict;
-
-// Where the verdict is Allowed, the atoms of rule r stand from starts[r] on, up to starts[r + 1].
-pub struct Checked {
-    pub verdict: Verdict,
-    pub starts: [u32; 65],
-}
 
 fn sizes_ok(table: &[u32]) -> bool
     ensures { λ r. ⌜ r ≡ tableSizesOk (now (table .entry)) ⌝ }
@@ -53,7 +48,7 @@ fn rules_ok<'a>(words: &'a [u32], starts: &'a [u32; 65], z: Sizes) -> bool
 
 // The rule numbers, then the rules. Fills the index, which is right where the contents are.
 fn contents_ok(table: &[u32], starts: &mut [u32; 65]) -> bool
-    requires { ⌜ TableSized (now table) × (now starts ≡ replicate 65 0) ⌝ }
+    requires { ⌜ TableSized (now table) × (length (now starts) ≡ 65) ⌝ }
     ensures { λ b. ⌜ IndexMade (tableContentsOk (now (table .entry))) (numbersOf (now (table .entry)))
         (sizesOf (now (table .entry)) .rules) b (now (starts .exit)) ⌝ }
 {
@@ -64,10 +59,10 @@ fn contents_ok(table: &[u32], starts: &mut [u32; 65]) -> bool
     rules_ok(atom_words_of(table), starts, z)
 }
 
-// 1, 2.
-fn verdict_of(table: &[u32], starts: &mut [u32; 65]) -> Verdict
-    requires { ⌜ now starts ≡ replicate 65 0 ⌝ }
-    ensures { λ v. ⌜ CheckedAs (now (table .entry)) (record { verdict = v; starts = now (starts .exit) }) ⌝ }
+// 1, 2. Where the verdict is Allowed, the atoms of rule r stand from starts[r] on, up to starts[r + 1].
+pub fn check(table: &[u32], starts: &mut [u32; 65]) -> Verdict
+    requires { ⌜ length (now starts) ≡ 65 ⌝ }
+    ensures { λ v. ⌜ CheckedAs (now (table .entry)) v (now (starts .exit)) ⌝ }
 {
     if !sizes_ok(table) {
         return Verdict::Denied(Refusal::TableSizes);
@@ -76,13 +71,4 @@ fn verdict_of(table: &[u32], starts: &mut [u32; 65]) -> Verdict
         return Verdict::Denied(Refusal::TableContents);
     }
     Verdict::Allowed
-}
-
-// The index is filled in place, so that it is copied only once.
-pub fn check(table: &[u32]) -> Checked
-    ensures { λ c. ⌜ CheckedAs (now (table .entry)) c ⌝ }
-{
-    let mut starts = [0u32; 65];
-    let verdict = verdict_of(table, &mut starts);
-    Checked { verdict, starts }
 }

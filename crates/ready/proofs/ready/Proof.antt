@@ -6,16 +6,15 @@ use Rattle.ready.proofs.ready.Statement.{statement}
 use Rattle.ready.proofs.ready.Tie as tie
 
 returns : tie.Need-returns
-returns c = table-denied _ _ _ (c .before .before .before .check .ensures) (c .before .of-table .given .1)
+returns c = table-denied _ _ (c .before .before .before .check .ensures) (c .before .of-table .given .1)
 
 sizes-of-requires : tie.Need-sizes-of-requires
 sizes-of-requires c κs =
-    well-formed _ (sym (c .before .before .before .check .ensures .verdict) ∙ c .before .enum-told .given .1) .sizes .long
+    well-formed _ (sym (c .before .before .check .ensures .verdict) ∙ c .enum-told .given .1) .sizes .long
 
 returns-2 : tie.Need-returns-2
 returns-2 c =
-    let k = c .before .before .before .before .before .check in
-    state-checked _ _ _ (k .ensures) (c .before .before .before .enum-told .given .1) _
+    state-checked _ _ (c .before .before .before .before .check .ensures) (c .before .before .enum-told .given .1)
     (rw (c .before .sizes-of .ensures) at (c .check2 .ensures))
 
 pub ready-spec : {M : Type 1} → statement M

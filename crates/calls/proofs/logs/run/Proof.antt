@@ -23,21 +23,21 @@ returns-3 c =
 
 run-and-store-requires : tie.Need-run-and-store-requires
 run-and-store-requires c κs =
-    let sized = c .before .before .before .before in
+    let sized = c .before .before .before in
     let told = sized .before .before in
     let said = told .before .before .ready .ensures in
     record {
       ready = said .ready (sym (said .verdict) ∙ told .enum-told .given .1);
       sizes = sym (sized .before .sizes-ok .ensures) ∙ not-false _ (sized .if1 .left);
-      room = c .before .before .before .if2 .left;
+      room = c .before .before .if2 .left;
     }
 
 returns-4 : tie.Need-returns-4
 returns-4 c =
-    let sized = c .before .before .before .before .before .before .before in
+    let sized = c .before .before .before .before .before .before in
     let told = sized .before .before in
     run-done _ _ _ _ (sym (told .before .before .ready .ensures .verdict) ∙ told .enum-told .given .1) (sized .before .sizes-ok .ensures)
-    (not-false _ (sized .if1 .left)) (c .before .before .before .before .before .before .if2 .left) (c .before .before .run-and-store .ensures)
+    (not-false _ (sized .if1 .left)) (c .before .before .before .before .before .if2 .left) (c .before .before .run-and-store .ensures)
 
 pub run-spec : {M : Type 1} → statement M
 run-spec =

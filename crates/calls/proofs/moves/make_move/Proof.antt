@@ -16,25 +16,25 @@ returns-2 c = move-unsized _ _ _ _ (sym (c .before .before .before .ready .ensur
 
 form-ok-requires : tie.Need-form-ok-requires
 form-ok-requires c κs =
-    let told = c .before .before .before .before .before .before .before .before in
+    let told = c .before .before .before .before .before .before .before in
     let said = told .before .before .ready .ensures in
     let r = said .ready (sym (said .verdict) ∙ told .enum-told .given .1) in
     record { table = ready-table r; starts = r .starts }
 
 returns-3 : tie.Need-returns-3
 returns-3 c =
-    let sized = c .before .before .before .before .before .before .before .before .before in
+    let sized = c .before .before .before .before .before .before .before .before in
     let told = sized .before in
-    let a = told .before .before .before .before .before .before .before .args in
+    let a = told .before .before .before .before .before .before .before .before .args in
     move-malformed _ _ _ _ (sym (told .before .before .ready .ensures .verdict) ∙ told .enum-told .given .1)
     (form-read (a .table .now) (a .mv .now) (sized .if1 .left) (c .before .form-ok .ensures)) (not-true _ (c .if2 .taken))
 
 returns-4 : tie.Need-returns-4
 returns-4 c =
     let formed = c .before in
-    let sized = formed .before .before .before .before .before .before .before .before .before in
+    let sized = formed .before .before .before .before .before .before .before .before in
     let told = sized .before in
-    let a = told .before .before .before .before .before .before .before .args in
+    let a = told .before .before .before .before .before .before .before .before .args in
     move-short _ _ _ _ (sym (told .before .before .ready .ensures .verdict) ∙ told .enum-told .given .1)
     (form-read (a .table .now) (a .mv .now) (sized .if1 .left) (formed .before .form-ok .ensures)) (not-false _ (formed .if2 .left))
     (c .if3 .taken)
@@ -42,7 +42,7 @@ returns-4 c =
 make-and-store-requires : tie.Need-make-and-store-requires
 make-and-store-requires c κs =
     let roomy = c .before .before in
-    let told = roomy .before .before .before .before .before .before .before .before .before .before .before in
+    let told = roomy .before .before .before .before .before .before .before .before .before .before in
     let said = told .before .before .ready .ensures in
     record { ready = said .ready (sym (said .verdict) ∙ told .enum-told .given .1); room = roomy .if3 .left }
 
@@ -50,9 +50,9 @@ returns-5 : tie.Need-returns-5
 returns-5 c =
     let roomy = c .before .before .before .before .before in
     let formed = roomy .before in
-    let sized = formed .before .before .before .before .before .before .before .before .before in
+    let sized = formed .before .before .before .before .before .before .before .before in
     let told = sized .before in
-    let a = told .before .before .before .before .before .before .before .args in
+    let a = told .before .before .before .before .before .before .before .before .args in
     move-done _ _ _ _ (sym (told .before .before .ready .ensures .verdict) ∙ told .enum-told .given .1)
     (form-read (a .table .now) (a .mv .now) (sized .if1 .left) (formed .before .form-ok .ensures)) (not-false _ (formed .if2 .left))
     (roomy .if3 .left) (rw (five (a .mv .now) (sized .if1 .left)) at (c .before .before .make-and-store .ensures))

@@ -23,7 +23,7 @@ returns-2 c =
 
 returns-3 : tie.Need-returns-3
 returns-3 c =
-    let a = c .before .before .before .before .before .before .before .before .before .before .before .args in
+    let a = c .before .before .before .before .before .before .before .before .before .before .before .before .args in
     let ok = sym (c .before .before .before .before .before .before .ready .ensures .verdict) ∙ c .before .before .before .before .enum-told .given .1 in
     let sizes = sym (c .before .before .before .sizes-ok .ensures) ∙ not-false _ (c .before .before .if1 .left) in
     serial-short (a .table .now) (a .state .now) (a .log .now) (a .target .now) ok sizes
@@ -32,7 +32,7 @@ returns-3 c =
 -- what is known past the test of the target's length
 module _ (c : tie.Else2) where
   abbrev start : tie.Start
-  start = c .before .before .before .before .before .before .before .before .before .before .before
+  start = c .before .before .before .before .before .before .before .before .before .before .before .before
 
   ok : stateVerdict (start .args .table .now) (start .args .state .now) ≡ Allowed
   ok = sym (c .before .before .before .before .before .before .ready .ensures .verdict) ∙ c .before .before .before .before .enum-told .given .1
@@ -45,29 +45,29 @@ module _ (c : tie.Else2) where
 
 begins-emit-requires : tie.Need-begins-emit-requires
 begins-emit-requires c κs =
-    let long = c .before .before in
+    let long = c .before in
     (state-given _ _ (ok long) .0, long .before .before .before .before .before .before .ready .ensures .ready (ok long) .starts)
 
 returns-4 : tie.Need-returns-4
 returns-4 c =
-    let long = c .before .before .before .before in
+    let long = c .before .before .before in
     let a = start long .args in
     serial-emits (a .table .now) (a .state .now) (a .log .now) (a .target .now) (ok long) (sizes long) (room long)
     (sym (c .before .begins-emit .ensures) ∙ c .if3 .taken)
 
 open-in-requires : tie.Need-open-in-requires
-open-in-requires c κs = state-given _ _ (ok (c .before .before .before .before)) .1
+open-in-requires c κs = state-given _ _ (ok (c .before .before .before)) .1
 
 returns-5 : tie.Need-returns-5
 returns-5 c =
-    let long = c .before .before .before .before .before .before in
+    let long = c .before .before .before .before .before in
     let a = start long .args in
     serial-open (a .table .now) (a .state .now) (a .log .now) (a .target .now) (ok long) (sizes long) (room long)
     (sym (c .before .before .before .begins-emit .ensures) ∙ c .before .before .if3 .left) (sym (c .before .open-in .ensures) ∙ c .if4 .taken)
 
 serialize-log-requires : tie.Need-serialize-log-requires
 serialize-log-requires c κs =
-    let long = c .before .before .before .before .before .before .before .before in
+    let long = c .before .before .before .before .before .before .before in
     record {
       state = ok long;
       starts = long .before .before .before .before .before .before .ready .ensures .ready (ok long) .starts;
@@ -79,7 +79,7 @@ serialize-log-requires c κs =
 
 returns-6 : tie.Need-returns-6
 returns-6 c =
-    let long = c .before .before .before .before .before .before .before .before .before .before .before in
+    let long = c .before .before .before .before .before .before .before .before .before .before in
     let a = start long .args in
     let quiet = sym (c .before .before .before .before .before .before .before .before .begins-emit .ensures)
     ∙ c .before .before .before .before .before .before .before .if3 .left in

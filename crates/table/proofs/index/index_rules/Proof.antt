@@ -22,7 +22,7 @@ abbrev μ-loop : tie.MeasureT-loop
 μ-loop numbers rules starts₀ limit seen₀ i₀ starts seen i = length numbers - i
 
 loop-holds : tie.Need-loop-holds Inv-loop μ-loop
-loop-holds c = (search needs, numbers-dense _ _, marked-start _ (c .pre .2))
+loop-holds c = (search needs, numbers-dense _ _, marked-start _ (c .args .starts .now) (c .pre .2))
 
 cast-n : tie.Need-cast-n Inv-loop μ-loop
 cast-n c = omega (arith, c .shared-slice-known .given (c .before .before .loop .i))
@@ -55,7 +55,7 @@ add-seen c = omega (arith, followed c .under)
 mul-starts : tie.Need-mul-starts Inv-loop μ-loop
 mul-starts c = omega (arith, followed c .under)
 
-write-starts : tie.Need-element-write-starts Inv-loop μ-loop
+write-starts : tie.Need-element-write-starts-2 Inv-loop μ-loop
 write-starts c = omega (arith, followed c .under)
 
 loop-again : tie.Need-loop-again Inv-loop μ-loop
@@ -80,6 +80,7 @@ index-rules-spec =
     (tie.spec
     Inv-loop
     μ-loop
+    (λ c. search needs)
     loop-holds
     (λ c. search needs)
     (λ c. search needs)
