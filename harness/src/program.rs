@@ -1,5 +1,5 @@
 //! What the program has to print for its standard input, from document 01: the input is read front
-//! to back, each part as long as its sizes say, and the moves are made one by one on words.
+//! to back, a part ends where its sizes end it, and the moves are made one by one on words.
 use std::fmt::Write;
 
 use crate::answer::{Answer, OnTarget};

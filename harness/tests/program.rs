@@ -280,7 +280,7 @@ fn an_empty_log() {
 // Catches 16 in a line, a first line that is left out, a refused move that changes n or N, and a
 // program that goes on after it. The numbers are 01's, cases (b), (e), (f), (g) among them.
 #[test]
-fn a_refused_move_is_the_last_line() {
+fn nothing_follows_a_refused_move() {
     let first = "moves 2 entries 2 next 1\n";
     for (mv, own) in [
         (Move::react(4, &[0]), 5),

@@ -8,7 +8,7 @@ use lib.ListN.{length}
 use Rattle.semantics.specs.Table.{tableOf}
 use Rattle.semantics.specs.State.{stateOf}
 use Rattle.semantics.specs.Log.{logSizesOk}
-use Rattle.semantics.specs.Answers.{answerOf, lineCeiling, stateRoom, stateVerdict, runOf, runFaults, runResult, runLog, runLogTarget}
+use Rattle.semantics.specs.Answers.{answerOf, lineCeiling, stateRoom, stateVerdict, ranResult, runFaults, runResult, runLog, runLogTarget}
 use Rattle.semantics.specs.declared.Refusal.{Refusal}
 use Rattle.semantics.specs.declared.Refusal.the-variants.{LogSizes, TargetTooShort}
 use Rattle.semantics.specs.declared.Verdict.{Verdict}
@@ -26,17 +26,22 @@ use Rattle.calls.specs.Results.{ComesTo}
 use Rattle.calls.specs.Logs.{runMade}
 use Rattle.calls.proofs.Results.{fault-gives, passed-gives, too-short, long-enough, log-denied, log-missized, log-allowed}
 
+-- the state reached, in columns
+module _ (s : State) {v : Verdict} (place : ℕ) (before : List ℕ) where
+  pub reached-refused : {q : Refusal} {after : List ℕ} {o : Outcome} → v ≡ Denied q → o ≡ MoveRefused place q → after ≡ before
+      → ComesTo (ranResult (ranBy v place (stateIn s))) before after o
+  reached-refused e f g = record { outcome = rw e f; target = rw e g }
+
+  pub reached-stored : {after : List ℕ} {n : ℕ} → v ≡ Allowed → Stored s before after n
+      → ComesTo (ranResult (ranBy v place (stateIn s))) before after (Written n)
+  reached-stored e k = record { outcome = rw (e, k .words); target = rw e (k .target) }
+
 -- the run from the loaded state
 module _ (t S l before : List ℕ) {r : Ran} {s s′ : State}
     (loaded : HoldsIn s (stateOf S)) (ran : RanAs r lineCeiling (tableOf t) l s s′) where
-  run-by : {u : Verdict} → r .verdict ≡ u → runOf lineCeiling t S l ≡ ranBy u (r .place) (stateIn s′)
-  run-by e = sym (ran-whole t S l loaded ran) ∙ rw e
-
-  pub finish-refused : {q : Refusal} → r .verdict ≡ Denied q → ComesTo (runMade t S l) before before (MoveRefused (r .place) q)
-  finish-refused e = record { outcome = rw (run-by e); target = rw (run-by e) }
-
-  pub finish-written : {after : List ℕ} {n : ℕ} → r .verdict ≡ Allowed → Stored s′ before after n → ComesTo (runMade t S l) before after (Written n)
-  finish-written e k = record { outcome = rw (run-by e, k .words); target = rw (run-by e) (k .target) }
+  pub reached-made : {after : List ℕ} {o : Outcome}
+      → ComesTo (ranResult (ranBy (r .verdict) (r .place) (stateIn s′))) before after o → ComesTo (runMade t S l) before after o
+  reached-made h = rw (ran-whole t S l loaded ran) at h
 
 -- what `run` says
 abbrev pub RunAnswered : List ℕ → List ℕ → List ℕ → List ℕ → List ℕ → Outcome → Type 0

@@ -1,6 +1,12 @@
 // The run of a log.
+ghost use Prim.Native.Nat.{ℕ, _+_, _*_, _≤_};
 ghost use mathlib.Core.Path.{_≡_};
-ghost use Rattle.semantics.specs.Answers.{answerOf, runLog, runLogTarget};
+ghost use mathlib.Core.List.{List};
+ghost use lib.ListN.{length};
+ghost use Rattle.semantics.specs.Answers.{answerOf, ranResult, runLog, runLogTarget};
+ghost use Rattle.state.specs.Working.{held, stateIn};
+ghost use Rattle.state.specs.Lent.{Columns};
+ghost use Rattle.run.specs.Runs.{ranBy};
 ghost use Rattle.calls.specs.Logs.{LogReady, runMade};
 ghost use Rattle.calls.specs.Results.{ComesTo};
 use ready::ready;
@@ -8,7 +14,28 @@ use run::run_log;
 use semantics::Outcome;
 use semantics::Refusal;
 use semantics::Verdict;
+use state::Extent;
 use state::State;
+
+// The state that a run reached, or 16: nothing is written before all the moves are known to be made.
+fn store_reached<'a>(
+    verdict: Verdict,
+    place: u32,
+    left: Extent,
+    owners: &'a [u16; 1024],
+    items: &'a [u32; 1024],
+    target: &mut [u32],
+) -> Outcome
+    requires { ⌜ Columns (now owners) (now items) (left .len) × (2 + 2 * left .len ≤ length (now target)) ⌝ }
+    ensures { λ r. ⌜ ((gs : List ℕ)
+        → ComesTo (ranResult (ranBy verdict place (stateIn (held (now (owners .entry)) (now (items .entry)) gs left))))
+        (now (target .entry)) (now (target .exit)) r) ⌝ }
+{
+    if let Verdict::Denied(refusal) = verdict {
+        return Outcome::MoveRefused(place, refusal);
+    }
+    Outcome::Written(state::store(owners, items, left, target))
+}
 
 // A log in order, with a target that is long enough: the words of the state reached, or 16.
 fn run_and_store<'a>(
@@ -37,10 +64,7 @@ fn run_and_store<'a>(
         State::MAX_ENTRIES,
     );
     let verdict = ran.verdict;
-    if let Verdict::Denied(refusal) = verdict {
-        return Outcome::MoveRefused(ran.place, refusal);
-    }
-    Outcome::Written(state::store(&owners, &items, ran.left, target))
+    store_reached(verdict, ran.place, ran.left, &owners, &items, target)
 }
 
 // A log's moves one after another: the words written, or 1 to 4, 13, 6, 16.

@@ -23,7 +23,8 @@ use words::head::MoveWords;
 use words::origin;
 use words::picks::put_origins;
 
-fn word_at(column: &[u16; 1024], place: u32) -> u16
+// What stands at a place of a column; 0 past its end.
+fn half_at(column: &[u16; 1024], place: u32) -> u16
     requires { ⌜ length (now column) ≡ 1024 ⌝ }
     ensures { λ r. ⌜ r ≡ getD (now (column .entry)) place 0 ⌝ }
 {
@@ -40,10 +41,10 @@ fn note_picks(column: &[u16; 1024], picks: [u32; 4], i: usize, wanted: &mut [u16
     ensures { λ _. ⌜ Pasted (now (wanted .entry)) (4 * i) (wordsAt (now (column .entry)) picks) 4 (now (wanted .exit)) ⌝ }
 {
     let found = [
-        word_at(column, picks[0]),
-        word_at(column, picks[1]),
-        word_at(column, picks[2]),
-        word_at(column, picks[3]),
+        half_at(column, picks[0]),
+        half_at(column, picks[1]),
+        half_at(column, picks[2]),
+        half_at(column, picks[3]),
     ];
     put_origins(wanted, 4 * i, found);
 }
@@ -54,7 +55,7 @@ fn concerned(owners: &[u16; 1024], head: u32, picks: [u32; 4]) -> u32
     ensures { λ r. ⌜ r ≡ concernedBy (now (owners .entry)) head picks ⌝ }
 {
     if head::kind_of(head) == head::REACT {
-        word_at(owners, picks[0]) as u32
+        half_at(owners, picks[0]) as u32
     } else {
         head::number_of(head)
     }
@@ -66,7 +67,7 @@ fn mark_of(begun: &[u16; 1024], first: u32, id: u32) -> u16
     ensures { λ r. ⌜ r ≡ markBy (now (begun .entry)) first id ⌝ }
 {
     if first <= id {
-        word_at(begun, id - first)
+        half_at(begun, id - first)
     } else {
         0
     }

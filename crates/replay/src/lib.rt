@@ -1,5 +1,5 @@
-// The second pass: the recorded moves again in the serial order, picks renumbered to the entries of
-// the same origins, ends under the ids that the batches now have.
+// The second pass: the recorded moves again in the serial order, their picks found by origin, ends
+// under the ids that the transactions now have.
 ghost use Prim.Native.Nat.{ℕ, _+_, _*_, _≤_, _<_};
 ghost use mathlib.Core.Path.{_≡_};
 ghost use mathlib.Core.List.{List, map};

@@ -147,7 +147,7 @@ module _ {t : Table} {l : List ℕ} {start : State} {before : List ℕ} {i : ℕ
       size = ap length write ∙ length-sets after (4 * i) (i ∷ answerIn (x .verdict) ∷ s′ .len ∷ s′ .next ∷ []) ∙ h .size;
     }
 
-    -- a refused move is the last line
+    -- after a refused one no line follows
     pub tracing-refused : {q : Refusal} → x .verdict ≡ Denied q → TracedAs (linesIn t l start) before new (i + 1)
     unfolding line
     tracing-refused {q} e =

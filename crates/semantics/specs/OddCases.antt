@@ -136,7 +136,7 @@ odd =
     -- after a merge only the smallest id is a transaction's
     ∷ move (2 ∷ 3 ∷ 1 ∷ 1 ∷ 0x03000001 ∷ 0x03000002 ∷ []) (release 2) 9
     ∷ move (2 ∷ 3 ∷ 1 ∷ 1 ∷ 0x03000001 ∷ 0x03000002 ∷ []) (release 1) 0
-    -- 1,024 entries afterwards pass, 1,025 give 12 (rule 0 takes one and leaves three)
+    -- up to the limit, and one entry over it (rule 0 takes one and leaves three)
     ∷ move (1022 ∷ 1 ∷ replicate 2044 0) (rule1 0 1021) 0
     ∷ move (1023 ∷ 1 ∷ replicate 2046 0) (rule1 0 0) 12
     ∷ move (1023 ∷ 65536 ∷ replicate 2046 0) (rule1 0 0) 11

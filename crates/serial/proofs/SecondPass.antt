@@ -54,6 +54,15 @@ module _ {l members ends : List ℕ} (h : Sortable l members ends) {n : ℕ} (e 
     sorted = subst (λ (j : ℕ). take j order ≡ arrangedBy (take j keys)) e (a .1);
   }
 
+-- ---- the words written, or 17
+
+module _ {fits : Bool} (k : ℕ) (out before : List ℕ) where
+  pub outgrown-as : fits ≡ false → WrittenAs fits k out before before (Refused SerialTooManyEntries)
+  outgrown-as e = record { outcome = rw e; target = rw e }
+
+  pub written-as : fits ≡ true → {after : List ℕ} → after ≡ over (take (1 + 5 * k) out) before → WrittenAs fits k out before after (Written (1 + 5 * k))
+  written-as e copied = record { outcome = rw e; target = rw e copied }
+
 -- ---- the serial order of a recorded log
 
 module _ (t index s l origins members ends target : List ℕ) (k : Reorderable t index s l origins members ends target) where

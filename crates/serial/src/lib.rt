@@ -49,7 +49,7 @@ fn written(fits: bool, k: usize, out: &[u32], target: &mut [u32]) -> Outcome
     Outcome::Written(n as u32)
 }
 
-// The second pass, on the same columns: the log's moves in serial order. They are written into a room of their own,
+// The second pass, on the same columns: the log's moves in serial order. They are written into words of their own,
 // since 17 may be found midway.
 fn reordered<'a>(
     table: &'a [u32],
@@ -62,11 +62,11 @@ fn reordered<'a>(
     owners: &mut [u16; 1024],
     items: &mut [u32; 1024],
     origins: &mut [u16; 1024],
-    room: &mut [u32],
+    out: &mut [u32],
     target: &mut [u32],
 ) -> Outcome
     requires { ⌜ Reorderable (now table) (now starts) (now state) (now log) (now wanted) (now members) (now ended) (now target)
-        × Arrays (now owners) (now items) (now origins) × (1 + 5 * moveCount (now log) ≤ length (now room)) ⌝ }
+        × Arrays (now owners) (now items) (now origins) × (1 + 5 * moveCount (now log) ≤ length (now out)) ⌝ }
     ensures { λ r. ⌜ ReorderedAs (now (table .entry)) (now (state .entry)) (now (log .entry)) (now (target .entry)) (now (target .exit)) r ⌝ }
 {
     let mut order = [0u16; 1024];
@@ -84,9 +84,9 @@ fn reordered<'a>(
         wanted,
         members,
         State::MAX_ENTRIES,
-        room,
+        out,
     );
-    written(fits, count_of(log), room, target)
+    written(fits, count_of(log), out, target)
 }
 
 // The first pass, and what it may find: 16, then 15 at the end.

@@ -43,8 +43,8 @@ pub record SameMembers (s s′ : State) (b b′ : ℕ) : Type 0 where
   pub members : (o : Origin) → any (sameOrigin o) (marksIn (b′ ∷ []) s′) ≡ any (sameOrigin o) (marksIn (b ∷ []) s)
   pub smallest : b′ ≡ least (markValues (entriesIn b′ s′))
 
--- A move in the state s, and the same one again in s′: a reaction by the same rule, its picks, in order, on the entries of the same origin; a commit
--- or abort of the same members.
+-- A move in the state s, and the same one again in s′: a reaction by the same rule, each of whose picks is the entry that has the origin of the one
+-- picked before; a commit or abort of the same members.
 pub data SameMove (s s′ : State) : Move → Move → Type 0 where
   reaction : (r : ℕ) (ps ps′ : List ℕ) → originsOf (picked s′ ps′) ≡ originsOf (picked s ps) → SameMove s s′ (react r ps) (react r ps′)
   committed : (b b′ : ℕ) → SameMembers s s′ b b′ → SameMove s s′ (commit b) (commit b′)
@@ -139,7 +139,7 @@ pub record Serializable (ceiling : ℕ) (T S L : List ℕ) (e : State) : Type 0 
   pub words : length (logWords (serialOf T S L)) ≡ 1 + 5 * moveCount L
   pub answer : (target : List ℕ) → 1 + 5 * moveCount L ≤ length target
       → serialResult ceiling T S L target ≡ cond (roomAlong ceiling T S L) (write (logWords (serialOf T S L))) (refuse SerialTooManyEntries)
-  -- .. in which case their run is accepted, with a target long enough for a state.
+  -- .. in which case their run is accepted, given a target that could hold any state.
   pub rerun : roomAlong ceiling T S L ≡ true → (target : List ℕ) → 2050 ≤ length target
       → runResult ceiling T S (logWords (serialOf T S L)) target ≡ write (stateWords (serial .end))
 
@@ -167,7 +167,7 @@ pub record Serialized (T S L : List ℕ) (end : State) (target : List ℕ) : Typ
   pub log : roomAlong lineCeiling T S L ≡ true → take (serialize T S L target .words) (serializeTarget T S L target) ≡ logWords (serialOf T S L)
   pub beyond : roomAlong lineCeiling T S L ≡ true
       → drop (serialize T S L target .words) (serializeTarget T S L target) ≡ drop (serialize T S L target .words) target
-  -- A run of exactly these words, with a target long enough for a state, is accepted and leaves the end of the serial log.
+  -- A run of exactly these words, given a target that could hold any state, is accepted and leaves the end of the serial log.
   pub rerun : roomAlong lineCeiling T S L ≡ true → (other : List ℕ) → 2050 ≤ length other
       → Rerun T S (take (serialize T S L target .words) (serializeTarget T S L target)) end other
 

@@ -5,8 +5,8 @@ use std::collections::{BTreeMap, BTreeSet};
 use super::definitions::{Channel, Definition, Output, Product, Term};
 use crate::words::MAX_NEXT;
 
-/// The name of a molecule: its place at the start, or the move that made it and its place among
-/// that move's products. Two molecules never share one, so equal messages stay apart.
+/// The name of a molecule: where it stood at the start, or which move made it, and as which of
+/// its products. Two molecules never share one, so equal messages stay apart.
 #[derive(Clone, Copy, Debug, PartialEq, Eq, PartialOrd, Ord)]
 pub enum Origin {
     Start(usize),

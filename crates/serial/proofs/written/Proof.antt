@@ -1,17 +1,15 @@
+-- `written` meets its contract (`SecondPass`).
 use borrow.Author.Tests.{not-true, not-false}
 use borrow.Author.Needs.{needs}
+use Rattle.serial.proofs.SecondPass.{outgrown-as, written-as}
 use Rattle.serial.proofs.written.Statement.{statement}
 use Rattle.serial.proofs.written.Tie as tie
 
 returns : tie.Need-returns
-returns c =
-    let no = not-true (c .before .before .before .args .fits) (c .if1 .taken) in
-    record { outcome = rw no; target = rw no }
+returns c = outgrown-as _ _ _ (not-true _ (c .if1 .taken))
 
 returns-2 : tie.Need-returns-2
-returns-2 c =
-    let yes = not-false (c .before .before .before .before .before .before .before .args .fits) (c .before .before .before .before .if1 .left) in
-    record { outcome = rw yes; target = rw yes (c .before .before .copy-words .ensures) }
+returns-2 c = written-as _ _ _ (not-false _ (c .before .before .before .before .if1 .left)) (c .before .before .copy-words .ensures)
 
 pub written-spec : {M : Type 1} → statement M
 written-spec =

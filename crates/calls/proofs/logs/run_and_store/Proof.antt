@@ -3,7 +3,7 @@ use native.Mathlib.Omega.{arith}
 use Rattle.state.specs.Parts.{loadable}
 use Rattle.ready.specs.Ready.{ready-sizes}
 use Rattle.run.specs.Whole.{words-prepared, loaded-workable}
-use Rattle.calls.proofs.Running.{finish-refused, finish-written}
+use Rattle.calls.proofs.Running.{reached-made}
 use borrow.Author.Needs.{needs}
 use Rattle.calls.proofs.logs.run_and_store.Statement.{statement}
 use Rattle.calls.proofs.logs.run_and_store.Tie as tie
@@ -19,14 +19,9 @@ run-log-requires c κs =
     let loaded = c .before .before .before .load .ensures in
     record { prepared = words-prepared _ _ (p .ready .accepted) (p .ready .starts) (p .sizes); workable = loaded-workable _ (ready-sizes (p .ready)) loaded }
 
-returns : tie.Need-returns
-returns c =
+store-reached-requires : tie.Need-store-reached-requires
+store-reached-requires c κs =
     let ran = c .before .before .before in
-    finish-refused _ _ _ _ (ran .before .before .before .before .load .ensures) (ran .run-log .ensures) (c .before .verdict .given .1)
-
-store-requires : tie.Need-store-requires
-store-requires c κs =
-    let ran = c .before .before .before .before .before in
     let w = ran .run-log .ensures .workable in
     let p = ran .before .before .before .before .before .before .before .before .before .before .before .before .before .before .before .before .pre in
     let loaded = ran .before .before .before .before .load .ensures .holds .fits in (
@@ -34,22 +29,12 @@ store-requires c κs =
       omega (arith, w .bounds .fits, loaded, p .room),
     )
 
-returns-2 : tie.Need-returns-2
-returns-2 c =
-    let ran = c .before .before .before .before .before .before .before .before in
-    finish-written _ _ _ _ (ran .before .before .before .before .load .ensures) (ran .run-log .ensures)
-    (c .before .before .before .before .before .before .enum-told .given .1) (c .before .before .store .ensures _)
+returns : tie.Need-returns
+returns c =
+    let ran = c .before .before .before .before .before .before in
+    reached-made _ _ _ _ (ran .before .before .before .before .load .ensures) (ran .run-log .ensures) (c .before .before .store-reached .ensures _)
 
 pub run-and-store-spec : {M : Type 1} → statement M
 run-and-store-spec =
     tie.close
-    (tie.spec
-    (λ c κs. search needs)
-    load-requires
-    run-log-requires
-    (λ c. search needs)
-    returns
-    (λ c. search needs)
-    store-requires
-    (λ c. search needs)
-    returns-2)
+    (tie.spec (λ c κs. search needs) load-requires run-log-requires store-reached-requires (λ c. search needs) returns)

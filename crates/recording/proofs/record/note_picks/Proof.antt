@@ -20,8 +20,8 @@ returns c =
     let second = third .before in
     let first = second .before in
     let a = first .before .before .args in
-    let e : first .word-at .result ∷ second .word-at2 .result ∷ third .word-at3 .result ∷ fourth .word-at4 .result ∷ [] ≡ wordsAt (a .column .now) (a .t2) =
-    rw (first .word-at .ensures, second .word-at2 .ensures, third .word-at3 .ensures, fourth .word-at4 .ensures)
+    let e : first .half-at .result ∷ second .half-at2 .result ∷ third .half-at3 .result ∷ fourth .half-at4 .result ∷ [] ≡ wordsAt (a .column .now) (a .t2) =
+    rw (first .half-at .ensures, second .half-at2 .ensures, third .half-at3 .ensures, fourth .half-at4 .ensures)
     (four-words (a .column .now) (a .t2) (four-picks (first .before .before))) in
     subst (λ (found : List ℕ). Pasted (a .wanted .now) (4 * a .i) found 4 (put .put-origins .last .0)) e (put .put-origins .ensures)
 
