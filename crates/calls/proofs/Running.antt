@@ -28,9 +28,9 @@ use Rattle.calls.proofs.Results.{fault-gives, passed-gives, too-short, 
 
 -- the state reached, in columns
 module _ (s : State) {v : Verdict} (place : ℕ) (before : List ℕ) where
-  pub reached-refused : {q : Refusal} {after : List ℕ} {o : Outcome} → v ≡ Denied q → o ≡ MoveRefused place q → after ≡ before
+  pub reached-told : {q : Refusal} {after : List ℕ} {o : Outcome} → v ≡ Denied q → o ≡ MoveRefused place q → after ≡ before
       → ComesTo (ranResult (ranBy v place (stateIn s))) before after o
-  reached-refused e f g = record { outcome = rw e f; target = rw e g }
+  reached-told e f g = record { outcome = rw e f; target = rw e g }
 
   pub reached-stored : {after : List ℕ} {n : ℕ} → v ≡ Allowed → Stored s before after n
       → ComesTo (ranResult (ranBy v place (stateIn s))) before after (Written n)
@@ -39,9 +39,9 @@ module _ (s : State) {v : Verdict} (place : ℕ) (before : List ℕ) where
 -- the run from the loaded state
 module _ (t S l before : List ℕ) {r : Ran} {s s′ : State}
     (loaded : HoldsIn s (stateOf S)) (ran : RanAs r lineCeiling (tableOf t) l s s′) where
-  pub reached-made : {after : List ℕ} {o : Outcome}
+  pub reached-run : {after : List ℕ} {o : Outcome}
       → ComesTo (ranResult (ranBy (r .verdict) (r .place) (stateIn s′))) before after o → ComesTo (runMade t S l) before after o
-  reached-made h = rw (ran-whole t S l loaded ran) at h
+  reached-run h = rw (ran-whole t S l loaded ran) at h
 
 -- what `run` says
 abbrev pub RunAnswered : List ℕ → List ℕ → List ℕ → List ℕ → List ℕ → Outcome → Type 0

@@ -2,7 +2,7 @@
 use Prim.Native.Nat.{ℕ, _≤_}
 use mathlib.Core.List.{List, [], _∷_, map}
 use mathlib.Core.Bool.{Bool, true, false, false≢true}
-use mathlib.Core.Path.{_≡_, refl, sym}
+use mathlib.Core.Path.{_≡_, refl, sym, _∙_}
 use mathlib.Core.Logic.{_⊎_, inl, inr}
 use native.Mathlib.Omega.{arith}
 use lib.Dec.{eqb}
@@ -61,6 +61,10 @@ pub least-is : (b : ℕ) (ns : List ℕ) → isIn b ns ≡ true → ((v : ℕ) �
 least-is b ns h k = let x = least-le-in b ns h in let y = k (least ns) (least-some b ns h) in omega arith
 
 -- ---- a test on each number
+
+-- the smallest depends on nothing but which numbers there are
+pub least-same : (b : ℕ) (bs ns : List ℕ) → ((v : ℕ) → isIn v (b ∷ bs) ≡ isIn v ns) → least ns ≡ least (b ∷ bs)
+least-same b bs ns same = least-is (least (b ∷ bs)) ns (sym (same (least (b ∷ bs))) ∙ least-in b bs) (λ v k. least-le-in v (b ∷ bs) (same v ∙ k))
 
 pub all-isIn : (p : ℕ → Bool) (ns : List ℕ) → ((v : ℕ) → isIn v ns ≡ true → p v ≡ true) → all p ns ≡ true
 all-isIn p ns h = Members.all-intro p ns (λ v m. h v (among-isIn v ns m))

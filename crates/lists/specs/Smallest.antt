@@ -50,19 +50,3 @@ all-least p ns n k = same-test _ _ there back
     back h =
         let e : n ≡ least ns = eqb-true n (least ns) (and-right (p n) (eqb n (least ns)) (all-each (λ m. p m && eqb m (least ns)) ns h n k)) in
         rw e h
-
--- ---- found by a loop that keeps the smallest so far
-
-abbrev pub leastFrom : ℕ → List ℕ → ℕ
-leastFrom m [] = m
-leastFrom m (x ∷ xs) = leastFrom (min m x) xs
-
-least-min : (m x : ℕ) (xs : List ℕ) → leastFrom (min m x) xs ≡ min m (leastFrom x xs)
-least-min m x [] = refl
-least-min m x (y ∷ ys) =
-    let e : min (min m x) y ≡ min m (min x y) = omega arith in
-    rw e (least-min m (min x y) ys)
-
-pub least-leastFrom : (x : ℕ) (xs : List ℕ) → least (x ∷ xs) ≡ leastFrom x xs
-least-leastFrom x [] = refl
-least-leastFrom x (y ∷ ys) = rw (least-leastFrom y ys, least-min x y ys)

@@ -6,34 +6,23 @@ ghost use lib.ListN.{take, length, getD};
 ghost use Rattle.lists.specs.Lists.{isIn, distinct, least};
 ghost use Rattle.reaction.specs.Places.{Places, fourAt};
 
-// Whether the first k differ: none of them stands again after itself.
+// Whether the first k differ. By k, which the processor foretells: a test of k in each term is waited for.
 pub fn all_differ(few: [u32; 4], k: usize) -> bool
     requires { ⌜ k ≤ 4 ⌝ }
     ensures { λ r. ⌜ r ≡ distinct (take k few) ⌝ }
 {
-    ((k < 2) | (few[0] != few[1]))
-        & ((k < 3) | (few[0] != few[2]) & (few[1] != few[2]))
-        & ((k < 4) | (few[0] != few[3]) & (few[1] != few[3]) & (few[2] != few[3]))
-}
-
-fn smaller(a: u16, b: u16) -> u16
-    ensures { λ r. ⌜ r ≡ min a b ⌝ }
-{
-    if a <= b { a } else { b }
-}
-
-// The smallest of the first k.
-pub fn smallest(few: [u16; 4], k: usize) -> u16
-    requires { ⌜ (1 ≤ k) × (k ≤ 4) ⌝ }
-    ensures { λ r. ⌜ r ≡ least (take k few) ⌝ }
-{
-    let mut m = few[0];
-    let mut i = 1;
-    while i < k {
-        m = smaller(m, few[i]);
-        i += 1;
+    if k < 2 {
+        return true;
     }
-    m
+    let two = few[0] != few[1];
+    if k < 3 {
+        return two;
+    }
+    let three = two & (few[0] != few[2]) & (few[1] != few[2]);
+    if k < 4 {
+        return three;
+    }
+    three & (few[0] != few[3]) & (few[1] != few[3]) & (few[2] != few[3])
 }
 
 fn either(b: bool, x: u16, y: u16) -> u16
@@ -52,6 +41,21 @@ pub fn repeated(few: [u16; 4], k: usize) -> [u16; 4]
     let c = either(2 < k, few[2], a);
     let d = either(3 < k, few[3], a);
     [a, b, c, d]
+}
+
+fn smaller(a: u16, b: u16) -> u16
+    ensures { λ r. ⌜ r ≡ min a b ⌝ }
+{
+    if a <= b { a } else { b }
+}
+
+// The smallest of the first k.
+pub fn smallest(few: [u16; 4], k: usize) -> u16
+    requires { ⌜ (1 ≤ k) × (k ≤ 4) ⌝ }
+    ensures { λ r. ⌜ r ≡ least (take k few) ⌝ }
+{
+    let all = repeated(few, k);
+    smaller(smaller(all[0], all[1]), smaller(all[2], all[3]))
 }
 
 fn item_at(column: &[u32; 1024], pick: u32, used: bool) -> u32

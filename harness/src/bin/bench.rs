@@ -13,6 +13,13 @@ use harness::stack;
 use harness::words::{log_words, Move, State, Table, STATE_TARGET};
 use harness::{library, plain};
 
+/// So many logs are taken in turn. Of one log again and again the processor would learn the branches, and of a short one
+/// more than of a long one.
+const LOGS: usize = 16;
+
+/// A state, and the move or log that goes with it; none for a check.
+type Input = (State, Vec<u32>);
+
 /// A call and its plain counterpart, in one shape: the checks ignore what they do not take.
 struct Pair {
     name: &'static str,
@@ -83,17 +90,18 @@ fn nanoseconds(repeats: u64, mut call: impl FnMut()) -> f64 {
     start.elapsed().as_nanos() as f64 / repeats as f64
 }
 
-/// The repeats that fill one round.
-fn repeats(effort: Effort, mut call: impl FnMut()) -> u64 {
-    let once = nanoseconds(1, &mut call).max(1.0);
-    (effort.round as f64 / once).clamp(1.0, 1e6) as u64
+/// The repeats that fill one round, in which each of so many inputs has its turn equally often.
+fn repeats(effort: Effort, inputs: usize, mut call: impl FnMut()) -> u64 {
+    let inputs = inputs as u64;
+    let all = nanoseconds(inputs, &mut call).max(1.0) * inputs as f64;
+    (effort.round as f64 / all).clamp(1.0, 1e6) as u64 * inputs
 }
 
 /// The best time of one copy of so many words.
 fn copy_time(effort: Effort, words: usize) -> f64 {
     let (from, mut target) = (vec![1u32; words], vec![0; words]);
     let mut copy = || black_box(&mut target[..]).copy_from_slice(black_box(&from));
-    let repeats = repeats(effort, &mut copy);
+    let repeats = repeats(effort, 1, &mut copy);
     (0..effort.rounds).map(|_| nanoseconds(repeats, &mut copy)).fold(f64::MAX, f64::min)
 }
 
@@ -130,27 +138,35 @@ impl Bench {
         time
     }
 
-    /// Measures both on the same input and prints a row.
-    fn row(&mut self, pair: &Pair, what: &str, table: &Table, state: &State, third: &[u32]) -> Times {
-        let (table, state) = (table.words(), state.words());
-        let room = STATE_TARGET.max(third.len());
+    /// Measures both on the same inputs, which are taken in turn, and prints a row.
+    fn row(&mut self, pair: &Pair, what: &str, table: &Table, inputs: &[Input]) -> Times {
+        let table = table.words();
+        let inputs: Vec<(Vec<u32>, &[u32])> = inputs.iter().map(|(state, third)| (state.words(), &third[..])).collect();
+        let room = inputs.iter().map(|(_, third)| third.len()).fold(STATE_TARGET, usize::max);
         let (mut ours, mut rust) = (vec![0; room], vec![0; room]);
-        let answer = (pair.ours)(&table, &state, third, &mut ours);
-        assert_eq!(answer, (pair.rust)(&table, &state, third, &mut rust), "{} {what}", pair.name);
-        assert!(ours == rust && answer.number() == 0, "{} {what}: {answer:?}", pair.name);
+        for (state, third) in &inputs {
+            let answer = (pair.ours)(&table, state, third, &mut ours);
+            assert_eq!(answer, (pair.rust)(&table, state, third, &mut rust), "{} {what}", pair.name);
+            assert!(ours == rust && answer.number() == 0, "{} {what}: {answer:?}", pair.name);
+        }
 
+        let (mut turns_ours, mut turns_rust) = (inputs.iter().cycle(), inputs.iter().cycle());
         let mut call_ours = || {
-            black_box((pair.ours)(black_box(&table), black_box(&state), black_box(third), black_box(&mut ours)));
+            let (state, third) = turns_ours.next().unwrap();
+            black_box((pair.ours)(black_box(&table), black_box(state), black_box(third), black_box(&mut ours)));
         };
         let mut call_rust = || {
-            black_box((pair.rust)(black_box(&table), black_box(&state), black_box(third), black_box(&mut rust)));
+            let (state, third) = turns_rust.next().unwrap();
+            black_box((pair.rust)(black_box(&table), black_box(state), black_box(third), black_box(&mut rust)));
         };
-        let (of_ours, of_rust) = (repeats(self.effort, &mut call_ours), repeats(self.effort, &mut call_rust));
+        let turns = inputs.len();
+        let (of_ours, of_rust) = (repeats(self.effort, turns, &mut call_ours), repeats(self.effort, turns, &mut call_rust));
         let mut times = Times { ours: f64::MAX, rust: f64::MAX };
         for _ in 0..self.effort.rounds {
             times.ours = times.ours.min(nanoseconds(of_ours, &mut call_ours));
             times.rust = times.rust.min(nanoseconds(of_rust, &mut call_rust));
         }
+        let (state, third) = &inputs[0];
         // A table's check has no state.
         let copies = match state.len() {
             2 => "-".into(),
@@ -165,7 +181,7 @@ impl Bench {
         );
         note(&mut self.worst, pair.name, times.ratio());
         let used = stack::used(|| {
-            (pair.ours)(&table, &state, third, &mut ours);
+            (pair.ours)(&table, state, third, &mut ours);
         });
         note(&mut self.stack, pair.name, used);
         times
@@ -208,10 +224,10 @@ impl Growth {
 /// What is measured of each call.
 impl Bench {
     fn check_table(&mut self) {
-        let none = messages(0);
+        let none = [(messages(0), Vec::new())];
         let mut line = Growth::new("check_table".into());
         for Named(name, table) in [self.small.clone(), self.middle.clone(), self.full.clone()] {
-            let times = self.row(&CHECK_TABLE, &format!("{name}, {} atoms", table.atoms()), &table, &none, &[]);
+            let times = self.row(&CHECK_TABLE, &format!("{name}, {} atoms", table.atoms()), &table, &none);
             line.push(table.atoms(), times);
         }
         self.growth.push(line);
@@ -224,7 +240,7 @@ impl Bench {
                 let mut line = Growth::new(format!("check_state, {kind}, {name}"));
                 for &n in self.entries {
                     let what = format!("{name}, {n} entries, {kind}");
-                    line.push(n, self.row(&CHECK_STATE, &what, &table, &state(n), &[]));
+                    line.push(n, self.row(&CHECK_STATE, &what, &table, &[(state(n), Vec::new())]));
                 }
                 self.growth.push(line);
             }
@@ -237,9 +253,9 @@ impl Bench {
                 let mut line = Growth::new(format!("move, {act}, {name}"));
                 for &n in self.entries {
                     // A begin adds two entries.
-                    let (_, state, mv) = &single_moves(&table, n.min(1_022))[kind];
+                    let (_, state, mv) = single_moves(&table, n.min(1_022)).swap_remove(kind);
                     let what = format!("{name}, {n} entries, {act}");
-                    line.push(n, self.row(&MAKE_MOVE, &what, &table, state, &mv.words()));
+                    line.push(n, self.row(&MAKE_MOVE, &what, &table, &[(state, mv.words().to_vec())]));
                 }
                 self.growth.push(line);
             }
@@ -251,9 +267,13 @@ impl Bench {
         let mut random = Random::new(801);
         for (kind, make) in [("merges", merge_log as Make), ("all global", global_log)] {
             let mut row = |bench: &mut Bench, Named(name, table): &Named, n: usize, k: usize| {
-                let (start, log) = make(&mut random, table, n, k);
+                let mut input = || {
+                    let (start, log) = make(&mut random, table, n, k);
+                    (start, log_words(&log))
+                };
+                let inputs: Vec<Input> = (0..LOGS).map(|_| input()).collect();
                 let what = format!("{name}, {n} entries, {k} moves, {kind}");
-                bench.row(pair, &what, table, &start, &log_words(&log))
+                bench.row(pair, &what, table, &inputs)
             };
             let (small, full) = (self.small.clone(), self.full.clone());
             row(self, &small, 16, 16);
@@ -282,7 +302,8 @@ fn main() {
     let (flags, chosen): (Vec<String>, Vec<String>) = args().skip(1).partition(|argument| argument == "--smoke");
     let mut bench = Bench::new(!flags.is_empty());
 
-    println!("Ratio: ours / plain Rust, best of {} interleaved rounds, same input, same answers.", bench.effort.rounds);
+    println!("Ratio: ours / plain Rust, best of {} interleaved rounds, same inputs, same answers.", bench.effort.rounds);
+    println!("A row of `run` or `serialize` takes {LOGS} logs in turn.");
     println!("Copies: ours / one memcpy of the state's words.\n");
     println!("| {:<11} | {:<46} | ratio | ours in µs | Rust in µs |  copies |", "call", "input");
     println!("|{:-<13}|{:-<48}|-------|------------|------------|---------|", "", "");

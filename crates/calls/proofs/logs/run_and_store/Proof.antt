@@ -3,7 +3,7 @@ use native.Mathlib.Omega.{arith}
 use Rattle.state.specs.Parts.{loadable}
 use Rattle.ready.specs.Ready.{ready-sizes}
 use Rattle.run.specs.Whole.{words-prepared, loaded-workable}
-use Rattle.calls.proofs.Running.{reached-made}
+use Rattle.calls.proofs.Running.{reached-run}
 use borrow.Author.Needs.{needs}
 use Rattle.calls.proofs.logs.run_and_store.Statement.{statement}
 use Rattle.calls.proofs.logs.run_and_store.Tie as tie
@@ -32,7 +32,7 @@ store-reached-requires c κs =
 returns : tie.Need-returns
 returns c =
     let ran = c .before .before .before .before .before .before in
-    reached-made _ _ _ _ (ran .before .before .before .before .load .ensures) (ran .run-log .ensures) (c .before .before .store-reached .ensures _)
+    reached-run _ _ _ _ (ran .before .before .before .before .load .ensures) (ran .run-log .ensures) (c .before .before .store-reached .ensures _)
 
 pub run-and-store-spec : {M : Type 1} → statement M
 run-and-store-spec =
