@@ -28,10 +28,6 @@ use Rattle.calls.proofs.Results.{fault-gives, passed-gives, too-short, 
 
 -- the state reached, in columns
 module _ (s : State) {v : Verdict} (place : ℕ) (before : List ℕ) where
-  pub reached-told : {q : Refusal} {after : List ℕ} {o : Outcome} → v ≡ Denied q → o ≡ MoveRefused place q → after ≡ before
-      → ComesTo (ranResult (ranBy v place (stateIn s))) before after o
-  reached-told e f g = record { outcome = rw e f; target = rw e g }
-
   pub reached-stored : {after : List ℕ} {n : ℕ} → v ≡ Allowed → Stored s before after n
       → ComesTo (ranResult (ranBy v place (stateIn s))) before after (Written n)
   reached-stored e k = record { outcome = rw (e, k .words); target = rw e (k .target) }

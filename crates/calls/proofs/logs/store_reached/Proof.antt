@@ -1,12 +1,13 @@
 -- `store_reached` meets its contract (`Running`).
-use mathlib.Core.Path.{refl}
 use borrow.Author.Needs.{needs}
-use Rattle.calls.proofs.Running.{reached-told, reached-stored}
+use Rattle.calls.proofs.Running.{reached-stored}
 use Rattle.calls.proofs.logs.store_reached.Statement.{statement}
 use Rattle.calls.proofs.logs.store_reached.Tie as tie
 
 returns : tie.Need-returns
-returns c = λ gs. reached-told _ _ _ (c .before .verdict .given .1) refl refl
+returns c = λ gs.
+    let told = c .before .verdict .given .1 in
+    record { outcome = rw told; target = rw told }
 
 returns-2 : tie.Need-returns-2
 returns-2 c = λ gs. reached-stored _ _ _ (c .before .before .before .before .enum-told .given .1) (c .before .before .store .ensures gs)
