@@ -14,7 +14,7 @@ use Rattle.semantics.specs.declared.Refusal.the-variants.{LogSizes, TargetTooSh
 use Rattle.semantics.specs.declared.Verdict.{Verdict}
 use Rattle.semantics.specs.declared.Verdict.the-variants.{Allowed, Denied}
 use Rattle.semantics.specs.declared.Outcome.{Outcome}
-use Rattle.semantics.specs.declared.Outcome.the-variants.{Written, Refused, MoveRefused}
+use Rattle.semantics.specs.declared.Outcome.the-variants.{Written, Refused}
 use Rattle.wellformed.specs.Verdicts.{FaultAt}
 use Rattle.state.specs.declared.State.{State}
 use Rattle.state.specs.Working.{stateIn, Stored}
