@@ -84,7 +84,7 @@ typedef struct coordinator_answer {
 } coordinator_answer;
 
 /* Whether a table is well formed.
- * Refusals: 1, 2. Stack: 0.6 KB. */
+ * Refusals: 1, 2. Stack: 1.0 KB. */
 coordinator_answer coordinator_check_table(const uint32_t *table, size_t table_len);
 
 /* Whether a state is well formed under its table.

@@ -11,7 +11,7 @@ use harness::random::Random;
 use harness::two_lot::{self, case_d};
 use harness::words::{act, log_from_words, log_words, role, Atom, Entry, Move, State, Table};
 
-// Catches a copied log called serial, and blocks in the order of begins instead of ends.
+// Catches a log that is only copied, and blocks in the order of begins instead of ends.
 #[test]
 fn cases_d_and_h() {
     let (table, start) = (two_lot::table(), two_lot::start());

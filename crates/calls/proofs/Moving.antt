@@ -10,7 +10,7 @@ use borrow.Author.Tests.{ne-eqb}
 use Rattle.semantics.specs.Table.{tableOf}
 use Rattle.semantics.specs.State.{stateOf}
 use Rattle.semantics.specs.Move.{moveOk, steppedBy, stepWords}
-use Rattle.semantics.specs.Answers.{answerOf, lineCeiling, stateRoom, stateVerdict, moveFaults, moveResult, makeMove, makeMoveTarget}
+use Rattle.semantics.specs.Answers.{answerOf, steppedResult, lineCeiling, stateRoom, stateVerdict, moveFaults, moveResult, makeMove, makeMoveTarget}
 use Rattle.semantics.specs.declared.Refusal.{Refusal}
 use Rattle.semantics.specs.declared.Refusal.the-variants.{MoveForm, TargetTooShort}
 use Rattle.semantics.specs.declared.Verdict.{Verdict}
@@ -30,14 +30,12 @@ use Rattle.calls.proofs.Results.{fault-gives, passed-gives, too-short, 
 -- the move made on the loaded state
 module _ (t S w before : List ℕ) {m : Made} {s s′ : State}
     (loaded : HoldsIn s (stateOf S)) (made : MadeAs m lineCeiling (tableOf t) 1 w s s′) where
-  stepped : {u : Verdict} → m .verdict ≡ u → stepWords lineCeiling (tableOf t) 1 (stateOf S) w ≡ steppedBy u (stateIn s′)
-  stepped e = ap (λ x. stepWords lineCeiling (tableOf t) 1 x w) (sym (loaded .holds .value)) ∙ made .step ∙ rw e
+  stepped : stepWords lineCeiling (tableOf t) 1 (stateOf S) w ≡ steppedBy (m .verdict) (stateIn s′)
+  stepped = ap (λ x. stepWords lineCeiling (tableOf t) 1 x w) (sym (loaded .holds .value)) ∙ made .step
 
-  pub moved-refused : {q : Refusal} → m .verdict ≡ Denied q → ComesTo (moveMade t S w) before before (Refused q)
-  moved-refused e = record { outcome = rw (stepped e); target = rw (stepped e) }
-
-  pub moved-written : {after : List ℕ} {n : ℕ} → m .verdict ≡ Allowed → Stored s′ before after n → ComesTo (moveMade t S w) before after (Written n)
-  moved-written e k = record { outcome = rw (stepped e, k .words); target = rw (stepped e) (k .target) }
+  pub moved-to : {after : List ℕ} {o : Outcome}
+      → ComesTo (steppedResult (steppedBy (m .verdict) (stateIn s′))) before after o → ComesTo (moveMade t S w) before after o
+  moved-to h = rw stepped h
 
 -- five words, one by one
 pub five : (m : List ℕ) → length m ≡ 5 → getD m 0 0 ∷ getD m 1 0 ∷ getD m 2 0 ∷ getD m 3 0 ∷ getD m 4 0 ∷ [] ≡ m

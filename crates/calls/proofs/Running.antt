@@ -26,18 +26,12 @@ use Rattle.calls.specs.Results.{ComesTo}
 use Rattle.calls.specs.Logs.{runMade}
 use Rattle.calls.proofs.Results.{fault-gives, passed-gives, too-short, long-enough, log-denied, log-missized, log-allowed}
 
--- the state reached, in columns
-module _ (s : State) {v : Verdict} (place : ℕ) (before : List ℕ) where
-  pub reached-stored : {after : List ℕ} {n : ℕ} → v ≡ Allowed → Stored s before after n
-      → ComesTo (ranResult (ranBy v place (stateIn s))) before after (Written n)
-  reached-stored e k = record { outcome = rw (e, k .words); target = rw e (k .target) }
-
 -- the run from the loaded state
 module _ (t S l before : List ℕ) {r : Ran} {s s′ : State}
     (loaded : HoldsIn s (stateOf S)) (ran : RanAs r lineCeiling (tableOf t) l s s′) where
-  pub reached-run : {after : List ℕ} {o : Outcome}
+  pub ran-to : {after : List ℕ} {o : Outcome}
       → ComesTo (ranResult (ranBy (r .verdict) (r .place) (stateIn s′))) before after o → ComesTo (runMade t S l) before after o
-  reached-run h = rw (ran-whole t S l loaded ran) at h
+  ran-to h = rw (ran-whole t S l loaded ran) at h
 
 -- what `run` says
 abbrev pub RunAnswered : List ℕ → List ℕ → List ℕ → List ℕ → List ℕ → Outcome → Type 0

@@ -14,7 +14,7 @@ fn outcome_of_check(verdict: Verdict) -> Outcome
     }
 }
 
-// Whether a table is well formed: 0, or 1, 2.
+// Whether a table is well formed: 0, or 1, 2. The index that the check fills serves the other calls.
 pub fn check_table(table: &[u32]) -> Outcome
     ensures { λ r. ⌜ answerOf r ≡ checkTable (now (table .entry)) ⌝ }
 {

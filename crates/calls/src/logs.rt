@@ -73,8 +73,8 @@ pub fn run<'a>(table: &'a [u32], state: &'a [u32], log: &'a [u32], target: &mut 
     ensures contents { λ _. ⌜ now (target .exit) ≡ runLogTarget (now (table .entry)) (now (state .entry)) (now (log .entry)) (now (target .entry)) ⌝ }
 {
     let mut starts = [0u32; 65];
-    let said = ready(table, state, &mut starts);
-    if let Verdict::Denied(refusal) = said {
+    let checked = ready(table, state, &mut starts);
+    if let Verdict::Denied(refusal) = checked {
         return Outcome::Refused(refusal);
     }
     if !log::sizes_ok(log) {

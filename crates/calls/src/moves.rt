@@ -1,17 +1,43 @@
 // The single move.
+ghost use Prim.Native.Nat.{ℕ, _+_, _*_, _≤_};
 ghost use mathlib.Core.Path.{_≡_};
-ghost use Rattle.semantics.specs.Answers.{answerOf, makeMove, makeMoveTarget};
+ghost use mathlib.Core.List.{List};
+ghost use lib.ListN.{length};
+ghost use Rattle.semantics.specs.Move.{steppedBy};
+ghost use Rattle.semantics.specs.Answers.{answerOf, steppedResult, makeMove, makeMoveTarget};
 ghost use Rattle.words.specs.Head.{wordsIn};
+ghost use Rattle.state.specs.Working.{held, stateIn};
+ghost use Rattle.state.specs.Lent.{Columns};
 ghost use Rattle.calls.specs.Moves.{Movable, moveMade};
 ghost use Rattle.calls.specs.Results.{ComesTo};
 use ready::ready;
 use semantics::Outcome;
 use semantics::Refusal;
 use semantics::Verdict;
+use state::Extent;
 use state::State;
 use step::form::form_ok;
 use step::make::make;
 use words::head::MoveWords;
+
+// The state that a move left, or why it is refused, in which case nothing is written.
+fn store_made<'a>(
+    verdict: Verdict,
+    left: Extent,
+    owners: &'a [u16; 1024],
+    items: &'a [u32; 1024],
+    target: &mut [u32],
+) -> Outcome
+    requires { ⌜ Columns (now owners) (now items) (left .len) × (2 + 2 * left .len ≤ length (now target)) ⌝ }
+    ensures { λ r. ⌜ ((gs : List ℕ)
+        → ComesTo (steppedResult (steppedBy verdict (stateIn (held (now (owners .entry)) (now (items .entry)) gs left))))
+        (now (target .entry)) (now (target .exit)) r) ⌝ }
+{
+    if let Verdict::Denied(refusal) = verdict {
+        return Outcome::Refused(refusal);
+    }
+    Outcome::Written(state::store(owners, items, left, target))
+}
 
 // A move in order, with a target that is long enough: 7 to 12.
 fn make_and_store<'a>(
@@ -41,10 +67,7 @@ fn make_and_store<'a>(
         State::MAX_ENTRIES,
     );
     let verdict = made.verdict;
-    if let Verdict::Denied(refusal) = verdict {
-        return Outcome::Refused(refusal);
-    }
-    Outcome::Written(state::store(&owners, &items, made.left, target))
+    store_made(verdict, made.left, &owners, &items, target)
 }
 
 // One move: the words written, or 1 to 12.
@@ -58,8 +81,8 @@ pub fn make_move<'a>(
     ensures contents { λ _. ⌜ now (target .exit) ≡ makeMoveTarget (now (table .entry)) (now (state .entry)) (now (mv .entry)) (now (target .entry)) ⌝ }
 {
     let mut starts = [0u32; 65];
-    let said = ready(table, state, &mut starts);
-    if let Verdict::Denied(refusal) = said {
+    let checked = ready(table, state, &mut starts);
+    if let Verdict::Denied(refusal) = checked {
         return Outcome::Refused(refusal);
     }
     if mv.len() != 5 {

@@ -24,8 +24,8 @@ fn open_in(state: &[u32]) -> bool
     any_open(owners_of(state), n)
 }
 
-// The log's batches one after another: the words written, or 1 to 4, 13, 6, 14, 15, 16, 15, 17. What
-// it writes has demand 3: crates/serializability/specs/Demand3.antt.
+// The log's transactions one after another: the words written, or 1 to 4, 13, 6, 14, 15, 16, 15, 17. What
+// it answers and writes has demand 3: crates/serializability/specs/PublicCalls.antt.
 pub fn serialize<'a>(
     table: &'a [u32],
     state: &'a [u32],
@@ -36,8 +36,8 @@ pub fn serialize<'a>(
     ensures contents { λ _. ⌜ now (target .exit) ≡ serializeTarget (now (table .entry)) (now (state .entry)) (now (log .entry)) (now (target .entry)) ⌝ }
 {
     let mut starts = [0u32; 65];
-    let said = ready(table, state, &mut starts);
-    if let Verdict::Denied(refusal) = said {
+    let checked = ready(table, state, &mut starts);
+    if let Verdict::Denied(refusal) = checked {
         return Outcome::Refused(refusal);
     }
     if !log::sizes_ok(log) {

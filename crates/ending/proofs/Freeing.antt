@@ -5,7 +5,7 @@ use mathlib.Core.Bool.{Bool, true, false, _&&_, _||_, not, cond, false≢true}
 use native.Mathlib.Omega.{arith}
 use lib.Dec.{eqb}
 use borrow.Author.Tests.{not-true}
-use Rattle.lists.specs.Tests.{or-true}
+use Rattle.lists.specs.Tests.{true-or}
 use Rattle.semantics.specs.Words.{itemKind, portOf, valueOf}
 use Rattle.semantics.specs.State.{Entry, owned}
 use Rattle.semantics.specs.Move.{toGlobal, freed}
@@ -32,4 +32,4 @@ freed-entry id kind o x g = go (eqb o id) (eqb (itemKind x) kind)
 -- what it does not own stays as it is
 pub stays-as-is : (id kind : ℕ) (e : Entry) → not (owned id e) ≡ true
     → (not (owned id e) || eqb (e .kind) kind ≡ true) × (e ≡ freed (λ e. eqb (e .kind) kind) id e)
-stays-as-is id kind e h = (or-true (eqb (e .kind) kind) h, rw (not-true (owned id e) h))
+stays-as-is id kind e h = (true-or (eqb (e .kind) kind) h, rw (not-true (owned id e) h))

@@ -1,8 +1,8 @@
 // What a transaction owns.
-ghost use Prim.Native.Nat.{ℕ, _≤_};
+ghost use Prim.Native.Nat.{ℕ, _≤_, _<_};
 ghost use mathlib.Core.Path.{_≡_};
 ghost use mathlib.Core.List.{List};
-ghost use lib.ListN.{length};
+ghost use lib.ListN.{length, getD};
 ghost use Rattle.state.specs.Lent.{stateFrom, Columns};
 ghost use Rattle.ending.specs.End.{NoneBefore, Surveyed};
 use state::Extent;
@@ -18,7 +18,7 @@ pub struct Survey {
 // The place of the transaction's first entry, n where it has none: what is before it matters to no end.
 pub fn first_owned(owners: &[u16; 1024], n: usize, id: u16) -> usize
     requires { ⌜ (n ≤ 1024) × (length (now owners) ≡ 1024) ⌝ }
-    ensures { λ r. ⌜ NoneBefore (now (owners .entry)) id n r ⌝ }
+    ensures { λ r. ⌜ NoneBefore (now (owners .entry)) id n r × (r < n → getD (now (owners .entry)) r 0 ≡ id) ⌝ }
 {
     let mut i = 0;
     while i < n {

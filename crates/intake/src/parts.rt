@@ -39,7 +39,7 @@ fn size_at(words: &[u32], at: usize) -> usize
     }
 }
 
-// Each part is as long as its sizes say, or cut short where the words end.
+// A part has the length that its sizes give it, or is cut short where the words end.
 fn cuts_of(words: &[u32]) -> Cuts
     ensures { λ c. ⌜ CutAt (now (words .entry)) (c .«state_at») (c .«log_at») (c .end) ⌝ }
 {

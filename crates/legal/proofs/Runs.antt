@@ -41,8 +41,8 @@ module _ (z : Sizes) (ws : List ℕ) where
   abbrev right : Shape → ℕ → List ℕ → Bool
   right s r xs = goes atomRole (atomOk z s) r xs
 
-  abbrev pub runOf : Shape → ℕ → ℕ → Bool
-  runOf s r w = inRun atomRole (atomOk z s) r w
+  abbrev pub roleRun : Shape → ℕ → ℕ → Bool
+  roleRun s r w = inRun atomRole (atomOk z s) r w
 
   -- no role is above 5
   over : (s : Shape) (w : ℕ) (xs : List ℕ) → right s 6 (w ∷ xs) ≡ false
@@ -52,8 +52,8 @@ module _ (z : Sizes) (ws : List ℕ) where
       go true e = rw (lt-leb 6 (atomRole w) (omega (arith, atom-fits z s w e .role)))
       go false e = rw e (and-right-false (leb 6 (atomRole w) && risesFrom (atomRole w) atomRole xs) refl)
 
-  ended : (s : Shape) (j : ℕ) → j ≤ length ws → right s 6 (drop j ws) ≡ eqb j (length ws)
-  ended s j l = go (order j (length ws))
+  all-read : (s : Shape) (j : ℕ) → j ≤ length ws → right s 6 (drop j ws) ≡ eqb j (length ws)
+  all-read s j l = go (order j (length ws))
     where
       go : Order j (length ws) → right s 6 (drop j ws) ≡ eqb j (length ws)
       go (before b) = rw (drop-step ws j 0 b, ne-eqb j (length ws) (λ e. omega arith)) (over s (getD ws j 0) (drop (j + 1) ws))
@@ -71,7 +71,7 @@ module _ (z : Sizes) (ws : List ℕ) where
   too-long l = rw (lt-leb (length ws) 16 l)
 
   -- behind a begin
-  module _ (s : Shape) {g h i j : ℕ} (r3 : RunEnd (runOf s 3) ws g h) (r4 : RunEnd (runOf s 4) ws h i) (r5 : RunEnd (runOf s 5) ws i j) where
+  module _ (s : Shape) {g h i j : ℕ} (r3 : RunEnd (roleRun s 3) ws g h) (r4 : RunEnd (roleRun s 4) ws h i) (r5 : RunEnd (roleRun s 5) ws i j) where
     up-to-aborts : right s 3 (drop g ws) ≡ right s 5 (drop i ws)
     up-to-aborts = run-next atomRole (atomOk z s) 3 r3 ∙ run-next atomRole (atomOk z s) 4 r4
 
@@ -85,24 +85,24 @@ module _ (z : Sizes) (ws : List ℕ) where
 
     pub rest-runs : leb (j - i) 1 && eqb j (length ws) ≡ leb (countIf (isRole 5) (drop g ws)) 1 && right s 3 (drop g ws)
     rest-runs =
-        rw (up-to-aborts, ← (run-next atomRole (atomOk z s) 5 r5 ∙ ended s j (r5 .within)))
+        rw (up-to-aborts, ← (run-next atomRole (atomOk z s) 5 r5 ∙ all-read s j (r5 .within)))
         (guarded (leb (j - i) 1) (leb (countIf (isRole 5) (drop g ws)) 1) (right s 5 (drop i ws)) (λ t. rw (aborted t)))
 
   module _
       {k e g : ℕ}
-      (r0 : RunEnd (runOf (shape 0 0 class) 0) ws 0 k)
-      (r1 : RunEnd (runOf (shape k 0 class) 1) ws k e)
-      (r2 : RunEnd (runOf (shape k 0 class) 2) ws e g)
+      (r0 : RunEnd (roleRun (shape 0 0 class) 0) ws 0 k)
+      (r1 : RunEnd (roleRun (shape k 0 class) 1) ws k e)
+      (r2 : RunEnd (roleRun (shape k 0 class) 2) ws e g)
     where
       -- the first runs do not ask for figures that are found later
-      consumes : (n b : ℕ) → RunEnd (runOf (shape n b class) 0) ws 0 k
-      consumes n b = run-same (runOf (shape 0 0 class) 0) (runOf (shape n b class) 0) (λ w. consumes-free z w 0 0 n b class) r0
+      consumes : (n b : ℕ) → RunEnd (roleRun (shape n b class) 0) ws 0 k
+      consumes n b = run-same (roleRun (shape 0 0 class) 0) (roleRun (shape n b class) 0) (λ w. consumes-free z w 0 0 n b class) r0
 
-      emits : (b : ℕ) → RunEnd (runOf (shape k b class) 1) ws k e
-      emits b = run-same (runOf (shape k 0 class) 1) (runOf (shape k b class) 1) (λ w. begins-free z w k 0 b class 1 (omega arith)) r1
+      emits : (b : ℕ) → RunEnd (roleRun (shape k b class) 1) ws k e
+      emits b = run-same (roleRun (shape k 0 class) 1) (roleRun (shape k b class) 1) (λ w. begins-free z w k 0 b class 1 (omega arith)) r1
 
-      begins : (b : ℕ) → RunEnd (runOf (shape k b class) 2) ws e g
-      begins b = run-same (runOf (shape k 0 class) 2) (runOf (shape k b class) 2) (λ w. begins-free z w k 0 b class 2 (omega arith)) r2
+      begins : (b : ℕ) → RunEnd (roleRun (shape k b class) 2) ws e g
+      begins b = run-same (roleRun (shape k 0 class) 2) (roleRun (shape k b class) 2) (λ w. begins-free z w k 0 b class 2 (omega arith)) r2
 
       -- so where the rule is right they are all that it has
       consumed : (n b : ℕ) → right (shape n b class) 0 ws ≡ true → roles 0 ≡ k

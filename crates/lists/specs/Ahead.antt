@@ -7,7 +7,7 @@ use mathlib.Core.List.{List, [], _∷_}
 use native.Mathlib.Omega.{arith}
 use lib.ListN.{length, getD, drop, drop-of-length-le}
 use Rattle.lists.specs.Lists.{all}
-use Rattle.lists.specs.Tests.{and-false, and-true}
+use Rattle.lists.specs.Tests.{false-and, true-and}
 use Rattle.lists.specs.Walk.{drop-step}
 
 module _ {A : Type 0} where
@@ -47,7 +47,7 @@ module _ {A : Type 0} where
   -- ---- a loop that tests each element
   module _ {p : A → Bool} {at : ℕ → A} {rest : ℕ → List A} {n : ℕ} (t : Tails at rest n) {i : ℕ} {goal : Bool} (a : Ahead rest n (all p) i goal) where
     pub each-fails : i < n → p (at i) ≡ false → false ≡ goal
-    each-fails l e = ahead-here t a l false (λ xs. and-false (all p xs) e)
+    each-fails l e = ahead-here t a l false (λ xs. false-and (all p xs) e)
 
     pub each-next : i < n → p (at i) ≡ true → Ahead rest n (all p) (i + 1) goal
-    each-next l e = ahead-next t a l (all p) (λ xs. and-true (all p xs) e)
+    each-next l e = ahead-next t a l (all p) (λ xs. true-and (all p xs) e)

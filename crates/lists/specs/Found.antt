@@ -1,10 +1,9 @@
 -- A loop that notes whether a test held somewhere, and what such notes say of the elements that another test keeps.
 use Prim.Native.Nat.{ℕ, _+_, _≤_, _<_}
 use mathlib.Core.Path.{_≡_, refl, sym, _∙_}
-use mathlib.Core.Bool.{Bool, true, false, _&&_, _||_, not}
+use mathlib.Core.Bool.{Bool, true, false, _&&_, _||_, not, or-false}
 use mathlib.Core.List.{List, [], _∷_, _++_}
 use Rattle.lists.specs.Lists.{all, any, keepIf, keep}
-use Rattle.lists.specs.Tests.{or-end}
 use Rattle.lists.specs.Ahead.{Tails, Ahead, ahead-start, ahead-next, ahead-done}
 use Rattle.lists.specs.Rows.{rows, rowsFrom, rows-whole}
 
@@ -31,7 +30,7 @@ module _ {A : Type 0} where
     finding-next l = record { ahead = ahead-next t (a .ahead) l _ (λ xs. regroup b (p (at i)) (any p xs)) }
 
     pub finding-done : n ≤ i → b ≡ goal
-    finding-done l = sym (or-end b) ∙ ahead-done t (a .ahead) l
+    finding-done l = sym (or-false b) ∙ ahead-done t (a .ahead) l
 
   pub any-append : (p : A → Bool) (xs ys : List A) → any p (xs ++ ys) ≡ any p xs || any p ys
   any-append p [] ys = refl

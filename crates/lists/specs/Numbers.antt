@@ -60,11 +60,11 @@ least-le-in v ns h = Smallest.least-le ns v (isIn-among v ns h)
 pub least-is : (b : ℕ) (ns : List ℕ) → isIn b ns ≡ true → ((v : ℕ) → isIn v ns ≡ true → b ≤ v) → least ns ≡ b
 least-is b ns h k = let x = least-le-in b ns h in let y = k (least ns) (least-some b ns h) in omega arith
 
--- ---- a test on each number
-
 -- the smallest depends on nothing but which numbers there are
 pub least-same : (b : ℕ) (bs ns : List ℕ) → ((v : ℕ) → isIn v (b ∷ bs) ≡ isIn v ns) → least ns ≡ least (b ∷ bs)
 least-same b bs ns same = least-is (least (b ∷ bs)) ns (sym (same (least (b ∷ bs))) ∙ least-in b bs) (λ v k. least-le-in v (b ∷ bs) (same v ∙ k))
+
+-- ---- a test on each number
 
 pub all-isIn : (p : ℕ → Bool) (ns : List ℕ) → ((v : ℕ) → isIn v ns ≡ true → p v ≡ true) → all p ns ≡ true
 all-isIn p ns h = Members.all-intro p ns (λ v m. h v (among-isIn v ns m))

@@ -2,7 +2,7 @@
 -- whole list.
 use Prim.Native.Nat.{ℕ, suc, _+_, _≤_, _<_}
 use mathlib.Core.List.{List, [], _∷_}
-use mathlib.Core.Bool.{Bool, true, false, _&&_, cond}
+use mathlib.Core.Bool.{Bool, true, false, _&&_, and-true, cond}
 use mathlib.Core.Path.{_≡_, refl, sym, ap, _∙_}
 use native.Mathlib.Omega.{arith}
 use borrow.Author.Tests.{eqb-true, eqb-false, le-leb, lt-leb, ne-eqb}
@@ -138,9 +138,5 @@ keys-count {A} key m {xs} {from} r up =
     key
     (λ x. true)
     m
-    (run-same (keyed key m) (λ x. keyed key m x && true) (λ x. alone (keyed key m x)) r)
+    (run-same (keyed key m) (λ x. keyed key m x && true) (λ x. sym (and-true (keyed key m x))) r)
     (rw (up, all-intro (λ (x : A). true) (drop from xs) (λ x m. refl)))
-  where
-    alone : (b : Bool) → b ≡ b && true
-    alone true = refl
-    alone false = refl

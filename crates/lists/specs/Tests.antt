@@ -5,11 +5,11 @@ use Prim.Native.Nat.{ℕ}
 use lib.Dec.{eqb}
 use borrow.Author.Tests.{eqb-true, eqb-false, eq-eqb, ne-eqb}
 
-pub and-false : {a : Bool} (b : Bool) → a ≡ false → a && b ≡ false
-and-false b e = rw e
+pub false-and : {a : Bool} (b : Bool) → a ≡ false → a && b ≡ false
+false-and b e = rw e
 
-pub and-true : {a : Bool} (b : Bool) → a ≡ true → a && b ≡ b
-and-true b e = rw e
+pub true-and : {a : Bool} (b : Bool) → a ≡ true → a && b ≡ b
+true-and b e = rw e
 
 pub and-right-false : (a : Bool) {b : Bool} → b ≡ false → a && b ≡ false
 and-right-false true e = e
@@ -20,15 +20,11 @@ pub and-both : (a b : Bool) → a && b ≡ true → (a ≡ true) × (b ≡ true)
 and-both true b h = (refl, h)
 and-both false b h = absurd (false≢true h)
 
-pub or-true : {a : Bool} (b : Bool) → a ≡ true → a || b ≡ true
-or-true b e = rw e
+pub true-or : {a : Bool} (b : Bool) → a ≡ true → a || b ≡ true
+true-or b e = rw e
 
-pub or-false : {a : Bool} (b : Bool) → a ≡ false → a || b ≡ b
-or-false b e = rw e
-
-pub or-end : (a : Bool) → a || false ≡ a
-or-end true = refl
-or-end false = refl
+pub false-or : {a : Bool} (b : Bool) → a ≡ false → a || b ≡ b
+false-or b e = rw e
 
 pub or-right-true : (a : Bool) {b : Bool} → b ≡ true → a || b ≡ true
 or-right-true true e = refl

@@ -10,7 +10,7 @@ use native.Mathlib.Omega.{arith}
 use lib.ListN.{length, getD, take, drop, set, drop-of-length-le}
 use lib.Seq.{drop-cons, take-suc, take-suc-set}
 use Rattle.lists.specs.Lists.{allBelow}
-use Rattle.lists.specs.Tests.{and-false, and-right-false}
+use Rattle.lists.specs.Tests.{false-and, and-right-false}
 
 module _ {A : Type 0} where
   pub drop-step : (xs : List A) (i : ℕ) (d : A) → i < length xs → drop i xs ≡ getD xs i d ∷ drop (i + 1) xs
@@ -45,7 +45,7 @@ module _ (p : ℕ → Bool) where
   below-false (suc n) r h e =
       ⊎-elim
       (λ q. and-right-false (allBelow n p) (ap p (sym q) ∙ e))
-      (λ l. and-false (p n) (below-false n r l e))
+      (λ l. false-and (p n) (below-false n r l e))
       (eq-or-lt-of-le (le-of-suc-le-suc h))
 
   pub below-each : (n r : ℕ) → allBelow n p ≡ true → r < n → p r ≡ true

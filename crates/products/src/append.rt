@@ -84,7 +84,7 @@ fn next_after(begins: bool, next: u32) -> u32
     if begins { next + 1 } else { next }
 }
 
-// The products follow in atom order; home owns the emits of a global rule and all of another rule.
+// A product for each atom that makes one, one after another; home owns the emits of a global rule and all of another rule.
 // Answers the new extent.
 pub fn append_products(
     owners: &mut [u16; 1024],

@@ -6,7 +6,7 @@ ghost use lib.ListN.{take, length, getD};
 ghost use Rattle.lists.specs.Lists.{isIn, distinct, least};
 ghost use Rattle.reaction.specs.Places.{Places, fourAt};
 
-// Whether the first k differ. By k, which the processor foretells: a test of k in each term is waited for.
+// Whether the first k differ. By cases of k: a branch on k is predicted, where a test of k in each term is waited for.
 pub fn all_differ(few: [u32; 4], k: usize) -> bool
     requires { ⌜ k ≤ 4 ⌝ }
     ensures { λ r. ⌜ r ≡ distinct (take k few) ⌝ }
@@ -31,7 +31,8 @@ fn either(b: bool, x: u16, y: u16) -> u16
     if b { x } else { y }
 }
 
-// The first k and then the first again, so that a number is compared with four always.
+// Four that are the same numbers as the first k, so that a number is compared with four always: the first stands again in the
+// places of those that are not used.
 pub fn repeated(few: [u16; 4], k: usize) -> [u16; 4]
     requires { ⌜ (1 ≤ k) × (k ≤ 4) ⌝ }
     ensures { λ r. ⌜ ((x : ℕ) → isIn x r ≡ isIn x (take k few)) ⌝ }

@@ -17,10 +17,10 @@ module _ (t s : List ℕ) {u : Verdict} {index : List ℕ} (checked : CheckedAs 
   table-denied {r} e =
       let d : tableVerdict t ≡ Denied r = sym (checked .verdict) ∙ e in
       let v : stateVerdict t s ≡ Denied r = rw d in
-      record { verdict = sym v; ready = λ a. absurd (denied≢allowed (sym v ∙ a)) }
+      record { verdict = sym v; room = checked .room; ready = λ a. absurd (denied≢allowed (sym v ∙ a)) }
 
   pub state-checked : u ≡ Allowed → {v : Verdict} → v ≡ stateOwnVerdict (sizesOf t) s → ReadyAs t s v index
   unfolding stateVerdict
   state-checked e h =
       let a : tableVerdict t ≡ Allowed = sym (checked .verdict) ∙ e in
-      record { verdict = h ∙ rw a; ready = λ accepted. record { accepted = accepted; starts = checked .starts a } }
+      record { verdict = h ∙ rw a; room = checked .room; ready = λ accepted. record { accepted = accepted; starts = checked .starts a } }

@@ -4,7 +4,7 @@ ghost use lib.ListN.{length};
 ghost use Rattle.ready.specs.Ready.{ReadyAs};
 use semantics::Verdict;
 
-// The verdict on a table and a state, 1 to 4; where it is Allowed the starts are the table's.
+// The verdict on a table and a state, 1 to 4; where it is Allowed the starts are the index of the table's rules.
 pub fn ready(table: &[u32], state: &[u32], starts: &mut [u32; 65]) -> Verdict
     requires { ⌜ length (now starts) ≡ 65 ⌝ }
     ensures { λ r. ⌜ ReadyAs (now (table .entry)) (now (state .entry)) r (now (starts .exit)) ⌝ }

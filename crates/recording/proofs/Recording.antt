@@ -194,7 +194,7 @@ module _ {T index l : List ℕ} {s₀ : State} {ceiling : ℕ} {before : List �
         recording-room = record {
           origins = omega (arith, noted .picked .size, h .room .origins);
           members = ap length members-are ∙ grown-size members i _ _ (eqb (s .next) (s′ .next)) ∙ h .room .members;
-          ended = noted .ends .size;
+          ends = noted .ends .size;
           begun = ap length (marked .0) ∙ grown-length begun (s .next - s₀ .next) (firstProduct i) (eqb (s .next) (s′ .next)) ∙ h .room .begun;
         }
 

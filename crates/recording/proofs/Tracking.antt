@@ -11,7 +11,7 @@ use lib.ListN.{length, getD, set, length-set}
 use lib.Seq.{getD-set-same, getD-set-other}
 use Rattle.lists.specs.Lists.{keep}
 use Rattle.lists.specs.Choices.{by-bool, and-intro, clash}
-use Rattle.lists.specs.Tests.{or-true}
+use Rattle.lists.specs.Tests.{true-or}
 use Rattle.lists.specs.Members.{Among, all-each, any-intro, keep-among, map-among}
 use Rattle.lists.specs.Each.{empty-nil}
 use Rattle.semantics.specs.Table.{Table, Rule, ruleAt, productAtoms, begins, hasRole}
@@ -156,7 +156,7 @@ module _ {first : ℕ} {begun : List ℕ} {i : ℕ} {s : State} (h : Tracked fir
   own-mark sound e m n =
       let (mark, k, kind, owner, value) = sound .right .own e m n in
       let (low, high, is) = h .marks mark k kind in
-      let mine : isMarkOf (e .owner) mark ≡ true = and-intro (eq-eqb (mark .kind) 3 kind) (or-true false (eq-eqb (mark .owner) (e .owner) owner)) in
+      let mine : isMarkOf (e .owner) mark ≡ true = and-intro (eq-eqb (mark .kind) 3 kind) (true-or false (eq-eqb (mark .owner) (e .owner) owner)) in
       let there : Among (mark .origin) (marksOf (e .owner) (s .entries)) = map-among (λ e. e .origin) (keep (isMarkOf (e .owner)) (s .entries)) mark
       (keep-among (isMarkOf (e .owner)) (s .entries) mark k mine) in
       let word : markBy begun first (e .owner) ≡ getD begun (mark .value - first) 0 = rw (le-leb first (e .owner) (omega arith), value) in

@@ -67,7 +67,7 @@ pub record Recordable (T index l : List ℕ) (s : State) (ceiling : ℕ) : Type 
 pub record RecordRoom (l gs ms es bs : List ℕ) : Type 0 where
   pub origins : 4 * moveCount l ≤ length gs
   pub members : length ms ≡ 1024
-  pub ended : length es ≡ 1024
+  pub ends : length es ≡ 1024
   pub begun : length bs ≡ 1024
 
 -- every act is recorded, and each place has that of the last end of the member begun there

@@ -11,7 +11,7 @@ use lib.Seq.{append-snoc, length-take-le}
 use borrow.Author.Tests.{le-leb}
 use Rattle.lists.specs.Lists.{over}
 use Rattle.lists.specs.Each.{All, head-eq, tail-eq}
-use Rattle.lists.specs.Tests.{and-false, and-true, and-right-false}
+use Rattle.lists.specs.Tests.{false-and, true-and, and-right-false}
 use Rattle.lists.specs.Choices.{by-bool}
 use Rattle.lists.specs.Prefix.{prefix-tails}
 use Rattle.lists.specs.Columns.{row, row-first, row-second, rows-over}
@@ -52,7 +52,7 @@ passes ceiling t i maker c a g f =
 
 unfit : (ceiling : ℕ) (t : Table) (c : State) (rest : List Act) → fits ceiling c ≡ false → replayFits ceiling t c rest ≡ false
 unfit ceiling t c [] h = h
-unfit ceiling t c (a ∷ rest) h = and-false (replayFits ceiling t (after t (suc (a .place)) c (again c a (a .move))) rest) h
+unfit ceiling t c (a ∷ rest) h = false-and (replayFits ceiling t (after t (suc (a .place)) c (again c a (a .move))) rest) h
 
 -- ---- the loop
 
@@ -137,10 +137,10 @@ module _ (ceiling : ℕ) (t : Table) (start : State) (l order origins members : 
               places = tail-eq (r .places ∙ ahead);
               recorded = r .recorded .1;
               replays = rw next (r .replays .1);
-              fitting = rw next (sym (and-true _ (le-leb (length (c .entries)) ceiling n)) ∙ r .fitting);
+              fitting = rw next (sym (true-and _ (le-leb (length (c .entries)) ceiling n)) ∙ r .fitting);
               cut = λ k.
                   let e : j + suc k ≡ j + 1 + k = omega arith in
-                  rw next (sym (and-true _ (le-leb (length (c .entries)) ceiling n)) ∙ r .cut (suc k)
+                  rw next (sym (true-and _ (le-leb (length (c .entries)) ceiling n)) ∙ r .cut (suc k)
                   ∙ ap (λ (i : ℕ). replayFits ceiling t start (take i xs)) e);
               heads = rw next (row-written a rest r room four .0);
               picks = rw next (row-written a rest r room four .1);

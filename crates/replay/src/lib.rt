@@ -151,7 +151,7 @@ fn put_move(out: &mut [u32], k: usize, j: usize, mv: MoveWords)
     put_picks(out, 1 + k + 4 * j, picks);
 }
 
-// The log of the recorded moves in this order, over the target's beginning; whether every state on
+// The log of the recorded moves in this order, over the beginning of `out`; whether every state on
 // the way has at most so many entries. The move at place p is the maker p + 1, as in the first log.
 pub fn replay<'a>(
     table: &'a [u32],

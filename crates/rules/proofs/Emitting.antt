@@ -6,7 +6,7 @@ use mathlib.Core.Path.{_≡_, refl, sym, ap, _∙_}
 use native.Mathlib.Omega.{arith}
 use lib.ListN.{length, drop}
 use Rattle.lists.specs.Lists.{any}
-use Rattle.lists.specs.Tests.{or-true, or-false}
+use Rattle.lists.specs.Tests.{true-or, false-or}
 use Rattle.lists.specs.Ahead.{Tails, slice-tails, Ahead, ahead-start, ahead-here, ahead-next, ahead-done}
 use Rattle.semantics.specs.Table.{sizesOf, numbersOf, atomWordsOf, isRole, begins, emits, Rule, ruleOf, tableOf, ruleAt, noRule}
 use Rattle.wellformed.specs.Tables.{rule-has, length-rules}
@@ -67,7 +67,7 @@ module _ {t starts : List ℕ} {rules : ℕ} {words : List ℕ} {r : ℕ} (a : T
       answer = sym (eb (sizesOf t) ∙ ap opensAndEmits (cut-rule t starts r (a .verdict) under (a .index) (a .parts) refl ex))
 
       pub trying-here : b ≡ true → true ≡ beginsEmit (tableOf t)
-      trying-here e = ahead-here (rule-tails t) (a .ahead) under true (λ xs. or-true (any opensAndEmits xs) (answer ∙ e))
+      trying-here e = ahead-here (rule-tails t) (a .ahead) under true (λ xs. true-or (any opensAndEmits xs) (answer ∙ e))
 
       pub trying-next : b ≡ false → Trying t starts rules words (r + 1)
       trying-next e = record {
@@ -75,5 +75,5 @@ module _ {t starts : List ℕ} {rules : ℕ} {words : List ℕ} {r : ℕ} (a : T
         index = a .index;
         bound = a .bound;
         parts = a .parts;
-        ahead = ahead-next (rule-tails t) (a .ahead) under (any opensAndEmits) (λ xs. or-false (any opensAndEmits xs) (answer ∙ e));
+        ahead = ahead-next (rule-tails t) (a .ahead) under (any opensAndEmits) (λ xs. false-or (any opensAndEmits xs) (answer ∙ e));
       }

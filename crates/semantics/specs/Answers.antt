@@ -168,7 +168,7 @@ runLogTarget t s l target = targetAfter (runResult lineCeiling t s l target) tar
 
 -- ---- the serial log
 
--- the serial log's words, of an accepted log
+-- the moves of the serial log, of an accepted log
 unfoldable pub serialOf : List ℕ → List ℕ → List ℕ → List Move
 serialOf t s l = serial (tableOf t) (stateOf s) (map (moveOf (tableOf t)) (movesOf l))
 

@@ -33,7 +33,7 @@ use Rattle.serial.specs.Serialized.{Tested, Roomy, afterRun, SerializedA
 pub record-room : (l wanted out : List ℕ) → Roomy l wanted out → RecordRoom l wanted (replicate 1024 0) (replicate 1024 0) (replicate 1024 0)
 record-room l wanted out r =
     let one = length-replicate {A = ℕ} 1024 0 in
-    record { origins = r .notes; members = one; ended = one; begun = one }
+    record { origins = r .notes; members = one; ends = one; begun = one }
 
 fitting : (b : Bool) (q : Refusal) (x : Result) → unlessDenied (unless b q) x ≡ cond b x (refuse q)
 fitting true q x = refl
@@ -94,5 +94,5 @@ module _ (t index s l target : List ℕ) (k : Tested t index s l target) {x : St
               ran = run-by e;
               shut = shut;
               recordings = rw (loaded .holds .value, zeros) at (done .recordings e);
-              record-sizes = (room .origins, room .members, room .ended);
+              record-sizes = (room .origins, room .members, room .ends);
             }

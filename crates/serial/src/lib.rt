@@ -1,5 +1,5 @@
 // The serial log, in two passes: the log is run and recorded, then its moves are made again in serial
-// order, each on the entries of the same origin.
+// order, on entries that are found by their origins.
 ghost use Prim.Native.Nat.{_+_, _*_, _≤_};
 ghost use mathlib.Core.Path.{_≡_};
 ghost use lib.ListN.{length};
@@ -32,8 +32,8 @@ fn order_log<'a>(
     let k = count_of(log);
     let mut keys = [0u16; 1024];
     keys_of(log, members, ended, k, &mut keys);
-    let mut starts = [0u16; 1024];
-    order_of(&keys, k, &mut starts, order);
+    let mut next = [0u16; 1024];
+    order_of(&keys, k, &mut next, order);
 }
 
 // The log of k moves, or 17: nothing is written before all of them fit.

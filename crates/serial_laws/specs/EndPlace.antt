@@ -1,6 +1,6 @@
 -- The place of the commit or abort that ends a member, read off the place of the member's begin.
 use Prim.Native.Nat.{ℕ, suc, _-_}
-use mathlib.Core.Bool.{Bool, true, false, _&&_, _||_, cond, false≢true}
+use mathlib.Core.Bool.{Bool, true, false, _&&_, _||_, and-true, or-false, cond, false≢true}
 use mathlib.Core.List.{List, [], _∷_, _++_}
 use mathlib.Core.Path.{_≡_, refl, sym, ap, subst, _∙_}
 use native.Mathlib.Omega.{arith}
@@ -73,11 +73,7 @@ module _ (t : Table) (acts : List Act) (first : All (BeginsFirst t) acts)
       (y, here, f, begin-goes t (y .move) b, only o (firstOf (y .place)) (subst (λ (l : List Origin). any (sameOrigin o) l ≡ true) f i))
     where
       only : (o z : Origin) → (sameOrigin o z || false) ≡ true → o ≡ z
-      only o z w = same-eq o z (or-none (sameOrigin o z) w)
-        where
-          or-none : (b : Bool) → (b || false) ≡ true → b ≡ true
-          or-none true v = refl
-          or-none false v = v
+      only o z w = same-eq o z (sym (or-false (sameOrigin o z)) ∙ w)
 
   -- so an end's members are told apart by their makers
   makers-tell : (p : ℕ) (xs ys : List Act) (a : Act) → acts ≡ xs ++ a ∷ ys → isEnd (a .move) ≡ true
@@ -87,21 +83,13 @@ module _ (t : Table) (acts : List Act) (first : All (BeginsFirst t) acts)
       (λ o h. same o (ap (λ (z : Origin). z .index) (begin-of xs ys a q en o h .4))))
     where
       same : (o : Origin) → o .index ≡ 0 → eqb (o .maker) (suc p) ≡ sameOrigin (firstOf p) o
-      same o z = eqb-swap (o .maker) (suc p) ∙ go (eqb (suc p) (o .maker)) ∙ ap (λ (n : ℕ). eqb (suc p) (o .maker) && eqb 0 n) (sym z)
-        where
-          go : (b : Bool) → b ≡ b && true
-          go true = refl
-          go false = refl
+      same o z = eqb-swap (o .maker) (suc p) ∙ sym (and-true (eqb (suc p) (o .maker))) ∙ ap (λ (n : ℕ). eqb (suc p) (o .maker) && eqb 0 n) (sym z)
 
   -- who ends the member begun by y ends y's member
   ends-begun : (y : Act) → y .members ≡ firstOf (y .place) ∷ [] → isEnd (y .move) ≡ false → All (λ a. endsBegun (y .place) a ≡ endsMemberOf y a) acts
   ends-begun y f n = All-split (λ a. endsBegun (y .place) a ≡ endsMemberOf y a) acts (λ xs ys a q. by-bool (isEnd (a .move))
-      (λ en. rw (en, n, f) (makers-tell (y .place) xs ys a q en ∙ go (any (sameOrigin (firstOf (y .place))) (a .members))))
+      (λ en. rw (en, n, f) (makers-tell (y .place) xs ys a q en ∙ sym (or-false (any (sameOrigin (firstOf (y .place))) (a .members)))))
       (λ en. rw en))
-    where
-      go : (b : Bool) → b ≡ b || false
-      go true = refl
-      go false = refl
 
   pub end-place : (xs ys : List Act) (a : Act) → acts ≡ xs ++ a ∷ ys → isEnd (a .move) ≡ true → (o : Origin) → concerns a o ≡ true
       → endAfter (o .maker - 1) 0 acts ≡ a .place

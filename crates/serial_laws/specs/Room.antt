@@ -1,6 +1,6 @@
 -- The states of the replay have as many entries as those along the serial log.
 use Prim.Native.Nat.{ℕ, suc}
-use mathlib.Core.Bool.{Bool, true, false, _&&_}
+use mathlib.Core.Bool.{true, _&&_, and-true}
 use mathlib.Core.List.{List, [], _∷_}
 use mathlib.Core.Path.{_≡_, refl, sym, ap, _∙_}
 use lib.Dec.{leb}
@@ -19,14 +19,10 @@ fits-same : (n : ℕ) (s c : State) → bareState s ≡ bareState c → fits n c
 fits-same n s c h = ap (λ (k : ℕ). leb k n) (sym (length-map (c .entries) bare) ∙ ap (λ (x : State). length (x .entries)) (sym h)
     ∙ length-map (s .entries) bare)
 
-and-one : (b : Bool) → b ≡ b && true
-and-one true = refl
-and-one false = refl
-
 pub room-along : (n : ℕ) (t : Table) (xs : List Act) (i : ℕ) (s c e : State) → bareState s ≡ bareState c → Goes t c xs e
     → replayFits n t c xs ≡ all (fits n) (along t i s (replayed t c xs))
 unfolding replayed along
-room-along n t [] i s c e b g = fits-same n s c b ∙ and-one (fits n s)
+room-along n t [] i s c e b g = fits-same n s c b ∙ sym (and-true (fits n s))
 room-along n t (a ∷ xs) i s c e b g =
     let m = again c a (a .move) in
     let same = ap bareState (after-allowed t (suc i) s m (allowed-same s c b t m ∙ g .0)) ∙ applied-same s c b t (suc i) (suc (a .place)) m

@@ -1,5 +1,6 @@
 -- Demand 3: what is promised of every accepted log and its serial log. To believe it, only this file, the definitions of the crate `semantics` and those of
--- lists/specs/Lists.antt must be believed; all else in this crate is its proof (Demand3.antt has the theorem, Instances.antt applies it to 01's cases).
+-- lists/specs/Lists.antt must be believed; all else in this crate is its proof (Demand3.antt has the theorem, PublicCalls.antt says it of the public calls, Instances.antt applies it to 01's
+-- cases).
 use Prim.Native.Nat.{ℕ, zero, suc, _+_, _*_, _≤_, _<_}
 use mathlib.Core.Bool.{Bool, true, false, _&&_, _||_, not, cond}
 use mathlib.Core.List.{List, [], _∷_, _++_, map}
@@ -43,8 +44,8 @@ pub record SameMembers (s s′ : State) (b b′ : ℕ) : Type 0 where
   pub members : (o : Origin) → any (sameOrigin o) (marksIn (b′ ∷ []) s′) ≡ any (sameOrigin o) (marksIn (b ∷ []) s)
   pub smallest : b′ ≡ least (markValues (entriesIn b′ s′))
 
--- A move in the state s, and the same one again in s′: a reaction by the same rule, each of whose picks is the entry that has the origin of the one
--- picked before; a commit or abort of the same members.
+-- A move in the state s, and the same one again in s′: a reaction by the same rule, whose picks in s′ are, one by one, the entries with the origins of
+-- those picked in s; a commit or abort of the same members.
 pub data SameMove (s s′ : State) : Move → Move → Type 0 where
   reaction : (r : ℕ) (ps ps′ : List ℕ) → originsOf (picked s′ ps′) ≡ originsOf (picked s ps) → SameMove s s′ (react r ps) (react r ps′)
   committed : (b b′ : ℕ) → SameMembers s s′ b b′ → SameMove s s′ (commit b) (commit b′)
@@ -158,7 +159,7 @@ pub record Rerun (T S words : List ℕ) (end : State) (target : List ℕ) : Type
 
 -- What `serialize` answers, and what it leaves in a target of at least 1+5k words.
 pub record Serialized (T S L : List ℕ) (end : State) (target : List ℕ) : Type 0 where
-  -- 17 exactly if some state along the serial log has more entries than the line; the target is then as it was.
+  -- 17 exactly if some state along the serial log has more entries than the line holds; the target is then as it was.
   pub refused : roomAlong lineCeiling T S L ≡ false → (serialize T S L target .number ≡ 17) × (serializeTarget T S L target ≡ target)
   pub only : serialize T S L target .number ≡ 17 → roomAlong lineCeiling T S L ≡ false
   -- Otherwise 0 and 1+5k words, which the target begins with: they are the serial log's. What is beyond them is as it was.

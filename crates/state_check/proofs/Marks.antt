@@ -8,7 +8,7 @@ use lib.Dec.{eqb}
 use lib.ListN.{length, replicate}
 use borrow.Author.Tests.{eqb-true, ne-eqb, not-true, not-false}
 use Rattle.lists.specs.Lists.{all, any, distinct}
-use Rattle.lists.specs.Tests.{and-both, and-false, and-right-false, or-true, eqb-swap}
+use Rattle.lists.specs.Tests.{and-both, false-and, and-right-false, true-or, eqb-swap}
 use Rattle.lists.specs.Choices.{by-bool, and-left, and-intro}
 use Rattle.lists.specs.Seen.{all-ext, unseen, unseen-ext, unseen-distinct}
 use Rattle.semantics.specs.State.{Entry, isMessage, isMemberMark, isOwnMark, markValues, entryOk, ownerOk, entriesOf, nextOf, ownersOf, itemsOf, stateOf, entriesOk}
@@ -57,7 +57,7 @@ module _ {e : Entry} {met own : List ℕ} where
   entering f n t = record { answer = sym (and-intro f n); sets = λ q. t }
 
   pub unfit : {fits : Bool} {met' own' : List ℕ} → fits ≡ false → Entering false fits e met own met' own'
-  unfit h = record { answer = sym (and-false (newMark met e) h); sets = λ q. absurd (false≢true q) }
+  unfit h = record { answer = sym (false-and (newMark met e) h); sets = λ q. absurd (false≢true q) }
 
   pub not-new : {fits : Bool} {met' own' : List ℕ} → newMark met e ≡ false → Entering false fits e met own met' own'
   not-new {fits} h = record { answer = sym (and-right-false fits h); sets = λ q. absurd (false≢true q) }
@@ -79,7 +79,7 @@ module _ (z : Sizes) (next : ℕ) (e : Entry) {met own : List ℕ} where
   enter-message h m o =
       let kind = eqb-true (e .kind) 0 (and-left (isMessage e) _ h) in
       let k : isMemberMark e ≡ false = ne-eqb (e .kind) 3 (λ q. omega arith) in
-      entering (by-kind z next e ∙ or-true _ h) (new-other met e k) (entered-other k m o)
+      entering (by-kind z next e ∙ true-or _ h) (new-other met e k) (entered-other k m o)
 
   module _ (h : messageFits z e ≡ false) where
     pub enter-mark : {r : Bool} {met' own' : List ℕ} → isMemberMark e ≡ true → Entering r (markFits next e) e met own met' own'
@@ -175,7 +175,7 @@ module _ {z : Sizes} {s os ws own : List ℕ} {r : Bool} (o : Column os (ownersO
 
   pub first-fails : r ≡ false → false ≡ entriesOk z (stateOf s)
   unfolding entriesOk stateOf
-  first-fails q = sym (rw (← columns) (and-false _ (sym (t .answer) ∙ q)))
+  first-fails q = sym (rw (← columns) (false-and _ (sym (t .answer) ∙ q)))
 
   pub second-decides : r ≡ true → all (has own) os ≡ entriesOk z (stateOf s)
   unfolding entriesOk stateOf

@@ -9,7 +9,7 @@ use lib.ListN.{length, drop, take}
 use borrow.Author.Tests.{lt-ltb, le-ltb, eqb-true, eqb-false, eq-eqb, ne-eqb, le-leb}
 use Rattle.lists.specs.Lists.{all}
 use Rattle.lists.specs.Choices.{by-bool}
-use Rattle.lists.specs.Tests.{and-false, and-true}
+use Rattle.lists.specs.Tests.{false-and, true-and}
 use Rattle.semantics.specs.Words.{headKind, headNumber}
 use Rattle.semantics.specs.Table.{Table, sizesOf, tableOf, ruleAt, consumed}
 use Rattle.semantics.specs.Move.{Move, react, commit, abort, unless, both, isZero, moveOk, moveOf, reacted, isOpen, mayCommit, mayAbort, ended, allowed, applied, moveVerdict}
@@ -65,13 +65,13 @@ module _ (t : List ℕ) {z : Sizes} (e : z ≡ sizesOf t) where
     pub form-no-rule : z .rules ≤ headNumber head → false ≡ moveOk (tableOf t) (head ∷ picks)
     form-no-rule h =
         let l : length (tableOf t .rules) ≤ headNumber head = omega (arith, rules-read, length-rules t) in
-        sym (and-false _ (le-ltb _ _ l)) ∙ form-react (tableOf t) head picks four k
+        sym (false-and _ (le-ltb _ _ l)) ∙ form-react (tableOf t) head picks four k
 
     pub form-rule : headNumber head < z .rules → all isZero (drop (length (consumed (ruleAt (tableOf t) (headNumber head)))) picks)
         ≡ moveOk (tableOf t) (head ∷ picks)
     form-rule h =
         let l : headNumber head < length (tableOf t .rules) = omega (arith, rules-read, length-rules t) in
-        sym (and-true _ (lt-ltb _ _ l)) ∙ form-react (tableOf t) head picks four k
+        sym (true-and _ (lt-ltb _ _ l)) ∙ form-react (tableOf t) head picks four k
 
 -- ---- the move in the words
 

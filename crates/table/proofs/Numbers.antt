@@ -10,7 +10,7 @@ use lib.Dec.{leb, ltb, eqb}
 use lib.ListN.{length, getD, take, drop, set, length-set}
 use lib.Seq.{take-suc, take-all, getD-set-same, getD-set-other, length-take-le}
 use Rattle.lists.specs.Lists.{all, countIf, risesFrom, allBelow}
-use Rattle.lists.specs.Tests.{and-both, or-true, or-false, or-right-true, same-test}
+use Rattle.lists.specs.Tests.{and-both, true-or, false-or, or-right-true, same-test}
 use Rattle.lists.specs.Counting.{count-append, count-all, all-append, all-weaker, any-count}
 use Rattle.lists.specs.Rising.{Order, before, equal, after, order, none-keyed}
 use Rattle.lists.specs.Walk.{step, below-each, below-of-each}
@@ -42,18 +42,18 @@ record Onward (rules seen : ℕ) (ns : List ℕ) : Type 0 where
   rises : risesFrom (seen - 1) (λ n. n) ns ≡ true
   reach : (r : ℕ) → seen ≤ r → r < rules → occurs ns r ≡ true
 
-pub record Follows (rules seen n : ℕ) : Type 0 where
+pub record NextNumber (rules seen n : ℕ) : Type 0 where
   pub under : n < rules
   pub near : n ≤ seen
   pub next : seen ≤ n + 1
 
-pub follows-true : (rules seen n : ℕ) → follows rules seen n ≡ true → Follows rules seen n
+pub follows-true : (rules seen n : ℕ) → follows rules seen n ≡ true → NextNumber rules seen n
 follows-true rules seen n h =
     let (a, c) = and-both (ltb n rules && leb n seen) (leb seen (n + 1)) h in
     let (a, b) = and-both (ltb n rules) (leb n seen) a in
     record { under = ltb-true n rules a; near = leb-true n seen b; next = leb-true seen (n + 1) c }
 
-true-follows : (rules seen n : ℕ) → Follows rules seen n → follows rules seen n ≡ true
+true-follows : (rules seen n : ℕ) → NextNumber rules seen n → follows rules seen n ≡ true
 true-follows rules seen n f =
     rw (lt-ltb n rules (f .under), le-leb n seen (f .near), le-leb seen (n + 1) (f .next))
 
@@ -74,9 +74,9 @@ module _ (rules : ℕ) where
         reach = λ r l m. reach f (o .reach r) l m (order n r);
       }
     where
-      reach : {r : ℕ} → Follows rules seen n → (n + 1 ≤ r → r < rules → occurs ns r ≡ true) → seen ≤ r → r < rules → Order n r → occurs (n ∷ ns) r ≡ true
+      reach : {r : ℕ} → NextNumber rules seen n → (n + 1 ≤ r → r < rules → occurs ns r ≡ true) → seen ≤ r → r < rules → Order n r → occurs (n ∷ ns) r ≡ true
       reach {r} f o l m (before k) = or-right-true (eqb n r) (o (omega arith) m)
-      reach {r} f o l m (equal e) = or-true (occurs ns r) (eq-eqb n r e)
+      reach {r} f o l m (equal e) = true-or (occurs ns r) (eq-eqb n r e)
       reach {r} f o l m (after k) = absurd (omega arith)
 
   onward-dense : (seen : ℕ) (ns : List ℕ) → seen ≤ rules → Onward rules seen ns → dense rules seen ns ≡ true
@@ -101,13 +101,13 @@ module _ (rules : ℕ) where
       near u d (equal e) = omega arith
       near u d (after k) =
           let none : occurs (n ∷ ns) seen ≡ false =
-          or-false (occurs ns seen) (ne-eqb n seen (λ e. omega arith))
+          false-or (occurs ns seen) (ne-eqb n seen (λ e. omega arith))
           ∙ any-count (λ m. eqb m seen) ns
           ∙ ap (leb 1) (none-keyed (λ n. n) n ns d seen k) in
           absurd (false≢true (sym none ∙ o .reach seen (omega arith) (omega arith)))
 
       later : (r : ℕ) → seen - 1 ≤ n → n + 1 ≤ r → r < rules → occurs ns r ≡ true
-      later r w k m = sym (or-false (occurs ns r) (ne-eqb n r (λ e. omega arith))) ∙ o .reach r (omega arith) m
+      later r w k m = sym (false-or (occurs ns r) (ne-eqb n r (λ e. omega arith))) ∙ o .reach r (omega arith) m
 
   pub numbers-dense : (ns : List ℕ) → numbersOk rules ns ≡ dense rules 0 ns
   unfolding numbersOk
@@ -140,7 +140,7 @@ marked-start numbers starts e = record { room = length-set starts 0 0 ∙ e; und
     first (suc r) l = absurd (omega arith)
 
 module _ (numbers : List ℕ) (i seen : ℕ) (starts : List ℕ) (was : Marked numbers i seen starts) where
-  module _ (n : ℕ) (here : n ≡ getD numbers i 0) (l : i < length numbers) (rules : ℕ) (few : rules ≤ 64) (f : Follows rules seen n) where
+  module _ (n : ℕ) (here : n ≡ getD numbers i 0) (l : i < length numbers) (rules : ℕ) (few : rules ≤ 64) (f : NextNumber rules seen n) where
     grown : take (i + 1) numbers ≡ take i numbers ++ (n ∷ [])
     grown = rw (add-one i, take-suc numbers i 0 l, here)
 

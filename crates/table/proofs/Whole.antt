@@ -5,7 +5,7 @@ use mathlib.Core.List.{List}
 use mathlib.Core.Path.{_≡_, sym, ap, _∙_}
 use lib.ListN.{length}
 use Rattle.lists.specs.Lists.{allBelow}
-use Rattle.lists.specs.Tests.{and-false, and-true}
+use Rattle.lists.specs.Tests.{false-and, true-and}
 use Rattle.lists.specs.Walk.{below-same}
 use Rattle.semantics.specs.Table.{sizesOf, numbersOf, atomWordsOf, ruleWords, tableSizesOk, numbersOk, ruleOk, rulesOk, tableContentsOk}
 use Rattle.wellformed.specs.Tables.{TableSized, numbers-length, words-length, numbers-rise, table-given}
@@ -39,8 +39,8 @@ module _
     pub numbers-wrong : b ≡ false → IndexOf t (tableContentsOk t) false starts
     unfolding tableContentsOk
     numbers-wrong e =
-        let no : tableContentsOk t ≡ false = and-false (rulesOk (sizesOf t) (numbersOf t) (atomWordsOf t)) (sym (first .answer) ∙ e) in
-        record { answer = sym no; right = λ yes. absurd (false≢true (sym no ∙ yes)) }
+        let no : tableContentsOk t ≡ false = false-and (rulesOk (sizesOf t) (numbersOf t) (atomWordsOf t)) (sym (first .answer) ∙ e) in
+        record { answer = sym no; room = h .room; right = λ yes. absurd (false≢true (sym no ∙ yes)) }
 
     module _ (e : b ≡ true) {ws : List ℕ} (ew : ws ≡ atomWordsOf t) where
       right : numbersOk (sizesOf t .rules) (numbersOf t) ≡ true
@@ -68,14 +68,14 @@ module _
       unfolding tableContentsOk
       numbers-right {c} g =
           let g′ : c ≡ allBelow (sizesOf t .rules) (λ r. ruleOk (sizesOf t) (cut starts r (atomWordsOf t))) = rw (ez, ew) at g in
-          record { answer = g′ ∙ sym (and-true _ right ∙ rules-same); right = λ yes. indexed }
+          record { answer = g′ ∙ sym (true-and _ right ∙ rules-same); room = h .room; right = λ yes. indexed }
 
 -- ---- the answers
 module _ (t starts : List ℕ) where
-  pub sizes-wrong : tableSizesOk t ≡ false → CheckedAs t (Denied TableSizes) starts
+  pub sizes-wrong : length starts ≡ 65 → tableSizesOk t ≡ false → CheckedAs t (Denied TableSizes) starts
   unfolding tableVerdict
-  sizes-wrong e =
-      record { verdict = rw e; starts = λ yes. absurd (false≢true (sym e ∙ table-given t yes .0)) }
+  sizes-wrong room e =
+      record { verdict = rw e; room = room; starts = λ yes. absurd (false≢true (sym e ∙ table-given t yes .0)) }
 
   pub sizes-right :
       (b : Bool) {ok : Bool}
@@ -86,4 +86,4 @@ module _ (t starts : List ℕ) where
   unfolding tableVerdict
   sizes-right b e f g =
       let h : tableContentsOk t ≡ b = sym (f .answer) ∙ g in
-      record { verdict = rw (e, h); starts = λ yes. f .right (table-given t yes .1) }
+      record { verdict = rw (e, h); room = f .room; starts = λ yes. f .right (table-given t yes .1) }

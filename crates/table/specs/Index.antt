@@ -16,9 +16,10 @@ pub record Starts (numbers : List ℕ) (rules : ℕ) (starts : List ℕ) : Type 
   pub room : length starts ≡ 65
   pub each : (r : ℕ) → r ≤ rules → getD starts r 0 ≡ countIf (λ n. ltb n r) numbers
 
--- an answer that says whether the test holds, with an index that is right where it does
+-- an answer that says whether the test holds, with an index that is right where it does and of no use where it does not
 pub record IndexMade (test : Bool) (numbers : List ℕ) (rules : ℕ) (ok : Bool) (starts : List ℕ) : Type 0 where
   pub answer : ok ≡ test
+  pub room : length starts ≡ 65
   pub right : test ≡ true → Starts numbers rules starts
 
 -- the words of rule r

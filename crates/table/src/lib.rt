@@ -1,5 +1,5 @@
 // The table: its parts and its check (01, "Recipe table") with the index of its rules.
-pub mod index;
+mod index;
 pub mod parts;
 pub mod verdict;
 

@@ -1,5 +1,5 @@
-// The check of a whole table. The index that it makes on the way is lent by the caller, whom it serves: returned by value it
-// would be copied.
+// The check of a whole table. It fills the index of its rules on the way, in an array that the caller lends: returned by
+// value it would be copied.
 ghost use mathlib.Core.Path.{_≡_};
 ghost use Prim.Native.Nat.{ℕ, _<_};
 ghost use lib.ListN.{length};

@@ -1,4 +1,4 @@
-// An atom, role × 2^28 + mode × 2^24 + port × 2^16 + value.
+// An atom's fields: role from bit 28 on, mode from 24, port from 16, then the value.
 ghost use Prim.Native.Nat.{_+_, _*_};
 ghost use mathlib.Core.Path.{_≡_};
 ghost use Rattle.semantics.specs.Words.{atomRole, atomMode, portOf, valueOf};

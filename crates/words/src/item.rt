@@ -1,4 +1,4 @@
-// An item, kind × 2^24 + port × 2^16 + value; and its kinds.
+// An item's fields: kind from bit 24 on, port from 16, then the value; and its kinds.
 ghost use Prim.Native.Nat.{ℕ, _<_};
 ghost use mathlib.Core.Path.{_≡_};
 ghost use mathlib.Core.Bool.{_&&_};

@@ -13,8 +13,7 @@ use harness::stack;
 use harness::words::{log_words, Move, State, Table, STATE_TARGET};
 use harness::{library, plain};
 
-/// So many logs are taken in turn. Of one log again and again the processor would learn the branches, and of a short one
-/// more than of a long one.
+/// So many logs are taken in turn: of one log again and again the processor learns the branches.
 const LOGS: usize = 16;
 
 /// A state, and the move or log that goes with it; none for a check.
@@ -76,8 +75,8 @@ struct Bench {
     /// The time of a copy by its words, each measured once.
     copies: Vec<(usize, f64)>,
     growth: Vec<Growth>,
-    /// The worst ratio of each call.
-    worst: Vec<(&'static str, f64)>,
+    /// The ratios of each call.
+    ratios: Vec<(&'static str, Vec<f64>)>,
     /// The deepest stack of each call.
     stack: Vec<(&'static str, usize)>,
 }
@@ -124,7 +123,7 @@ impl Bench {
             moves: if smoke { &[16] } else { &[16, 128, 512, 1_024] },
             copies: Vec::new(),
             growth: Vec::new(),
-            worst: Vec::new(),
+            ratios: Vec::new(),
             stack: Vec::new(),
         }
     }
@@ -179,7 +178,10 @@ impl Bench {
             times.ours / 1e3,
             times.rust / 1e3,
         );
-        note(&mut self.worst, pair.name, times.ratio());
+        match self.ratios.iter_mut().find(|(name, _)| *name == pair.name) {
+            Some((_, ratios)) => ratios.push(times.ratio()),
+            None => self.ratios.push((pair.name, vec![times.ratio()])),
+        }
         let used = stack::used(|| {
             (pair.ours)(&table, state, third, &mut ours);
         });
@@ -253,7 +255,8 @@ impl Bench {
                 let mut line = Growth::new(format!("move, {act}, {name}"));
                 for &n in self.entries {
                     // A begin adds two entries.
-                    let (_, state, mv) = single_moves(&table, n.min(1_022)).swap_remove(kind);
+                    let n = n.min(1_022);
+                    let (_, state, mv) = single_moves(&table, n).swap_remove(kind);
                     let what = format!("{name}, {n} entries, {act}");
                     line.push(n, self.row(&MAKE_MOVE, &what, &table, &[(state, mv.words().to_vec())]));
                 }
@@ -323,10 +326,12 @@ fn main() {
         println!("- {n} entries: {:.3} µs", bench.copy_time(2 + 2 * n) / 1e3);
     }
 
-    println!("\nThe worst ratio and the deepest stack of each call:\n");
-    println!("| {:<11} | ratio | stack in bytes |", "call");
-    println!("|{:-<13}|-------|----------------|", "");
-    for ((name, ratio), (_, stack)) in bench.worst.iter().zip(&bench.stack) {
-        println!("| {name:<11} | {ratio:>5.2} | {stack:>14} |");
+    println!("\nThe worst and the median ratio and the deepest stack of each call:\n");
+    println!("| {:<11} | worst | median | stack in bytes |", "call");
+    println!("|{:-<13}|-------|--------|----------------|", "");
+    for ((name, ratios), (_, stack)) in bench.ratios.iter_mut().zip(&bench.stack) {
+        ratios.sort_by(f64::total_cmp);
+        let (worst, median) = (ratios[ratios.len() - 1], ratios[ratios.len() / 2]);
+        println!("| {name:<11} | {worst:>5.2} | {median:>6.2} | {stack:>14} |");
     }
 }

@@ -139,7 +139,7 @@ impl State {
         Ok(inside)
     }
 
-    /// Takes the picked entries out; the rest keep their order.
+    /// Takes the picked entries out of the columns.
     fn remove(&mut self, picks: &[u32], beside: &mut impl Beside) {
         let mut sorted = [self.items.len(); 5];
         for (slot, &pick) in sorted.iter_mut().zip(picks) {

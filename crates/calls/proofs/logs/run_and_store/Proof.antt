@@ -3,7 +3,7 @@ use native.Mathlib.Omega.{arith}
 use Rattle.state.specs.Parts.{loadable}
 use Rattle.ready.specs.Ready.{ready-sizes}
 use Rattle.run.specs.Whole.{words-prepared, loaded-workable}
-use Rattle.calls.proofs.Running.{reached-run}
+use Rattle.calls.proofs.Running.{ran-to}
 use borrow.Author.Needs.{needs}
 use Rattle.calls.proofs.logs.run_and_store.Statement.{statement}
 use Rattle.calls.proofs.logs.run_and_store.Tie as tie
@@ -19,6 +19,7 @@ run-log-requires c κs =
     let loaded = c .before .before .before .load .ensures in
     record { prepared = words-prepared _ _ (p .ready .accepted) (p .ready .starts) (p .sizes); workable = loaded-workable _ (ready-sizes (p .ready)) loaded }
 
+-- the start's extent would fit as well, so that code which stores it fails on what it answers
 store-reached-requires : tie.Need-store-reached-requires
 store-reached-requires c κs =
     let ran = c .before .before .before in
@@ -32,7 +33,7 @@ store-reached-requires c κs =
 returns : tie.Need-returns
 returns c =
     let ran = c .before .before .before .before .before .before in
-    reached-run _ _ _ _ (ran .before .before .before .before .load .ensures) (ran .run-log .ensures) (c .before .before .store-reached .ensures _)
+    ran-to _ _ _ _ (ran .before .before .before .before .load .ensures) (ran .run-log .ensures) (c .before .before .store-reached .ensures _)
 
 pub run-and-store-spec : {M : Type 1} → statement M
 run-and-store-spec =

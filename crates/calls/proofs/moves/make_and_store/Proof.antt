@@ -3,7 +3,7 @@ use native.Mathlib.Omega.{arith}
 use Rattle.state.specs.Parts.{loadable}
 use Rattle.ready.specs.Ready.{ready-sizes}
 use Rattle.run.specs.Whole.{words-indexed, loaded-workable}
-use Rattle.calls.proofs.Moving.{moved-refused, moved-written}
+use Rattle.calls.proofs.Moving.{moved-to}
 use borrow.Author.Needs.{needs}
 use Rattle.calls.proofs.moves.make_and_store.Statement.{statement}
 use Rattle.calls.proofs.moves.make_and_store.Tie as tie
@@ -23,14 +23,10 @@ make-requires c κs =
       workable = loaded-workable _ (ready-sizes (p .ready)) loaded;
     }
 
-returns : tie.Need-returns
-returns c =
+-- the start's extent would fit as well, so that code which stores it fails on what it answers
+store-made-requires : tie.Need-store-made-requires
+store-made-requires c κs =
     let made = c .before .before .before in
-    moved-refused _ _ _ _ (made .before .before .before .before .load .ensures) (made .make .ensures) (c .before .verdict .given .1)
-
-store-requires : tie.Need-store-requires
-store-requires c κs =
-    let made = c .before .before .before .before .before in
     let w = made .make .ensures .workable in
     let p = made .before .before .before .before .before .before .before .before .before .before .before .before .before .before .before .pre in
     let loaded = made .before .before .before .before .load .ensures .holds .fits in (
@@ -38,22 +34,10 @@ store-requires c κs =
       omega (arith, w .bounds .fits, loaded, p .room),
     )
 
-returns-2 : tie.Need-returns-2
-returns-2 c =
-    let made = c .before .before .before .before .before .before .before .before in
-    moved-written _ _ _ _ (made .before .before .before .before .load .ensures) (made .make .ensures)
-    (c .before .before .before .before .before .before .enum-told .given .1) (c .before .before .store .ensures _)
+returns : tie.Need-returns
+returns c =
+    let made = c .before .before .before .before .before .before in
+    moved-to _ _ _ _ (made .before .before .before .before .load .ensures) (made .make .ensures) (c .before .before .store-made .ensures _)
 
 pub make-and-store-spec : {M : Type 1} → statement M
-make-and-store-spec =
-    tie.close
-    (tie.spec
-    (λ c κs. search needs)
-    load-requires
-    make-requires
-    (λ c. search needs)
-    returns
-    (λ c. search needs)
-    store-requires
-    (λ c. search needs)
-    returns-2)
+make-and-store-spec = tie.close (tie.spec (λ c κs. search needs) load-requires make-requires store-made-requires (λ c. search needs) returns)

@@ -9,7 +9,7 @@ use Rattle.calls.proofs.moves.make_move.Statement.{statement}
 use Rattle.calls.proofs.moves.make_move.Tie as tie
 
 returns : tie.Need-returns
-returns c = move-fault _ _ _ _ _ (inl (sym (c .before .before .before .ready .ensures .verdict) ∙ c .before .said .given .1))
+returns c = move-fault _ _ _ _ _ (inl (sym (c .before .before .before .ready .ensures .verdict) ∙ c .before .checked .given .1))
 
 returns-2 : tie.Need-returns-2
 returns-2 c = move-unsized _ _ _ _ (sym (c .before .before .before .ready .ensures .verdict) ∙ c .before .enum-told .given .1) (c .if1 .taken)

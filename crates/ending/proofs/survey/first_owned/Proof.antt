@@ -23,11 +23,11 @@ returns-2 : tie.Need-returns-2 Inv μ
 returns-2 c =
     let l = c .before .loop in
     let e : l .i ≡ c .before .before .args .n = omega (arith, l .inv .within, c .loop-test .left) in
-    rw e at (l .inv)
+    (rw e at (l .inv), λ h. absurd (omega arith))
 
 pub first-owned-spec : {M : Type 1} → statement M
 first-owned-spec =
     tie.close
     (tie.spec
     Inv μ (λ c. record { within = search needs; none = refl }) (λ c. search needs) (λ c. search needs)
-    (λ c. c .before .before .before .loop .inv) (λ c. search needs) (λ c. search needs) loop-again returns-2)
+    (λ c. (c .before .before .before .loop .inv, λ h. c .if1 .taken)) (λ c. search needs) (λ c. search needs) loop-again returns-2)

@@ -6,7 +6,7 @@ use Prim.Native.Nat.{_-_}
 use mathlib.Core.Bool.{true}
 use lib.ListN.{length, drop}
 use Rattle.lists.specs.Lists.{any}
-use Rattle.lists.specs.Tests.{or-true, or-false}
+use Rattle.lists.specs.Tests.{true-or, false-or}
 use Rattle.lists.specs.Ahead.{slice-tails, Ahead, ahead-start, ahead-here, ahead-next, ahead-done}
 use Rattle.semantics.specs.Table.{isRole}
 use Rattle.legal.proofs.rule.has_role.Statement.{statement}
@@ -23,11 +23,11 @@ loop-holds c = ahead-start _ _ _
 
 returns : tie.Need-returns Inv μ
 returns c = ahead-here (slice-tails 0 _) (c .before .before .before .before .loop .inv) (search needs) true
-    (λ xs. or-true _ (eq-eqb _ _ (sym (c .before .role-of .ensures) ∙ c .if1 .taken)))
+    (λ xs. true-or _ (eq-eqb _ _ (sym (c .before .role-of .ensures) ∙ c .if1 .taken)))
 
 loop-again : tie.Need-loop-again Inv μ
 loop-again c = ahead-next (slice-tails 0 _) (c .before .before .before .before .loop .inv) (search needs) _
-    (λ xs. or-false _ (ne-eqb _ _ (λ e. c .if1 .left (c .before .role-of .ensures ∙ e))))
+    (λ xs. false-or _ (ne-eqb _ _ (λ e. c .if1 .left (c .before .role-of .ensures ∙ e))))
 
 returns-2 : tie.Need-returns-2 Inv μ
 returns-2 c = ahead-done (slice-tails 0 _) (c .before .loop .inv) (search needs)

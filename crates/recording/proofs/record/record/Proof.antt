@@ -46,7 +46,7 @@ note-move-requires : tie.Need-note-move-requires Inv μ
 note-move-requires c κs =
     let at = turn (c .before .before .before .before .before .before .before) in
     let v = at .before .loop .inv .2 in
-    (recording-lent v, v .room .begun, small at, omega (arith, more at, v .room .origins), v .room .members, v .room .ended)
+    (recording-lent v, v .room .begun, small at, omega (arith, more at, v .room .origins), v .room .members, v .room .ends)
 
 abbrev read-of : tie.After-make-arg3 Inv μ → tie.After-move-at Inv μ
 read-of c = c .before .before .before .before .before .before .before .before .before .before .before .before .before

@@ -2,7 +2,7 @@
 use native.Mathlib.Omega.{arith}
 use borrow.Author.Needs.{needs}
 use borrow.Author.Tests.{lt-leb, le-leb}
-use Rattle.lists.specs.Tests.{and-false, and-true}
+use Rattle.lists.specs.Tests.{false-and, true-and}
 use mathlib.Core.Path.{sym}
 use Rattle.semantics.specs.State.{stateSizesOk}
 use Rattle.state.proofs.parts.sizes_ok.Statement.{statement}
@@ -10,11 +10,11 @@ use Rattle.state.proofs.parts.sizes_ok.Tie as tie
 
 returns : tie.Need-returns
 unfolding stateSizesOk
-returns c = sym (and-false _ (lt-leb 2 _ (c .if1 .taken)))
+returns c = sym (false-and _ (lt-leb 2 _ (c .if1 .taken)))
 
 returns-2 : tie.Need-returns-2
 unfolding stateSizesOk
-returns-2 c = sym (and-true _ (le-leb 2 _ (c .before .before .if1 .left)))
+returns-2 c = sym (true-and _ (le-leb 2 _ (c .before .before .if1 .left)))
 
 pub sizes-ok-spec : {M : Type 1} → statement M
 sizes-ok-spec =

@@ -1,6 +1,6 @@
 use Prim.Native.Nat.{ℕ, zero, suc, _≤_}
 use mathlib.Core.Path.{_≡_, refl, sym, ap, _∙_}
-use mathlib.Core.Bool.{Bool, true, false, _&&_, _||_}
+use mathlib.Core.Bool.{_&&_, _||_, and-true}
 use mathlib.Core.List.{[], _∷_}
 use native.Mathlib.Omega.{arith}
 use borrow.Author.Needs.{needs}
@@ -12,17 +12,13 @@ use Rattle.reaction.specs.Four.{four-places}
 use Rattle.step.proofs.form.unused_zero.Statement.{statement}
 use Rattle.step.proofs.form.unused_zero.Tie as tie
 
-last : (a : Bool) → a && true ≡ a
-last true = refl
-last false = refl
-
 -- four numbers from k on, one by one
 tested : (a b c d k : ℕ) → k ≤ 4
     → (leb 1 k || eqb a 0) && ((leb 2 k || eqb b 0) && ((leb 3 k || eqb c 0) && (leb 4 k || eqb d 0))) ≡ all isZero (drop k (a ∷ b ∷ c ∷ d ∷ []))
-tested a b c d zero h = rw (last (eqb d 0))
-tested a b c d (suc zero) h = rw (last (eqb d 0))
-tested a b c d (suc (suc zero)) h = rw (last (eqb d 0))
-tested a b c d (suc (suc (suc zero))) h = rw (last (eqb d 0))
+tested a b c d zero h = rw (and-true (eqb d 0))
+tested a b c d (suc zero) h = rw (and-true (eqb d 0))
+tested a b c d (suc (suc zero)) h = rw (and-true (eqb d 0))
+tested a b c d (suc (suc (suc zero))) h = rw (and-true (eqb d 0))
 tested a b c d (suc (suc (suc (suc zero)))) h = refl
 tested a b c d (suc (suc (suc (suc (suc k))))) h = absurd (omega arith)
 

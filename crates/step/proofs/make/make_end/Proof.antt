@@ -54,7 +54,7 @@ id-is c = sizes-at c .before .id-of .ensures
 end-verdict-requires : tie.Need-end-verdict-requires
 end-verdict-requires c κs =
     let w = start (c .before .before .before .before .before .before .before) .pre .1 .0 in
-    (record { owners = w .arrays .owners; items = w .arrays .items; fits = omega (arith, w .bounds .fits, w .limit) }, c .before .before .first-owned .ensures)
+    (record { owners = w .arrays .owners; items = w .arrays .items; fits = omega (arith, w .bounds .fits, w .limit) }, c .before .before .first-owned .ensures .0)
 
 returns-2 : tie.Need-returns-2
 returns-2 c maker =
@@ -72,7 +72,7 @@ end-transaction-requires : tie.Need-end-transaction-requires
 end-transaction-requires c κs =
     let asked = c .before .before .before .before .before in
     let w = start (formed-at asked) .pre .1 .0 in
-    (w .arrays, omega (arith, w .bounds .fits, w .limit), asked .before .before .before .first-owned .ensures)
+    (w .arrays, omega (arith, w .bounds .fits, w .limit), asked .before .before .before .first-owned .ensures .0)
 
 returns-3 : tie.Need-returns-3
 returns-3 c maker =

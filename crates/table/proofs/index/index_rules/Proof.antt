@@ -8,7 +8,7 @@ use borrow.Author.Tests.{not-true, not-false, eqb-true}
 use lib.ListN.{length, getD, drop}
 use Rattle.lists.specs.Walk.{done}
 use Rattle.semantics.specs.Table.{numbersOk}
-use Rattle.table.proofs.Numbers.{Follows, follows-true, dense, dense-step, numbers-dense, Marked, marked-start, marked-next, marked-done}
+use Rattle.table.proofs.Numbers.{NextNumber, follows-true, dense, dense-step, numbers-dense, Marked, marked-start, marked-next, marked-done}
 use Rattle.table.proofs.index.index_rules.Statement.{statement}
 use Rattle.table.proofs.index.index_rules.Tie as tie
 use Rattle.table.proofs.index.index_rules.Reads as reads
@@ -36,14 +36,14 @@ returns c =
     let l = c .before .before .before .loop in
     let no : false ≡ numbersOk (a .rules) (a .numbers .now) =
     sym (l .inv .1 ∙ dense-step (a .rules) (l .seen) (a .numbers .now) (l .i) (search needs) (not-true _ (c .if1 .taken))) in
-    record { answer = no; right = λ yes. absurd (false≢true (no ∙ yes)) }
+    record { answer = no; room = l .inv .2 .room; right = λ yes. absurd (false≢true (no ∙ yes)) }
 
 -- what the test says of the number at hand
 followed :
     (c : lts.Else1 reads.Pre reads.Post Inv-loop μ-loop)
     → let a = c .before .before .before .before .args in
     let l = c .before .before .before .loop in
-    Follows (a .rules) (l .seen) (getD (a .numbers .now) (l .i) 0)
+    NextNumber (a .rules) (l .seen) (getD (a .numbers .now) (l .i) 0)
 followed c =
     let a = c .before .before .before .before .args in
     let l = c .before .before .before .loop in
@@ -72,7 +72,7 @@ returns-2 c =
     let a = c .before .before .args in
     let l = c .before .loop in
     let end = l .inv .1 ∙ done (dense (a .rules) (l .seen)) (a .numbers .now) (l .i) (search needs) in
-    record { answer = sym end; right = λ yes. marked-done _ _ _ _ (l .inv .2) _ (search needs) (eqb-true _ _ (sym end ∙ yes)) }
+    record { answer = sym end; room = l .inv .2 .room; right = λ yes. marked-done _ _ _ _ (l .inv .2) _ (search needs) (eqb-true _ _ (sym end ∙ yes)) }
 
 pub index-rules-spec : {M : Type 1} → statement M
 index-rules-spec =

@@ -9,7 +9,7 @@ use Rattle.table.proofs.verdict.check.Statement.{statement}
 use Rattle.table.proofs.verdict.check.Tie as tie
 
 returns : tie.Need-returns
-returns c = sizes-wrong _ _ (sym (c .before .sizes-ok .ensures) ∙ not-true _ (c .if1 .taken))
+returns c = sizes-wrong _ _ (c .before .before .before .pre) (sym (c .before .sizes-ok .ensures) ∙ not-true _ (c .if1 .taken))
 
 contents-ok-requires : tie.Need-contents-ok-requires
 contents-ok-requires c κs =

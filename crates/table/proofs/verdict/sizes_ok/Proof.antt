@@ -2,14 +2,14 @@
 use borrow.Author.Needs.{needs}
 use mathlib.Core.Path.{sym}
 use borrow.Author.Tests.{lt-leb, le-leb}
-use Rattle.lists.specs.Tests.{and-false}
+use Rattle.lists.specs.Tests.{false-and}
 use Rattle.semantics.specs.Table.{tableSizesOk}
 use Rattle.table.proofs.verdict.sizes_ok.Statement.{statement}
 use Rattle.table.proofs.verdict.sizes_ok.Tie as tie
 
 returns : tie.Need-returns
 unfolding tableSizesOk
-returns c = sym (and-false _ (lt-leb 5 _ (c .if1 .taken)))
+returns c = sym (false-and _ (lt-leb 5 _ (c .if1 .taken)))
 
 returns-2 : tie.Need-returns-2
 unfolding tableSizesOk
