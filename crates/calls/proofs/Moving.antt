@@ -13,13 +13,12 @@ use Rattle.semantics.specs.Move.{moveOk, steppedBy, stepWords}
 use Rattle.semantics.specs.Answers.{answerOf, steppedResult, lineCeiling, stateRoom, stateVerdict, moveFaults, moveResult, makeMove, makeMoveTarget}
 use Rattle.semantics.specs.declared.Refusal.{Refusal}
 use Rattle.semantics.specs.declared.Refusal.the-variants.{MoveForm, TargetTooShort}
-use Rattle.semantics.specs.declared.Verdict.{Verdict}
-use Rattle.semantics.specs.declared.Verdict.the-variants.{Allowed, Denied}
+use Rattle.semantics.specs.declared.Verdict.the-variants.{Allowed}
 use Rattle.semantics.specs.declared.Outcome.{Outcome}
-use Rattle.semantics.specs.declared.Outcome.the-variants.{Written, Refused}
+use Rattle.semantics.specs.declared.Outcome.the-variants.{Refused}
 use Rattle.wellformed.specs.Verdicts.{unless-intro, unless-false, FaultAt}
 use Rattle.state.specs.declared.State.{State}
-use Rattle.state.specs.Working.{stateIn, Stored}
+use Rattle.state.specs.Working.{stateIn}
 use Rattle.state.specs.Arrays.{HoldsIn}
 use Rattle.step.specs.declared.make.Made.{Made}
 use Rattle.step.specs.Make.{MadeAs}

@@ -11,13 +11,12 @@ use Rattle.semantics.specs.Log.{logSizesOk}
 use Rattle.semantics.specs.Answers.{answerOf, lineCeiling, stateRoom, stateVerdict, ranResult, runFaults, runResult, runLog, runLogTarget}
 use Rattle.semantics.specs.declared.Refusal.{Refusal}
 use Rattle.semantics.specs.declared.Refusal.the-variants.{LogSizes, TargetTooShort}
-use Rattle.semantics.specs.declared.Verdict.{Verdict}
 use Rattle.semantics.specs.declared.Verdict.the-variants.{Allowed, Denied}
 use Rattle.semantics.specs.declared.Outcome.{Outcome}
-use Rattle.semantics.specs.declared.Outcome.the-variants.{Written, Refused}
+use Rattle.semantics.specs.declared.Outcome.the-variants.{Refused}
 use Rattle.wellformed.specs.Verdicts.{FaultAt}
 use Rattle.state.specs.declared.State.{State}
-use Rattle.state.specs.Working.{stateIn, Stored}
+use Rattle.state.specs.Working.{stateIn}
 use Rattle.state.specs.Arrays.{HoldsIn}
 use Rattle.run.specs.declared.Ran.{Ran}
 use Rattle.run.specs.Runs.{RanAs, ranBy}

@@ -1,8 +1,8 @@
 -- The states of the replay have as many entries as those along the serial log.
 use Prim.Native.Nat.{ℕ, suc}
-use mathlib.Core.Bool.{true, _&&_, and-true}
+use mathlib.Core.Bool.{_&&_, and-true}
 use mathlib.Core.List.{List, [], _∷_}
-use mathlib.Core.Path.{_≡_, refl, sym, ap, _∙_}
+use mathlib.Core.Path.{_≡_, sym, ap, _∙_}
 use lib.Dec.{leb}
 use lib.ListN.{length, length-map}
 use Rattle.lists.specs.Lists.{all}

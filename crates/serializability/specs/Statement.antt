@@ -1,6 +1,6 @@
 -- Demand 3: what is promised of every accepted log and its serial log. To believe it, only this file, the definitions of the crate `semantics` and those of
--- lists/specs/Lists.antt must be believed; all else in this crate is its proof (Demand3.antt has the theorem, PublicCalls.antt says it of the public calls, Instances.antt applies it to 01's
--- cases).
+-- lists/specs/Lists.antt must be believed; all else in this crate is its proof (Demand3.antt has the theorem, PublicCalls.antt the same
+-- of the public calls, Instances.antt applies it to 01's cases).
 use Prim.Native.Nat.{ℕ, zero, suc, _+_, _*_, _≤_, _<_}
 use mathlib.Core.Bool.{Bool, true, false, _&&_, _||_, not, cond}
 use mathlib.Core.List.{List, [], _∷_, _++_, map}

@@ -53,8 +53,10 @@ id-is c = sizes-at c .before .id-of .ensures
 
 end-verdict-requires : tie.Need-end-verdict-requires
 end-verdict-requires c κs =
-    let w = start (c .before .before .before .before .before .before .before) .pre .1 .0 in
-    (record { owners = w .arrays .owners; items = w .arrays .items; fits = omega (arith, w .bounds .fits, w .limit) }, c .before .before .first-owned .ensures .0)
+    let w = start (c .before .before .before .before .before .before .before) .pre .1 .0 in (
+      record { owners = w .arrays .owners; items = w .arrays .items; fits = omega (arith, w .bounds .fits, w .limit) },
+      c .before .before .first-owned .ensures .0,
+    )
 
 returns-2 : tie.Need-returns-2
 returns-2 c maker =
