@@ -159,7 +159,8 @@ impl Bench {
             black_box((pair.rust)(black_box(&table), black_box(state), black_box(third), black_box(&mut rust)));
         };
         let turns = inputs.len();
-        let (of_ours, of_rust) = (repeats(self.effort, turns, &mut call_ours), repeats(self.effort, turns, &mut call_rust));
+        let (of_ours, of_rust) =
+            (repeats(self.effort, turns, &mut call_ours), repeats(self.effort, turns, &mut call_rust));
         let mut times = Times { ours: f64::MAX, rust: f64::MAX };
         for _ in 0..self.effort.rounds {
             times.ours = times.ours.min(nanoseconds(of_ours, &mut call_ours));
@@ -305,7 +306,10 @@ fn main() {
     let (flags, chosen): (Vec<String>, Vec<String>) = args().skip(1).partition(|argument| argument == "--smoke");
     let mut bench = Bench::new(!flags.is_empty());
 
-    println!("Ratio: ours / plain Rust, best of {} interleaved rounds, same inputs, same answers.", bench.effort.rounds);
+    println!(
+        "Ratio: ours / plain Rust, best of {} interleaved rounds, same inputs, same answers.",
+        bench.effort.rounds
+    );
     println!("A row of `run` or `serialize` takes {LOGS} logs in turn.");
     println!("Copies: ours / one memcpy of the state's words.\n");
     println!("| {:<11} | {:<46} | ratio | ours in µs | Rust in µs |  copies |", "call", "input");

@@ -32,7 +32,8 @@ pub fn stale_edits(tree: &Tree) -> Vec<Finding> {
 
 const EDITS: &str = "docs/EDITS.md";
 
-/// Edits that the page of edits has not, or has with another comment, and edits on it that are gone.
+/// Edits that the page of edits has not, or has with another comment, edits on it that are gone, and first errors in
+/// functions that their crate has not.
 pub fn edits_listed(tree: &Tree) -> Vec<Finding> {
     let Some(page) = tree.file(EDITS) else { return Vec::new() };
     let mut listed = BTreeSet::new();
@@ -51,11 +52,23 @@ pub fn edits_listed(tree: &Tree) -> Vec<Finding> {
         if !tree.file(&path).is_some_and(says) {
             found.push(page.at(number, format!("{own}/{name} is not there, or says something else")));
         }
+        let fails = rest.split(" | ").nth(1).and_then(|cell| cell.split('`').nth(1)).unwrap_or_default();
+        if !has_proof(tree, own, fails) {
+            found.push(page.at(number, format!("{own} has no `{fails}` that could fail")));
+        }
         listed.insert(path);
     }
     let missing = tree.in_part(Part::MustFail).filter(|edit| !listed.contains(&edit.path));
     found.extend(missing.map(|edit| edit.at(1, format!("is not in {EDITS}"))));
     found
+}
+
+/// A function with a proof of its own, or a file of specs/ by its name.
+fn has_proof(tree: &Tree, own: &str, name: &str) -> bool {
+    let (of_function, of_file) = (format!("/{name}/Proof.antt"), format!("crates/{own}/specs/{name}"));
+    let of_crate = format!("crates/{own}/proofs/");
+    let mut files = tree.files.iter();
+    files.any(|file| file.path == of_file || (file.path.starts_with(&of_crate) && file.path.ends_with(&of_function)))
 }
 
 /// Crates that stand above one that they depend on, and dependencies that no file of theirs names. A
@@ -226,12 +239,16 @@ mod tests {
         assert_eq!(shown(stale_edits(&tree)), wanted);
     }
 
-    // Catches an edit that the page forgets, goes on naming, or describes as something else.
+    // Catches an edit that the page forgets, goes on naming, or describes as something else, and a first error in a
+    // function that is gone.
     #[test]
     fn edits_and_the_page_agree() {
-        let page = "# E\n\n`a` (x)\n\n| edit | what |\n|---|---|\n| `right` | why | y |\n| `other` | because | y |\n| `gone` | why | y |\n";
+        let page = "# E\n\n`a` (x)\n\n| edit | what | error |\n|---|---|---|\n| `right` | why | `f`, y |\n| `other` | because | `Case.antt`, y |\n| `gone` | why | `g`, y |\n";
         let tree = Tree::of(&[
             (EDITS, page),
+            ("crates/a/proofs/m/f/Proof.antt", ""),
+            ("crates/b/proofs/m/g/Proof.antt", ""),
+            ("crates/a/specs/Case.antt", ""),
             ("crates/a/must-fail/right.edit", "# why.\nfile: src/lib.rt\n"),
             ("crates/a/must-fail/other.edit", "# why\nfile: src/lib.rt\n"),
             ("crates/b/must-fail/right.edit", "# why\nfile: src/lib.rt\n"),
@@ -239,6 +256,7 @@ mod tests {
         let wanted = [
             "docs/EDITS.md:8: a/other is not there, or says something else",
             "docs/EDITS.md:9: a/gone is not there, or says something else",
+            "docs/EDITS.md:9: a has no `g` that could fail",
             "crates/b/must-fail/right.edit:1: is not in docs/EDITS.md",
         ];
         assert_eq!(shown(edits_listed(&tree)), wanted);
