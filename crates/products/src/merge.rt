@@ -22,11 +22,11 @@ pub fn merge(owners: &mut [u16; 1024], n: usize, found: [u16; 4], k: usize, home
     ensures { λ _. ⌜ (length (now (owners .exit)) ≡ 1024)
         × ((j : ℕ) → j < n → getD (now (owners .exit)) j 0 ≡ mergedOwner (take k found) home (getD (now (owners .entry)) j 0)) ⌝ }
 {
-    let few = repeated(found, k);
-    let a = few[0];
-    let b = few[1];
-    let c = few[2];
-    let d = few[3];
+    let four = repeated(found, k);
+    let a = four[0];
+    let b = four[1];
+    let c = four[2];
+    let d = four[3];
     if (a == home) & (b == home) & (c == home) & (d == home) {
         return;
     }

@@ -7,22 +7,22 @@ ghost use Rattle.lists.specs.Lists.{isIn, distinct, least};
 ghost use Rattle.reaction.specs.Places.{Places, fourAt};
 
 // Whether the first k differ. By cases of k: a branch on k is predicted, where a test of k in each term is waited for.
-pub fn all_differ(few: [u32; 4], k: usize) -> bool
+pub fn all_differ(picks: [u32; 4], k: usize) -> bool
     requires { ⌜ k ≤ 4 ⌝ }
-    ensures { λ r. ⌜ r ≡ distinct (take k few) ⌝ }
+    ensures { λ r. ⌜ r ≡ distinct (take k picks) ⌝ }
 {
     if k < 2 {
         return true;
     }
-    let two = few[0] != few[1];
+    let two = picks[0] != picks[1];
     if k < 3 {
         return two;
     }
-    let three = two & (few[0] != few[2]) & (few[1] != few[2]);
+    let three = two & (picks[0] != picks[2]) & (picks[1] != picks[2]);
     if k < 4 {
         return three;
     }
-    three & (few[0] != few[3]) & (few[1] != few[3]) & (few[2] != few[3])
+    three & (picks[0] != picks[3]) & (picks[1] != picks[3]) & (picks[2] != picks[3])
 }
 
 fn either(b: bool, x: u16, y: u16) -> u16
@@ -33,14 +33,14 @@ fn either(b: bool, x: u16, y: u16) -> u16
 
 // Four that are the same numbers as the first k, so that a number is compared with four always: the first stands again in the
 // places of those that are not used.
-pub fn repeated(few: [u16; 4], k: usize) -> [u16; 4]
+pub fn repeated(owners: [u16; 4], k: usize) -> [u16; 4]
     requires { ⌜ (1 ≤ k) × (k ≤ 4) ⌝ }
-    ensures { λ r. ⌜ ((x : ℕ) → isIn x r ≡ isIn x (take k few)) ⌝ }
+    ensures { λ r. ⌜ ((x : ℕ) → isIn x r ≡ isIn x (take k owners)) ⌝ }
 {
-    let a = few[0];
-    let b = either(1 < k, few[1], a);
-    let c = either(2 < k, few[2], a);
-    let d = either(3 < k, few[3], a);
+    let a = owners[0];
+    let b = either(1 < k, owners[1], a);
+    let c = either(2 < k, owners[2], a);
+    let d = either(3 < k, owners[3], a);
     [a, b, c, d]
 }
 
@@ -51,11 +51,11 @@ fn smaller(a: u16, b: u16) -> u16
 }
 
 // The smallest of the first k.
-pub fn smallest(few: [u16; 4], k: usize) -> u16
+pub fn smallest(owners: [u16; 4], k: usize) -> u16
     requires { ⌜ (1 ≤ k) × (k ≤ 4) ⌝ }
-    ensures { λ r. ⌜ r ≡ least (take k few) ⌝ }
+    ensures { λ r. ⌜ r ≡ least (take k owners) ⌝ }
 {
-    let all = repeated(few, k);
+    let all = repeated(owners, k);
     smaller(smaller(all[0], all[1]), smaller(all[2], all[3]))
 }
 

@@ -37,7 +37,7 @@ fn order_log<'a>(
 }
 
 // The log of k moves, or 17: nothing is written before all of them fit.
-fn written(fits: bool, k: usize, out: &[u32], target: &mut [u32]) -> Outcome
+fn store_serial(fits: bool, k: usize, out: &[u32], target: &mut [u32]) -> Outcome
     requires { ⌜ (k ≤ 1024) × (1 + 5 * k ≤ length (now out)) × (1 + 5 * k ≤ length (now target)) ⌝ }
     ensures { λ r. ⌜ WrittenAs fits k (now (out .entry)) (now (target .entry)) (now (target .exit)) r ⌝ }
 {
@@ -86,7 +86,7 @@ fn reordered<'a>(
         State::MAX_ENTRIES,
         out,
     );
-    written(fits, count_of(log), out, target)
+    store_serial(fits, count_of(log), out, target)
 }
 
 // The first pass, and what it may find: 16, then 15 at the end.

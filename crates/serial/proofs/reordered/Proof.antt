@@ -23,8 +23,8 @@ replay-requires c κs =
     replay-asked _ _ _ _ _ _ _ _ (p .0) (ordered .order-log .ensures) (loaded .load .ensures)
     (omega (arith, p .2, p .0 .begun .room))
 
-written-requires : tie.Need-written-requires
-written-requires c κs =
+store-serial-requires : tie.Need-store-serial-requires
+store-serial-requires c κs =
     let counted = c .before .before in
     let replayed = counted .before .before .before in
     let loaded = replayed .before .before .before .before .before .before in
@@ -41,10 +41,10 @@ returns c =
     let ordered = loaded .before .before .before .before in
     let p = ordered .before .before .before .before .before .before .before .before .pre in
     reordered-as _ _ _ _ _ _ _ _ (p .0) (ordered .order-log .ensures) (loaded .load .ensures) (replayed .replay .ensures)
-    (counted .count-of .ensures .0) (c .before .before .written .ensures)
+    (counted .count-of .ensures .0) (c .before .before .store-serial .ensures)
 
 pub reordered-spec : {M : Type 1} → statement M
 reordered-spec =
     tie.close
-    (tie.spec order-log-requires load-requires replay-requires (λ c κs. search needs) written-requires (λ c. search needs) (λ c. search needs)
+    (tie.spec order-log-requires load-requires replay-requires (λ c κs. search needs) store-serial-requires (λ c. search needs) (λ c. search needs)
     returns)

@@ -21,10 +21,10 @@ abbrev μ : tie.MeasureT-loop
 returns : tie.Need-returns Inv μ
 returns c =
     let a = c .before .before .args in
-    let few = c .before .repeated in (
+    let four = c .before .repeated in (
       c .before .before .pre .0,
       λ j h. none-merged _ _ _ _ (a .home) _ (c .if1 .taken)
-          ∙ four-merged (few .result) (take (a .k) (a .found)) (a .home) _ (search needs) (few .ensures),
+          ∙ four-merged (four .result) (take (a .k) (a .found)) (a .home) _ (search needs) (four .ensures),
     )
 
 loop-holds : tie.Need-loop-holds Inv μ
@@ -39,11 +39,11 @@ loop-again c =
 returns-2 : tie.Need-returns-2 Inv μ
 returns-2 c =
     let a = c .before .before .before .before .args in
-    let few = c .before .before .before .repeated in
+    let four = c .before .before .before .repeated in
     let v = c .before .loop .inv in (
       v .0 .size ∙ v .1,
       λ j h. v .0 .done j (omega (arith, c .loop-test .left))
-          ∙ four-merged (few .result) (take (a .k) (a .found)) (a .home) _ (search needs) (few .ensures),
+          ∙ four-merged (four .result) (take (a .k) (a .found)) (a .home) _ (search needs) (four .ensures),
     )
 
 pub merge-spec : {M : Type 1} → statement M
