@@ -23,7 +23,7 @@ endOf (stopped i r) = record { next = 0; entries = [] }
 abbrev endFrom : ℕ → List ℕ → List ℕ → List (List ℕ) → State
 endFrom ceiling t s ms = endOf (runOf ceiling t s (logOf ms))
 
-pub endOfLog : List (List ℕ) → State
+unfoldable pub endOfLog : List (List ℕ) → State
 endOfLog ms = endFrom lineCeiling twoLot start ms
 
 pub serializable-a : Serializable lineCeiling twoLot start (logOf logA) (endOfLog logA)
