@@ -13,7 +13,7 @@ use harness::stack;
 use harness::words::{log_words, Move, State, Table, STATE_TARGET};
 use harness::{library, plain};
 
-/// So many logs are taken in turn: of one log again and again the processor learns the branches.
+/// So many logs are taken in turn: the times of one log again and again do not grow steadily with its moves.
 const LOGS: usize = 16;
 
 /// A state, and the move or log that goes with it; none for a check.
