@@ -34,3 +34,5 @@ pub mod Mapped
 pub mod Columns
 pub mod Runs
 pub mod Splits
+pub mod Tuples
+pub mod Choosing

@@ -1,6 +1,6 @@
 -- Functions on lists in which the rules are stated. For every element type.
 use Prim.Native.Nat.{ℕ, zero, suc, _+_, min}
-use mathlib.Core.List.{List, [], _∷_, _++_}
+use mathlib.Core.List.{List, [], _∷_, _++_, map}
 use mathlib.Core.Bool.{Bool, true, false, _&&_, _||_, not}
 use lib.Dec.{leb, eqb}
 use lib.ListN.{length, drop}
@@ -90,3 +90,14 @@ module _ {A : Type 0} where
   -- the second list with the first over its beginning
   abbrev pub over : List A → List A → List A
   over new old = new ++ drop (length new) old
+
+module _ {A B : Type 0} where
+  -- f of each element, one list after another
+  abbrev pub each : (A → List B) → List A → List B
+  each f [] = []
+  each f (x ∷ xs) = f x ++ each f xs
+
+-- every choice of k numbers below n, in order by the first, then by the next, ..
+abbrev pub tuples : ℕ → ℕ → List (List ℕ)
+tuples n zero = [] ∷ []
+tuples n (suc k) = each (λ p. map (λ ps. p ∷ ps) (tuples n k)) (upFrom 0 n)

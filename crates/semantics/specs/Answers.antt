@@ -4,12 +4,13 @@ use mathlib.Core.Bool.{Bool, not}
 use mathlib.Core.List.{List, [], _∷_, map}
 use lib.Dec.{leb}
 use lib.ListN.{length}
-use Rattle.lists.specs.Lists.{over}
+use Rattle.lists.specs.Lists.{over, each}
 use Rattle.semantics.specs.Table.{sizesOf, tableSizesOk, tableContentsOk, tableOf}
 use Rattle.semantics.specs.State.{State, maxEntries, stateSizesOk, entriesOk, stateOf, stateWords}
 use Rattle.semantics.specs.Move.{unless, firstFault, Move, moveOk, moveOf, Stepped, to, refused, stepWords}
 use Rattle.semantics.specs.Log.{moveCount, movesOf, logSizesOk, logWords, Ran, completed, stopped, run}
 use Rattle.semantics.specs.Serial.{beginsEmit, anyOpen, serial, serialFits}
+use Rattle.semantics.specs.Enabled.{enabled, moveWords, pageCount, pageOf}
 use Rattle.semantics.specs.declared.Refusal.{Refusal}
 use Rattle.semantics.specs.declared.Refusal.the-variants.{TableSizes, TableContents, StateSizes, StateContents, MoveForm, TargetTooShort}
 use Rattle.semantics.specs.declared.Refusal.the-variants.{WrongPick, WrongOwner, NoTransaction, EndNotAllowed, NoMoreIds, TooManyEntries}
@@ -19,6 +20,8 @@ use Rattle.semantics.specs.declared.Verdict.the-variants.{Allowed, Denie
 use Rattle.semantics.specs.declared.Outcome.{Outcome}
 use Rattle.semantics.specs.declared.Outcome.the-variants.{Passed, Written, Refused, MoveRefused}
 use Rattle.semantics.specs.declared.Answer.{Answer}
+use Rattle.semantics.specs.declared.Page.{Page}
+use Rattle.semantics.specs.declared.Listed.{Listed}
 use Rattle.semantics.specs.declared.Sizes.{Sizes}
 
 -- ---- 01's numbers
@@ -201,3 +204,39 @@ serialize t s l target = answerOf (outcomeOf (serialResult lineCeiling t s l tar
 
 unfoldable pub serializeTarget : List ℕ → List ℕ → List ℕ → List ℕ → List ℕ
 serializeTarget t s l target = targetAfter (serialResult lineCeiling t s l target) target
+
+-- ---- the list of open moves (02, M-100)
+
+-- 1, 2, 3, 4, 6: the target must hold a whole page of the count, however many moves there are
+abbrev pub listFaults : List ℕ → List ℕ → ℕ → List ℕ → List Verdict
+listFaults t s count target = stateVerdict t s ∷ hasWords (5 * pageCount count) target ∷ []
+
+-- the open moves of a state in words
+abbrev pub enabledIn : ℕ → List ℕ → List ℕ → List Move
+enabledIn ceiling t s = enabled ceiling (tableOf t) (stateOf s)
+
+-- the page's moves, one after another
+unfoldable pub listResult : ℕ → List ℕ → List ℕ → ℕ → ℕ → List ℕ → Result
+listResult ceiling t s first count target =
+    unlessDenied (firstFault (listFaults t s count target)) (write (each moveWords (pageOf first count (enabledIn ceiling t s))))
+
+abbrev pub unlessDeniedZero : Verdict → ℕ → ℕ
+unlessDeniedZero Allowed n = n
+unlessDeniedZero (Denied r) n = 0
+
+-- beside it the length of the whole list, 0 where the list is refused
+unfoldable pub listLength : ℕ → List ℕ → List ℕ → ℕ → List ℕ → ℕ
+listLength ceiling t s count target = unlessDeniedZero (firstFault (listFaults t s count target)) (length (enabledIn ceiling t s))
+
+-- what C gets of an outcome and a length
+abbrev pub pageAnswer : Listed → Page
+pageAnswer l = record { number = answerOf (l .outcome) .number; words = answerOf (l .outcome) .words; length = l .length }
+
+unfoldable pub listMoves : List ℕ → List ℕ → ℕ → ℕ → List ℕ → Page
+listMoves t s first count target = pageAnswer (record {
+  outcome = outcomeOf (listResult lineCeiling t s first count target);
+  length = listLength lineCeiling t s count target;
+})
+
+unfoldable pub listMovesTarget : List ℕ → List ℕ → ℕ → ℕ → List ℕ → List ℕ
+listMovesTarget t s first count target = targetAfter (listResult lineCeiling t s first count target) target

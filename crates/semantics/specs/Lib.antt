@@ -4,8 +4,10 @@ pub mod State
 pub mod Move
 pub mod Log
 pub mod Serial
+pub mod Enabled
 pub mod Answers
 pub mod Cases
 pub mod OddCases
+pub mod ListCases
 pub mod Program
 pub mod ProgramCases

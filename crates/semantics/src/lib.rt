@@ -44,6 +44,21 @@ pub struct Answer {
     pub own: u32,
 }
 
+// What the list of open moves says: words of a page written, or why not, and the length of the whole
+// list.
+pub struct Listed {
+    pub outcome: Outcome,
+    pub length: u64,
+}
+
+// The same in 01's numbers, for C.
+#[repr(C)]
+pub struct Page {
+    pub number: u32,
+    pub words: u32,
+    pub length: u64,
+}
+
 // 01's G, L, M, R and A: how many global, local and merge ports (plant, batch, joining ports), rules
 // and atoms.
 pub struct Sizes {
