@@ -1,0 +1,170 @@
+-- `fill` by the numbers still wanted: at each level the loop pages the choices branch by branch (`Branches`).
+use Prim.Native.Nat.{ℕ, _+_, _-_, _*_, _≤_, _<_}
+use mathlib.Core.Path.{_≡_, refl, sym, ap, _∙_}
+use mathlib.Core.List.{List, _++_}
+use native.Mathlib.Omega.{arith}
+use borrow.Author.Tests.{not-true, not-false}
+use lib.ListN.{length, getD, take, drop, set}
+use lib.Seq.{length-take-le}
+use Rattle.lists.specs.Choosing.{choicesFrom}
+use Rattle.lists.specs.Pages.{Paging, paging-start, paging-pass, paging-skip, paging-more, paging-end, paging-full, paged-empty, paged-le, paged-length}
+use Rattle.choices.specs.Words.{choiceWords, five-words}
+use Rattle.choices.proofs.Branches.{branch, branchesFrom, branches-start, branches-end, branches-pass, branches-here, level}
+use Rattle.choices.proofs.Branches.{used-below, branch-width, branch-paged, leaf-past, leaf-one, fits-in}
+use borrow.Author.Needs.{needs}
+use borrow.Fn.Kinds.{In}
+use borrow.Fn.PlainCycle.{Measures, is, falls, and}
+use Rattle.choices.proofs.page.fill.Reads as fill
+use Rattle.choices.proofs.page.fill.Kinds as fill-kinds
+use Rattle.choices.proofs.page.+fill.Lts-fill as fill-lts
+use Rattle.choices.proofs.page.is_free.Reads as is-free-reads
+use Rattle.choices.proofs.page.put.Reads as put-reads
+use Rattle.choices.proofs.page.+fill.{statement}
+use Rattle.choices.proofs.page.+fill.Tie.{close}
+
+-- the numbers still wanted
+abbrev μ-fill : Measures 2 fill-kinds.ps ℕ
+μ-fill κs a = a .1 .1 .1 .1 .0 - a .1 .1 .1 .1 .1 .1 .1 .0
+
+abbrev fill-at : ℕ → In 2 fill-kinds.ps
+fill-at t = and 2 fill-kinds.ps (is 2 fill-kinds.ps μ-fill t) fill.Pre
+
+abbrev fill-below : ℕ → In 2 fill-kinds.ps
+fill-below t = and 2 fill-kinds.ps (falls 2 fill-kinds.ps _<_ μ-fill t) fill.Pre
+
+abbrev fill-Inv-loop : fill-lts.InvT-loop
+fill-Inv-loop keys n k head picks i first count target₀ at wanted widths t width skip₀ done₀ p₀ target skip done p =
+    (p ≤ n) × Paging (choiceWords head picks i) 5 (choicesFrom (take n keys) (take i picks) (drop i (take k wanted)))
+    (branchesFrom (take n keys) (take i picks) (getD wanted i 0) (drop (i + 1) (take k wanted)) p) first count skip done at target₀ target
+
+abbrev fill-μ-loop : fill-lts.MeasureT-loop
+fill-μ-loop keys n k head picks i first count target₀ at wanted widths t width skip₀ done₀ p₀ target skip done p =
+    n - p
+
+pub +fill-spec : {M : Type 1} → statement M
++fill-spec = close μ-fill λ t. fill-lts.spec (
+  put-reads.Asked,
+  put-reads.Learnt,
+  is-free-reads.Asked,
+  is-free-reads.Learnt,
+  fill-below t,
+  fill.Post,
+)
+    (fill-at t)
+    fill.Post
+    fill-Inv-loop
+    fill-μ-loop
+    (λ c. rw (c .if2 .taken) (paged-empty _ 5 _ _ _ _))
+    (λ c.
+    let a = c .before .before .before .before .args in
+    leaf-past (take (a .n) (a .keys .now)) (a .t3) (take (a .i) (a .picks)) (a .k) (a .i) (c .before .before .if1 .taken) (a .head) (a .first) (a .at) (a .picks) (a .target .now) (a .count) (c .if3 .taken))
+    (λ c κs. search needs)
+    (λ c. search needs)
+    (λ c.
+    let a = c .before .before .before .before .before .before .before .before .args in
+    leaf-one (take (a .n) (a .keys .now)) (a .t3) (take (a .i) (a .picks)) (a .k) (a .i) (c .before .before .before .before .before .before .if1 .taken)
+    (a .head) (a .first) (a .at) (a .picks) (a .target .now) (a .count) (omega (arith, c .before .before .before .before .if3 .left)) (c .before .before .before .before .before .if2 .left) (c .before .before .put .ensures))
+    (λ c. search needs)
+    (λ c. search needs)
+    (λ c. search needs)
+    (λ c. search needs)
+    (λ c.
+    let a = c .before .before .args in
+    let four : length (a .t3) ≡ 4 = search needs in (
+      omega arith,
+      paging-pass (choiceWords (a .head) (a .picks) (a .i)) 5 (five-words (a .head) (a .picks) (a .i) (search needs))
+          (paging-start (choiceWords (a .head) (a .picks) (a .i)) 5 (choicesFrom (take (a .n) (a .keys .now)) (take (a .i) (a .picks)) (drop (a .i) (take (a .k) (a .t3)))) (a .first) (a .count) (a .at) (a .target .now))
+          (branches-start (take (a .n) (a .keys .now)) (take (a .i) (a .picks)) (getD (a .t3) (a .i) 0) (drop (a .i + 1) (take (a .k) (a .t3))) _
+          (level (take (a .n) (a .keys .now)) (a .t3) (a .picks) (a .k) (a .i) (omega arith) (omega arith))),
+    ))
+    (λ c. paged-length _ 5 (c .before .before .loop .inv .1 .paged))
+    (λ c.
+    let a = c .before .before .before .before .before .args in
+    paging-full (choiceWords (a .head) (a .picks) (a .i)) 5 (five-words (a .head) (a .picks) (a .i) (search needs)) (c .before .before .loop .inv .1) (c .if4 .taken))
+    (λ c κs. search needs)
+    (λ c. search needs)
+    (λ c. search needs)
+    (λ c.
+    let a = c .before .before .before .before .before .before .before .args in
+    let l = c .before .before .before .before .loop in
+    let ks = take (a .n) (a .keys .now) in
+    let h : l .p < length ks = rw (length-take-le (a .n) (a .keys .now) (omega arith)) (c .before .before .before .loop-test .taken) in
+    let e = fits-in (a .keys .now) (a .n) (take (a .i) (a .picks)) (getD (a .t3) (a .i) 0) (l .p) (c .before .before .before .loop-test .taken) (c .before .is-free .ensures) ∙ not-true _ (c .if5 .taken) in (
+      omega arith,
+      paging-pass (choiceWords (a .head) (a .picks) (a .i)) 5 (five-words (a .head) (a .picks) (a .i) (search needs)) (l .inv .1)
+          (branches-pass ks (take (a .i) (a .picks)) (getD (a .t3) (a .i) 0) (drop (a .i + 1) (take (a .k) (a .t3))) (l .p) h e),
+    ))
+    (λ c. search needs)
+    (λ c. search needs)
+    (λ c.
+    let s = c .before .before .before .before .before .before .before .before in
+    let a = s .args in
+    let p = s .pre .1 in
+    let l = c .before .before .before .before .before .loop in
+    let ks = take (a .n) (a .keys .now) in
+    let h : l .p < length ks = rw (length-take-le (a .n) (a .keys .now) (omega arith)) (c .before .before .before .before .loop-test .taken) in
+    let four : length (a .t3) ≡ 4 = search needs in
+    let six : length (a .picks) ≡ 4 = search needs in
+    let e = fits-in (a .keys .now) (a .n) (take (a .i) (a .picks)) (getD (a .t3) (a .i) 0) (l .p) (c .before .before .before .before .loop-test .taken) (c .before .before .is-free .ensures) ∙ not-false _ (c .before .if5 .left) in
+    let w = branch-width ks (a .t3) (a .picks) (a .k) (a .i) (omega arith) (omega arith) (p .1 .1 .1) (l .p) h e (omega arith) (p .1 .1 .0) in (
+      omega arith,
+      rw (← w) (paging-skip (choiceWords (a .head) (a .picks) (a .i)) 5 (five-words (a .head) (a .picks) (a .i) six) (l .inv .1) (branch ks (take (a .i) (a .picks)) (drop (a .i + 1) (take (a .k) (a .t3))) (l .p)) _
+          (branches-here ks (take (a .i) (a .picks)) (getD (a .t3) (a .i) 0) (drop (a .i + 1) (take (a .k) (a .t3))) (l .p) h e) (rw w (c .if6 .taken))),
+    ))
+    (λ c. search needs)
+    (λ c. search needs)
+    (λ c. search needs)
+    (λ c. search needs)
+    (λ c. let d = paged-le _ 5 (c .before .before .before .before .before .loop .inv .1 .paged) in search needs)
+    (λ c. let d = paged-le _ 5 (c .before .before .before .before .before .before .loop .inv .1 .paged) in search needs)
+    (λ c. let d = paged-le _ 5 (c .before .before .before .before .before .before .loop .inv .1 .paged) in search needs)
+    (λ c κs.
+    let s = c .before .before .before .before .before .before .before .before .before in
+    let a = s .args in
+    let p = s .pre .1 in
+    let l = c .before .before .before .before .before .before .loop in
+    let ks = take (a .n) (a .keys .now) in
+    let h : l .p < length ks = rw (length-take-le (a .n) (a .keys .now) (omega arith)) (c .before .before .before .before .before .loop-test .taken) in
+    let four : length (a .t3) ≡ 4 = search needs in
+    let six : length (a .picks) ≡ 4 = search needs in
+    let e = fits-in (a .keys .now) (a .n) (take (a .i) (a .picks)) (getD (a .t3) (a .i) 0) (l .p) (c .before .before .before .before .before .loop-test .taken) (c .before .before .before .is-free .ensures) ∙ not-false _ (c .before .before .if5 .left) in
+    let z = paged-length _ 5 (l .inv .1 .paged) in
+    let d = paged-le _ 5 (l .inv .1 .paged) in (
+      omega arith,
+      (
+        (omega arith, omega arith, omega arith, p .0 .3),
+        (
+          (omega (arith, p .1 .0), omega (arith, p .1 .0)),
+          (p .1 .1 .0, used-below ks (a .t3) (a .picks) (a .k) (a .i) (omega arith) (omega arith) (p .1 .1 .1) (l .p) h e (omega arith)),
+        ),
+      ),
+    ))
+    (λ c.
+    let s = c .before .before .before .before .before .before .before .before .before .before .before .before in
+    let l = c .before .before .before .before .before .before .before .before .before .loop in
+    omega (arith, paged-le _ 5 (c .before .before .fill .ensures), paged-le _ 5 (l .inv .1 .paged), s .pre .1 .1 .0 .0))
+    (λ c. search needs)
+    (λ c. search needs)
+    (λ c.
+    let s = c .before .before .before .before .before .before .before .before .before .before .before .before in
+    let a = s .args in
+    let p = s .pre .1 in
+    let l = c .before .before .before .before .before .before .before .before .before .loop in
+    let ks = take (a .n) (a .keys .now) in
+    let h : l .p < length ks = rw (length-take-le (a .n) (a .keys .now) (omega arith)) (c .before .before .before .before .before .before .before .before .loop-test .taken) in
+    let four : length (a .t3) ≡ 4 = search needs in
+    let six : length (a .picks) ≡ 4 = search needs in
+    let e = fits-in (a .keys .now) (a .n) (take (a .i) (a .picks)) (getD (a .t3) (a .i) 0) (l .p) (c .before .before .before .before .before .before .before .before .loop-test .taken) (c .before .before .before .before .before .before .is-free .ensures) ∙ not-false _ (c .before .before .before .before .before .if5 .left) in
+    let w = branch-width ks (a .t3) (a .picks) (a .k) (a .i) (omega arith) (omega arith) (p .1 .1 .1) (l .p) h e (omega arith) (p .1 .1 .0) in
+    let more = paging-more (choiceWords (a .head) (a .picks) (a .i)) 5 (five-words (a .head) (a .picks) (a .i) six) (l .inv .1) (branch ks (take (a .i) (a .picks)) (drop (a .i + 1) (take (a .k) (a .t3))) (l .p)) _ _ _
+    (branches-here ks (take (a .i) (a .picks)) (getD (a .t3) (a .i) 0) (drop (a .i + 1) (take (a .k) (a .t3))) (l .p) h e)
+    (branch-paged ks (a .t3) (a .picks) (a .k) (a .i) (omega arith) (omega arith) (p .1 .1 .1) (l .p) h e (omega arith) (c .before .before .fill .ensures)) in
+    let none : l .skip - length (branch ks (take (a .i) (a .picks)) (drop (a .i + 1) (take (a .k) (a .t3))) (l .p)) ≡ 0 = omega (arith, w, c .before .before .before .before .if6 .left) in
+    (omega arith, rw none at more))
+    (λ c. paged-length _ 5 (c .before .loop .inv .1 .paged))
+    (λ c.
+    let a = c .before .before .before .before .args in
+    let l = c .before .loop in
+    let ks = take (a .n) (a .keys .now) in
+    paging-end (choiceWords (a .head) (a .picks) (a .i)) 5 (five-words (a .head) (a .picks) (a .i) (search needs)) (l .inv .1)
+    (branches-end ks (take (a .i) (a .picks)) (getD (a .t3) (a .i) 0) (drop (a .i + 1) (take (a .k) (a .t3))) (l .p) (rw (length-take-le (a .n) (a .keys .now) (omega arith)) (c .loop-test .left))))
