@@ -3,12 +3,12 @@ use Prim.Native.Nat.{ℕ, zero, suc, _+_, _-_, _*_, _≤_, _<_}
 use mathlib.Core.Path.{_≡_, refl, sym, ap, _∙_, subst}
 use mathlib.Core.Bool.{Bool, true, false}
 use mathlib.Core.List.{List, [], _∷_, _++_, map}
-use native.Mathlib.Nat.{sub-zero, min-le-left}
+use native.Mathlib.Nat.{min-le-left}
 use native.Mathlib.Numerals.{add-one}
 use native.Mathlib.Omega.{arith}
 use lib.ListN.{length, getD, take, drop, set, length-map, length-take, drop-of-length-le}
 use lib.Seq.{sets, length-take-le, getD-take, take-suc-set, take-suc, take-take, drop-cons}
-use Rattle.lists.specs.Lists.{keep, upFrom, each}
+use Rattle.lists.specs.Tuples.{eachFrom, from-start}
 use Rattle.lists.specs.Prefix.{prefix-tails}
 use Rattle.lists.specs.Keys.{timesIn}
 use Rattle.lists.specs.Choosing.{fits, choicesFrom}
@@ -22,24 +22,10 @@ abbrev pub branch : List ℕ → List ℕ → List ℕ → ℕ → List (List �
 branch ks used ts p = map (λ c. p ∷ c) (choicesFrom ks (used ++ p ∷ []) ts)
 
 abbrev pub branchesFrom : List ℕ → List ℕ → ℕ → List ℕ → ℕ → List (List ℕ)
-branchesFrom ks used t ts p = each (branch ks used ts) (keep (fits ks used t) (upFrom p (length ks - p)))
+branchesFrom ks used t ts p = eachFrom (branch ks used ts) (fits ks used t) (length ks) p
 
-module _ (ks used : List ℕ) (t : ℕ) (ts : List ℕ) where
-  pub branches-start : (us : List ℕ) → us ≡ t ∷ ts → choicesFrom ks used us ≡ branchesFrom ks used t ts 0
-  branches-start us e = rw (e, sub-zero)
-
-  pub branches-end : (p : ℕ) → length ks ≤ p → branchesFrom ks used t ts p ≡ []
-  branches-end p h = let e : length ks - p ≡ 0 = omega arith in rw e
-
-  module _ (p : ℕ) (h : p < length ks) where
-    step : upFrom p (length ks - p) ≡ p ∷ upFrom (p + 1) (length ks - (p + 1))
-    step = let e : length ks - p ≡ suc (length ks - (p + 1)) = omega arith in rw (e, add-one)
-
-    pub branches-pass : fits ks used t p ≡ false → branchesFrom ks used t ts p ≡ branchesFrom ks used t ts (p + 1)
-    branches-pass e = rw (step, e)
-
-    pub branches-here : fits ks used t p ≡ true → branchesFrom ks used t ts p ≡ branch ks used ts p ++ branchesFrom ks used t ts (p + 1)
-    branches-here e = rw (step, e)
+pub branches-start : (ks used : List ℕ) (t : ℕ) (ts us : List ℕ) → us ≡ t ∷ ts → choicesFrom ks used us ≡ branchesFrom ks used t ts 0
+branches-start ks used t ts us e = rw e (sym (from-start (branch ks used ts) (fits ks used t) (length ks)))
 
 -- at level i of the code, where the first k of `wanted` are wanted
 module _ (ks wanted picks : List ℕ) (k i : ℕ) (few : k ≤ length wanted) (low : i < k) where

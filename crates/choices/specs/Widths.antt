@@ -35,9 +35,9 @@ widthsOf ts ls k =
 pub record Widths (count : ℕ → ℕ) (ts ws : List ℕ) : Type 0 where
   pub below : (i : ℕ) → i < length ts → getD ws i 0 ≡ ways count (take (suc i) ts) (drop (suc i) ts)
 
--- `left` has the places of each of the first k numbers
+-- `left` has the places of each of the first k numbers; those of the first number do not matter
 abbrev pub Lefts : (ℕ → ℕ) → List ℕ → List ℕ → ℕ → Type 0
-Lefts count ts ls k = (j : ℕ) → j < k → getD ls j 0 ≡ count (getD ts j 0)
+Lefts count ts ls k = (j : ℕ) → 1 ≤ j → j < k → getD ls j 0 ≡ count (getD ts j 0)
 
 module _ (count : ℕ → ℕ) (a b c d : ℕ) (ls : List ℕ) where
   abbrev ts : List ℕ
@@ -57,7 +57,7 @@ module _ (count : ℕ → ℕ) (a b c d : ℕ) (ls : List ℕ) where
       let e : oneIf (eqb a d) + oneIf (eqb b d) + oneIf (eqb c d) ≡ oneIf (eqb a d) + (oneIf (eqb b d) + (oneIf (eqb c d) + 0)) = omega arith in
       ap (λ (x : ℕ). count d - x) e
 
-  pub widths-four : (k : ℕ) → 1 ≤ k → k ≤ 4 → Lefts count ts ls k → Widths count (take k ts) (widthsOf ts ls k)
+  widths-four : (k : ℕ) → 1 ≤ k → k ≤ 4 → Lefts count ts ls k → Widths count (take k ts) (widthsOf ts ls k)
   unfolding widthsOf
   widths-four zero l u h = absurd (omega arith)
   widths-four (suc zero) l u h = record { below = below }
@@ -68,25 +68,34 @@ module _ (count : ℕ → ℕ) (a b c d : ℕ) (ls : List ℕ) where
   widths-four (suc (suc zero)) l u h = record { below = below }
     where
       below : (i : ℕ) → i < 2 → getD (widthsOf ts ls 2) i 0 ≡ ways count (take (suc i) (a ∷ b ∷ [])) (drop (suc i) (a ∷ b ∷ []))
-      below zero q = rw (h 1 (omega arith), two)
+      below zero q = rw (h 1 (omega arith) (omega arith), two)
       below (suc zero) q = refl
       below (suc (suc i)) h = absurd (omega arith)
   widths-four (suc (suc (suc zero))) l u h = record { below = below }
     where
       below : (i : ℕ) → i < 3 → getD (widthsOf ts ls 3) i 0 ≡ ways count (take (suc i) (a ∷ b ∷ c ∷ [])) (drop (suc i) (a ∷ b ∷ c ∷ []))
-      below zero q = rw (h 1 (omega arith), h 2 (omega arith), two, three)
-      below (suc zero) q = rw (h 2 (omega arith), three)
+      below zero q = rw (h 1 (omega arith) (omega arith), h 2 (omega arith) (omega arith), two, three)
+      below (suc zero) q = rw (h 2 (omega arith) (omega arith), three)
       below (suc (suc zero)) q = refl
       below (suc (suc (suc i))) h = absurd (omega arith)
   widths-four (suc (suc (suc (suc zero)))) l u h = record { below = below }
     where
       below : (i : ℕ) → i < 4 → getD (widthsOf ts ls 4) i 0 ≡ ways count (take (suc i) (a ∷ b ∷ c ∷ d ∷ [])) (drop (suc i) (a ∷ b ∷ c ∷ d ∷ []))
-      below zero q = rw (h 1 (omega arith), h 2 (omega arith), h 3 (omega arith), two, three, four, mul-one)
-      below (suc zero) q = rw (h 2 (omega arith), h 3 (omega arith), three, four, mul-one)
-      below (suc (suc zero)) q = rw (h 3 (omega arith), four, mul-one)
+      below zero q = rw (h 1 (omega arith) (omega arith), h 2 (omega arith) (omega arith), h 3 (omega arith) (omega arith), two, three, four, mul-one)
+      below (suc zero) q = rw (h 2 (omega arith) (omega arith), h 3 (omega arith) (omega arith), three, four, mul-one)
+      below (suc (suc zero)) q = rw (h 3 (omega arith) (omega arith), four, mul-one)
       below (suc (suc (suc zero))) q = refl
       below (suc (suc (suc (suc i)))) h = absurd (omega arith)
   widths-four (suc (suc (suc (suc (suc k))))) l u h = absurd (omega arith)
+
+pub widths-are : (count : ℕ → ℕ) (ts ls : List ℕ) → length ts ≡ 4 → (k : ℕ) → 1 ≤ k → k ≤ 4 → Lefts count ts ls k
+    → Widths count (take k ts) (widthsOf ts ls k)
+widths-are count [] ls h = absurd (omega arith)
+widths-are count (a ∷ []) ls h = absurd (omega arith)
+widths-are count (a ∷ b ∷ []) ls h = absurd (omega arith)
+widths-are count (a ∷ b ∷ c ∷ []) ls h = absurd (omega arith)
+widths-are count (a ∷ b ∷ c ∷ d ∷ []) ls h = widths-four count a b c d ls
+widths-are count (a ∷ b ∷ c ∷ d ∷ e ∷ r) ls h = absurd (omega arith)
 
 -- as the code puts them together
 pub widths-as : (ts ls : List ℕ) (k x y z : ℕ) → x ≡ secondWays ts ls k → y ≡ thirdWays ts ls k → z ≡ fourthWays ts ls k

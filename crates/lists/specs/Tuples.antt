@@ -1,8 +1,11 @@
 -- Lists one after another, and tuples of numbers: those that a test keeps are chosen place by place.
-use Prim.Native.Nat.{ℕ, zero, suc}
+use Prim.Native.Nat.{ℕ, zero, suc, _+_, _-_, _≤_, _<_}
 use mathlib.Core.Path.{_≡_, refl, ap, _∙_}
 use mathlib.Core.Bool.{Bool, true, false, _&&_}
 use mathlib.Core.List.{List, [], _∷_, _++_, map}
+use native.Mathlib.Nat.{sub-zero}
+use native.Mathlib.Numerals.{add-one}
+use native.Mathlib.Omega.{arith}
 use Rattle.lists.specs.Lists.{keep, keepIf, upFrom, each, tuples}
 use Rattle.lists.specs.Parts.{keep-append, keep-map}
 
@@ -50,3 +53,24 @@ module _ {S : Type 0} (fits : S → ℕ → Bool) (after : S → ℕ → S) wher
       ∙ each-keep (fits s) (λ p. keep (reads s) (map (λ ps. p ∷ ps) (tuples n k))) (λ p. map (λ ps. p ∷ ps) (chosen n (after s p) k))
       (λ p e. some-read s p e (tuples n k) ∙ ap (map (λ ps. p ∷ ps)) (keep-tuples n (after s p) k)) (λ p e. none-read s p e (tuples n k))
       (upFrom 0 n)
+
+-- f of the numbers from p on and below n of which q holds: what a loop over them has still before it
+module _ {B : Type 0} (f : ℕ → List B) (q : ℕ → Bool) (n : ℕ) where
+  abbrev pub eachFrom : ℕ → List B
+  eachFrom p = each f (keep q (upFrom p (n - p)))
+
+  pub from-start : eachFrom 0 ≡ each f (keep q (upFrom 0 n))
+  from-start = rw sub-zero
+
+  pub from-end : (p : ℕ) → n ≤ p → eachFrom p ≡ []
+  from-end p h = let e : n - p ≡ 0 = omega arith in rw e
+
+  module _ (p : ℕ) (h : p < n) where
+    step : upFrom p (n - p) ≡ p ∷ upFrom (p + 1) (n - (p + 1))
+    step = let e : n - p ≡ suc (n - (p + 1)) = omega arith in rw (e, add-one)
+
+    pub from-pass : q p ≡ false → eachFrom p ≡ eachFrom (p + 1)
+    from-pass e = rw (step, e)
+
+    pub from-here : q p ≡ true → eachFrom p ≡ f p ++ eachFrom (p + 1)
+    from-here e = rw (step, e)

@@ -6,10 +6,11 @@ use native.Mathlib.Omega.{arith}
 use borrow.Author.Tests.{not-true, not-false}
 use lib.ListN.{length, getD, take, drop, set}
 use lib.Seq.{length-take-le}
-use Rattle.lists.specs.Choosing.{choicesFrom}
+use Rattle.lists.specs.Choosing.{fits, choicesFrom}
+use Rattle.lists.specs.Tuples.{from-end, from-pass, from-here}
 use Rattle.lists.specs.Pages.{Paging, paging-start, paging-pass, paging-skip, paging-more, paging-end, paging-full, paged-empty, paged-le, paged-length}
 use Rattle.choices.specs.Words.{choiceWords, five-words}
-use Rattle.choices.proofs.Branches.{branch, branchesFrom, branches-start, branches-end, branches-pass, branches-here, level}
+use Rattle.choices.proofs.Branches.{branch, branchesFrom, branches-start, level}
 use Rattle.choices.proofs.Branches.{used-below, branch-width, branch-paged, leaf-past, leaf-one, fits-in}
 use borrow.Author.Needs.{needs}
 use borrow.Fn.Kinds.{In}
@@ -92,7 +93,7 @@ pub +fill-spec : {M : Type 1} → statement M
     let e = fits-in (a .keys .now) (a .n) (take (a .i) (a .picks)) (getD (a .t3) (a .i) 0) (l .p) (c .before .before .before .loop-test .taken) (c .before .is-free .ensures) ∙ not-true _ (c .if5 .taken) in (
       omega arith,
       paging-pass (choiceWords (a .head) (a .picks) (a .i)) 5 (five-words (a .head) (a .picks) (a .i) (search needs)) (l .inv .1)
-          (branches-pass ks (take (a .i) (a .picks)) (getD (a .t3) (a .i) 0) (drop (a .i + 1) (take (a .k) (a .t3))) (l .p) h e),
+          (from-pass (branch ks (take (a .i) (a .picks)) (drop (a .i + 1) (take (a .k) (a .t3)))) (fits ks (take (a .i) (a .picks)) (getD (a .t3) (a .i) 0)) (length ks) (l .p) h e),
     ))
     (λ c. search needs)
     (λ c. search needs)
@@ -109,7 +110,7 @@ pub +fill-spec : {M : Type 1} → statement M
     let w = branch-width ks (a .t3) (a .picks) (a .k) (a .i) (omega arith) (omega arith) (p .1 .1 .1) (l .p) h e (omega arith) (p .1 .1 .0) in (
       omega arith,
       rw (← w) (paging-skip (choiceWords (a .head) (a .picks) (a .i)) 5 (five-words (a .head) (a .picks) (a .i) six) (l .inv .1) (branch ks (take (a .i) (a .picks)) (drop (a .i + 1) (take (a .k) (a .t3))) (l .p)) _
-          (branches-here ks (take (a .i) (a .picks)) (getD (a .t3) (a .i) 0) (drop (a .i + 1) (take (a .k) (a .t3))) (l .p) h e) (rw w (c .if6 .taken))),
+          (from-here (branch ks (take (a .i) (a .picks)) (drop (a .i + 1) (take (a .k) (a .t3)))) (fits ks (take (a .i) (a .picks)) (getD (a .t3) (a .i) 0)) (length ks) (l .p) h e) (rw w (c .if6 .taken))),
     ))
     (λ c. search needs)
     (λ c. search needs)
@@ -157,7 +158,7 @@ pub +fill-spec : {M : Type 1} → statement M
     let e = fits-in (a .keys .now) (a .n) (take (a .i) (a .picks)) (getD (a .t3) (a .i) 0) (l .p) (c .before .before .before .before .before .before .before .before .loop-test .taken) (c .before .before .before .before .before .before .is-free .ensures) ∙ not-false _ (c .before .before .before .before .before .if5 .left) in
     let w = branch-width ks (a .t3) (a .picks) (a .k) (a .i) (omega arith) (omega arith) (p .1 .1 .1) (l .p) h e (omega arith) (p .1 .1 .0) in
     let more = paging-more (choiceWords (a .head) (a .picks) (a .i)) 5 (five-words (a .head) (a .picks) (a .i) six) (l .inv .1) (branch ks (take (a .i) (a .picks)) (drop (a .i + 1) (take (a .k) (a .t3))) (l .p)) _ _ _
-    (branches-here ks (take (a .i) (a .picks)) (getD (a .t3) (a .i) 0) (drop (a .i + 1) (take (a .k) (a .t3))) (l .p) h e)
+    (from-here (branch ks (take (a .i) (a .picks)) (drop (a .i + 1) (take (a .k) (a .t3)))) (fits ks (take (a .i) (a .picks)) (getD (a .t3) (a .i) 0)) (length ks) (l .p) h e)
     (branch-paged ks (a .t3) (a .picks) (a .k) (a .i) (omega arith) (omega arith) (p .1 .1 .1) (l .p) h e (omega arith) (c .before .before .fill .ensures)) in
     let none : l .skip - length (branch ks (take (a .i) (a .picks)) (drop (a .i + 1) (take (a .k) (a .t3))) (l .p)) ≡ 0 = omega (arith, w, c .before .before .before .before .if6 .left) in
     (omega arith, rw none at more))
@@ -167,4 +168,4 @@ pub +fill-spec : {M : Type 1} → statement M
     let l = c .before .loop in
     let ks = take (a .n) (a .keys .now) in
     paging-end (choiceWords (a .head) (a .picks) (a .i)) 5 (five-words (a .head) (a .picks) (a .i) (search needs)) (l .inv .1)
-    (branches-end ks (take (a .i) (a .picks)) (getD (a .t3) (a .i) 0) (drop (a .i + 1) (take (a .k) (a .t3))) (l .p) (rw (length-take-le (a .n) (a .keys .now) (omega arith)) (c .loop-test .left))))
+    (from-end (branch ks (take (a .i) (a .picks)) (drop (a .i + 1) (take (a .k) (a .t3)))) (fits ks (take (a .i) (a .picks)) (getD (a .t3) (a .i) 0)) (length ks) (l .p) (rw (length-take-le (a .n) (a .keys .now) (omega arith)) (c .loop-test .left))))
