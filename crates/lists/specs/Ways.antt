@@ -1,7 +1,7 @@
 -- How many choices of places there are: for each number wanted as many as there are places with it, less those that the same number has used before.
 use Prim.Native.Nat.{ℕ, zero, suc, _+_, _-_, _*_, _≤_, _<_, _^_}
 use mathlib.Core.Bool.{Bool, true, false, not, _&&_, _||_, and-true, or-false}
-use mathlib.Core.List.{List, [], _∷_, _++_, map, map-append}
+use mathlib.Core.List.{List, [], _∷_, _++_, map}
 use mathlib.Core.Path.{_≡_, refl, sym, ap, _∙_, subst, fun-ext}
 use native.Mathlib.Nat.{zero-mul, suc-mul, add-comm, pow-succ', mul-le-mul}
 use native.Mathlib.Omega.{arith}
@@ -10,7 +10,7 @@ use lib.Dec.{eqb}
 use lib.ListN.{length, getD, length-append, length-map, take, drop}
 use Rattle.lists.specs.Lists.{keep, keepIf, isIn, upFrom, oneIf, countIf, each}
 use Rattle.lists.specs.Choices.{by-bool, and-left, and-right}
-use Rattle.lists.specs.Tests.{and-right-false, true-and, false-or, same-test, eqb-swap}
+use Rattle.lists.specs.Tests.{and-right-false}
 use Rattle.lists.specs.Each.{All, All-keep, All-map}
 use Rattle.lists.specs.Counting.{length-keep}
 use Rattle.lists.specs.Totals.{count-sum}
@@ -126,25 +126,9 @@ choices-ways ks (t ∷ ts) earlier used h =
     ∙ choices-ways ks ts (earlier ++ t ∷ []) (used ++ p ∷ []) (used-next ks earlier used t p (omega arith) f h)) (upFrom 0 (length ks)) (places-below 0 (length ks))))
     ∙ ap (λ (k : ℕ). k * ways (λ t. timesIn t ks) (earlier ++ t ∷ []) ts) (length-keep (fits ks used t) (upFrom 0 (length ks)) ∙ omega (arith, h .free t))
 
--- ---- bounds, and numbers that are all shifted
+-- ---- a bound
 
 pub ways-le : (count : ℕ → ℕ) → ((t : ℕ) → count t ≤ 1024) → (earlier ts : List ℕ) → ways count earlier ts ≤ 1024 ^ length ts
 ways-le count h earlier [] = omega arith
 ways-le count h earlier (t ∷ ts) =
     rw pow-succ' (mul-le-mul (let b = h t in omega arith) (ways-le count h (earlier ++ t ∷ []) ts))
-
-times-shift : (b t : ℕ) (xs : List ℕ) → timesIn (t + b) (map (λ u. u + b) xs) ≡ timesIn t xs
-unfolding timesIn
-times-shift b t [] = refl
-times-shift b t (x ∷ xs) =
-    let e : eqb (x + b) (t + b) ≡ eqb x t =
-    same-test (eqb (x + b) (t + b)) (eqb x t) (λ h. let q = eqb-true (x + b) (t + b) h in eq-eqb x t (omega arith)) (λ h. let q = eqb-true x t h in eq-eqb (x + b) (t + b) (omega arith)) in
-    rw (e, times-shift b t xs)
-
-pub ways-shift : (count : ℕ → ℕ) (b : ℕ) (earlier ts : List ℕ)
-    → ways count (map (λ u. u + b) earlier) (map (λ u. u + b) ts) ≡ ways (λ t. count (t + b)) earlier ts
-ways-shift count b earlier [] = refl
-ways-shift count b earlier (t ∷ ts) =
-    let r : ways count (map (λ u. u + b) earlier ++ (t + b) ∷ []) (map (λ u. u + b) ts) ≡ ways (λ t. count (t + b)) (earlier ++ t ∷ []) ts =
-    ap (λ (l : List ℕ). ways count l (map (λ u. u + b) ts)) (sym (map-append (λ u. u + b) earlier (t ∷ []))) ∙ ways-shift count b (earlier ++ t ∷ []) ts in
-    rw (times-shift b t earlier, r)

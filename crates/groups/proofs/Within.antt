@@ -1,0 +1,226 @@
+-- The choices of which the first place is p: they are within p's group, and so many.
+use Prim.Native.Nat.{ℕ, zero, suc, _+_, _-_, _*_, _/_, _%_, _≤_, _<_, _^_}
+use mathlib.Core.Bool.{Bool, true, false, not, _&&_, cond}
+use mathlib.Core.Path.{_≡_, refl, sym, ap, _∙_, subst}
+use mathlib.Core.List.{List, [], _∷_, _++_, map}
+use native.Mathlib.Nat.{mul-le-mul}
+use native.Mathlib.Omega.{arith}
+use borrow.Author.Tests.{eqb-true, eq-eqb, lt-ltb}
+use lib.Dec.{eqb, ltb, lit<}
+use lib.ListN.{length, getD, take, drop, length-map, length-append}
+use lib.Seq.{sets}
+use Rattle.lists.specs.Lists.{isIn, keep, upFrom, each, oneIf}
+use Rattle.lists.specs.Choices.{and-intro, by-bool, cond-true, cond-false}
+use Rattle.lists.specs.Tests.{same-test}
+use Rattle.lists.specs.Keys.{timesIn}
+use Rattle.lists.specs.Choosing.{fits, choicesFrom, groupBase, choicesIn, choicesByGroup}
+use Rattle.lists.specs.Mapped.{map-take}
+use Rattle.lists.specs.Tuples.{eachFrom, from-start, from-end, from-pass, from-here}
+use Rattle.lists.specs.Pages.{Paged, paged-map}
+use Rattle.lists.specs.Ways.{ways, Used, used-none, used-next, choices-ways}
+use Rattle.choices.specs.Widths.{widthsOf, Widths, widths-are}
+use Rattle.choices.specs.Words.{choiceWords}
+use Rattle.groups.specs.Groups.{Sized, CountedIf, CountedFor, leftIn}
+
+-- ---- numbers that are all shifted
+
+abbrev pub shifted : ℕ → List ℕ → List ℕ
+shifted b ts = map (λ u. u + b) ts
+
+eqb-shift : (b x y : ℕ) → eqb (x + b) (y + b) ≡ eqb x y
+eqb-shift b x y =
+    same-test (eqb (x + b) (y + b)) (eqb x y) (λ h. let q = eqb-true (x + b) (y + b) h in eq-eqb x y (omega arith))
+    (λ h. let q = eqb-true x y h in eq-eqb (x + b) (y + b) (omega arith))
+
+widths-shift : (b : ℕ) (ts ls : List ℕ) → length ts ≡ 4 → (k : ℕ) → widthsOf (shifted b ts) ls k ≡ widthsOf ts ls k
+unfolding widthsOf
+widths-shift b [] ls h k = absurd (omega arith)
+widths-shift b (x ∷ []) ls h k = absurd (omega arith)
+widths-shift b (x ∷ y ∷ []) ls h k = absurd (omega arith)
+widths-shift b (x ∷ y ∷ z ∷ []) ls h k = absurd (omega arith)
+widths-shift b (x ∷ y ∷ z ∷ w ∷ []) ls h k =
+    rw (eqb-shift b x y, eqb-shift b x z, eqb-shift b y z, eqb-shift b x w, eqb-shift b y w, eqb-shift b z w)
+widths-shift b (x ∷ y ∷ z ∷ w ∷ v ∷ r) ls h k = absurd (omega arith)
+
+pub widths-small : (ts ls : List ℕ) (k : ℕ) → ((j : ℕ) → getD ls j 0 ≤ 1024) → getD (widthsOf ts ls k) 0 0 ≤ 1073741824
+unfolding widthsOf
+widths-small ts ls k h = mul-le-mul (at (ltb 1 k) 1 _) (mul-le-mul (at (ltb 2 k) 2 _) (at (ltb 3 k) 3 _))
+  where
+    at : (b : Bool) (j d : ℕ) → cond b (getD ls j 0 - d) 1 ≤ 1024
+    at true j d = let x = h j in omega arith
+    at false j d = omega arith
+
+getD-shift : (b : ℕ) (xs : List ℕ) (j : ℕ) → j < length xs → getD (shifted b xs) j 0 ≡ getD xs j 0 + b
+getD-shift b [] j h = absurd (omega arith)
+getD-shift b (x ∷ xs) zero h = refl
+getD-shift b (x ∷ xs) (suc j) h = getD-shift b xs j (omega arith)
+
+-- ---- one first place
+
+-- the choices from place p on
+abbrev pub groupsFrom : List ℕ → ℕ → List ℕ → ℕ → List (List ℕ)
+groupsFrom ks t ts p = eachFrom (choicesIn ks t ts) (λ p. eqb (getD ks p 0 % 512) t) (length ks) p
+
+module _ (ks : List ℕ) (t : ℕ) (ts : List ℕ) (k : ℕ) (four : length ts ≡ 3) (some : 1 ≤ k) (most : k ≤ 4) where
+  abbrev takes : List ℕ
+  takes = t ∷ ts
+
+  abbrev rest : List ℕ
+  rest = take (k - 1) ts
+
+  front : (xs : List ℕ) (x : ℕ) → take k (x ∷ xs) ≡ x ∷ take (k - 1) xs
+  front xs x = let e : k ≡ suc (k - 1) = omega arith in ap (λ (m : ℕ). take m (x ∷ xs)) e
+
+  pub groups-start : choicesByGroup ks (take k takes) ≡ groupsFrom ks t rest 0
+  groups-start = rw (front ts t) (sym (from-start (choicesIn ks t rest) (λ p. eqb (getD ks p 0 % 512) t) (length ks)))
+
+  module _ {second third fourth : List ℕ} (counted : CountedFor ks takes k second third fourth) (p : ℕ) (low : p < length ks)
+      (below : getD ks p 0 < 524288) (on : getD ks p 0 % 512 ≡ t) where
+    abbrev key : ℕ
+    key = getD ks p 0
+
+    abbrev b : ℕ
+    b = groupBase ks t p
+
+    abbrev ls : List ℕ
+    ls = leftIn second third fourth (key / 512)
+
+    base : t + b ≡ key
+    base = omega arith
+
+    count-at : {wanted : Bool} {u : ℕ} {counts : List ℕ} → CountedIf wanted ks u counts → wanted ≡ true → getD counts (key / 512) 0 ≡ timesIn (u + b) ks
+    count-at {wanted} {u} {counts} c w =
+        let g : key / 512 < 1024 = omega arith in
+        let e : key / 512 * 512 + u ≡ u + b = omega arith in
+        c .each w .each (key / 512) g ∙ ap (λ (x : ℕ). timesIn x ks) e
+
+    lefts : (j : ℕ) → 1 ≤ j → j < k → getD ls j 0 ≡ timesIn (getD (shifted b takes) j 0) ks
+    lefts zero l u = absurd (omega arith)
+    lefts (suc zero) l u = count-at (counted .second) (lt-ltb 1 k u) ∙ ap (λ (x : ℕ). timesIn x ks) (sym (getD-shift b ts 0 (omega arith)))
+    lefts (suc (suc zero)) l u = count-at (counted .third) (lt-ltb 2 k u) ∙ ap (λ (x : ℕ). timesIn x ks) (sym (getD-shift b ts 1 (omega arith)))
+    lefts (suc (suc (suc zero))) l u = count-at (counted .fourth) (lt-ltb 3 k u) ∙ ap (λ (x : ℕ). timesIn x ks) (sym (getD-shift b ts 2 (omega arith)))
+    lefts (suc (suc (suc (suc j)))) l u = absurd (omega arith)
+
+    abbrev ws : List ℕ
+    ws = widthsOf takes ls k
+
+    -- what `fill` asks, of the numbers within the group
+    pub widths-within : Widths (λ u. timesIn u ks) (take k (shifted b takes)) ws
+    widths-within =
+        let whole : length takes ≡ 4 = omega arith in
+        rw (← widths-shift b takes ls whole k) (widths-are (λ u. timesIn u ks) (shifted b takes) ls (length-map takes (λ u. u + b) ∙ whole) k some most lefts)
+
+    pub used-within : Used ks ((t + b) ∷ []) (p ∷ [])
+    used-within =
+        used-next ks [] [] (t + b) p low (and-intro (eq-eqb (getD ks p 0) (t + b) (sym base)) refl) (used-none ks)
+
+    within : take k (shifted b takes) ≡ (t + b) ∷ shifted b rest
+    within = sym (map-take (λ u. u + b) k takes) ∙ ap (shifted b) (front ts t)
+
+    pub first-within : take 1 (shifted b takes) ≡ (t + b) ∷ []
+    first-within = refl
+
+    pub rest-within : drop 1 (take k (shifted b takes)) ≡ shifted b rest
+    rest-within = ap (drop 1) within
+
+    pub width-within : length (choicesIn ks t rest p) ≡ getD ws 0 0
+    width-within =
+        let l : 0 < length (take k (shifted b takes)) = rw within (omega arith) in
+        length-map (choicesFrom ks (p ∷ []) (shifted b rest)) (λ c. p ∷ c)
+        ∙ choices-ways ks (shifted b rest) ((t + b) ∷ []) (p ∷ []) used-within
+        ∙ sym (widths-within .below 0 l ∙ rw within)
+
+    -- what it wrote
+    pub paged-within : {head first count at m : ℕ} {before after : List ℕ}
+        → Paged (choiceWords head (p ∷ 0 ∷ 0 ∷ 0 ∷ []) 1) 5 (choicesFrom ks (p ∷ []) (drop 1 (take k (shifted b takes)))) first count at before after m
+        → Paged (choiceWords head (0 ∷ 0 ∷ 0 ∷ 0 ∷ []) 0) 5 (choicesIn ks t rest p) first count at before after m
+    paged-within {head} {first} {count} {at} {m} {before} {after} w =
+        paged-map (λ c. p ∷ c) (choiceWords head (0 ∷ 0 ∷ 0 ∷ 0 ∷ []) 0) 5 (choicesFrom ks (p ∷ []) (shifted b rest)) first count at before after m
+        (rw rest-within at w)
+
+-- ---- as the code has the numbers, four in an array
+abbrev pub restOf : List ℕ → ℕ → List ℕ
+restOf takes k = take (k - 1) (drop 1 takes)
+
+abbrev pub blank : List ℕ
+blank = 0 ∷ 0 ∷ 0 ∷ 0 ∷ []
+
+pub record InGroup (ks takes : List ℕ) (k p : ℕ) (ws : List ℕ) : Type 0 where
+  pub widths : Widths (λ u. timesIn u ks) (take k (shifted (groupBase ks (getD takes 0 0) p) takes)) ws
+  pub used : Used ks (take 1 (shifted (groupBase ks (getD takes 0 0) p) takes)) (p ∷ [])
+  pub width : length (choicesIn ks (getD takes 0 0) (restOf takes k) p) ≡ getD ws 0 0
+  pub paged : {head first count at m : ℕ} {before after : List ℕ}
+      → Paged (choiceWords head (p ∷ 0 ∷ 0 ∷ 0 ∷ []) 1) 5
+      (choicesFrom ks (p ∷ []) (drop 1 (take k (shifted (groupBase ks (getD takes 0 0) p) takes)))) first count at before after m
+      → Paged (choiceWords head blank 0) 5 (choicesIn ks (getD takes 0 0) (restOf takes k) p) first count at before after m
+
+module _ (ks : List ℕ) (k : ℕ) (some : 1 ≤ k) (most : k ≤ 4) where
+  pub in-group : (takes : List ℕ) → length takes ≡ 4 → {bs cs ds : List ℕ} → CountedFor ks takes k bs cs ds
+      → (p : ℕ) → p < length ks → getD ks p 0 < 524288 → getD ks p 0 % 512 ≡ getD takes 0 0
+      → InGroup ks takes k p (widthsOf takes (leftIn bs cs ds (getD ks p 0 / 512)) k)
+  in-group [] h c p l b o = absurd (omega arith)
+  in-group (t ∷ ts) h c p l b o =
+      let four : length ts ≡ 3 = omega arith in
+      record {
+        widths = widths-within ks t ts k four some most c p l b o;
+        used = used-within ks t ts k four some most c p l b o;
+        width = width-within ks t ts k four some most c p l b o;
+        paged = paged-within ks t ts k four some most c p l b o;
+      }
+
+  pub groups-start-of : (takes : List ℕ) → length takes ≡ 4 → choicesByGroup ks (take k takes) ≡ groupsFrom ks (getD takes 0 0) (restOf takes k) 0
+  groups-start-of [] h = absurd (omega arith)
+  groups-start-of (t ∷ ts) h = groups-start ks t ts k (omega arith) some most
+
+-- ---- the numbers of one group
+
+pub left-small : (bs cs ds : List ℕ) (g : ℕ) → Sized bs → Sized cs → Sized ds → (j : ℕ) → getD (leftIn bs cs ds g) j 0 ≤ 1024
+left-small bs cs ds g x y z zero = omega arith
+left-small bs cs ds g x y z (suc zero) = x .few g
+left-small bs cs ds g x y z (suc (suc zero)) = y .few g
+left-small bs cs ds g x y z (suc (suc (suc zero))) = z .few g
+left-small bs cs ds g x y z (suc (suc (suc (suc j)))) = omega arith
+
+pub shifted-as : (b : ℕ) (ts : List ℕ) → length ts ≡ 4 → (getD ts 0 0 + b) ∷ (getD ts 1 0 + b) ∷ (getD ts 2 0 + b) ∷ (getD ts 3 0 + b) ∷ [] ≡ shifted b ts
+shifted-as b [] h = absurd (omega arith)
+shifted-as b (x ∷ []) h = absurd (omega arith)
+shifted-as b (x ∷ y ∷ []) h = absurd (omega arith)
+shifted-as b (x ∷ y ∷ z ∷ []) h = absurd (omega arith)
+shifted-as b (x ∷ y ∷ z ∷ w ∷ []) h = refl
+shifted-as b (x ∷ y ∷ z ∷ w ∷ v ∷ r) h = absurd (omega arith)
+
+-- ---- the loops over the first places
+
+pub groups-end : (ks : List ℕ) (t : ℕ) (ts : List ℕ) (p : ℕ) → length ks ≤ p → length (groupsFrom ks t ts p) ≡ 0
+groups-end ks t ts p h = ap length (from-end (choicesIn ks t ts) (λ p. eqb (getD ks p 0 % 512) t) (length ks) p h)
+
+module _ (ks : List ℕ) (k : ℕ) (some : 1 ≤ k) (most : k ≤ 4) (takes : List ℕ) (four : length takes ≡ 4) where
+  abbrev t₀ : ℕ
+  t₀ = getD takes 0 0
+
+  abbrev goal : ℕ → ℕ
+  goal p = length (groupsFrom ks t₀ (restOf takes k) p)
+
+  -- one place more, with this key
+  pub total-next : {bs cs ds : List ℕ} → CountedFor ks takes k bs cs ds → (p : ℕ) → p < length ks → {key : ℕ} → getD ks p 0 ≡ key → key < 524288
+      → {w : ℕ} → w ≡ cond (eqb (key % 512) t₀) (getD (widthsOf takes (leftIn bs cs ds (key / 512)) k) 0 0) 0 → goal p ≡ w + goal (p + 1)
+  total-next {bs} {cs} {ds} counted p low {key} is below {w} e = by-bool (eqb (key % 512) t₀) on off
+    where
+      on : eqb (key % 512) t₀ ≡ true → goal p ≡ w + goal (p + 1)
+      on q =
+          let small : getD ks p 0 < 524288 = rw is below in
+          let first : getD ks p 0 % 512 ≡ t₀ = rw is (eqb-true (key % 512) t₀ q) in
+          let i = in-group ks k some most takes four counted p low small first in
+          let v : w ≡ getD (widthsOf takes (leftIn bs cs ds (key / 512)) k) 0 0 = e ∙ cond-true _ _ q in
+          let x : getD (widthsOf takes (leftIn bs cs ds (getD ks p 0 / 512)) k) 0 0 ≡ w = rw is (sym v) in
+          let here : eqb (getD ks p 0 % 512) t₀ ≡ true = rw is q in
+          ap length (from-here (choicesIn ks t₀ (restOf takes k)) (λ p. eqb (getD ks p 0 % 512) t₀) (length ks) p low here)
+          ∙ length-append (choicesIn ks t₀ (restOf takes k) p) (groupsFrom ks t₀ (restOf takes k) (p + 1))
+          ∙ ap (λ (y : ℕ). y + goal (p + 1)) (i .width ∙ x)
+
+      off : eqb (key % 512) t₀ ≡ false → goal p ≡ w + goal (p + 1)
+      off q =
+          let v : w ≡ 0 = e ∙ cond-false _ _ q in
+          let here : eqb (getD ks p 0 % 512) t₀ ≡ false = rw is q in
+          let z = ap length (from-pass (choicesIn ks t₀ (restOf takes k)) (λ p. eqb (getD ks p 0 % 512) t₀) (length ks) p low here) in
+          omega arith

@@ -1,0 +1,147 @@
+// The choices of a rule by groups: their number, and a page of them.
+ghost use mathlib.Core.Path.{_≡_};
+ghost use mathlib.Core.Bool.{cond};
+ghost use mathlib.Core.List.{[], _∷_, map};
+ghost use Prim.Native.Nat.{ℕ, _+_, _*_, _/_, _%_, _≤_, _<_};
+ghost use lib.Dec.{eqb};
+ghost use lib.ListN.{length, getD, take};
+ghost use Rattle.lists.specs.Choosing.{choicesByGroup};
+ghost use Rattle.lists.specs.Pages.{Paged};
+ghost use Rattle.choices.specs.Widths.{widthsOf};
+ghost use Rattle.choices.specs.Words.{choiceWords};
+ghost use Rattle.groups.specs.Groups.{KeysBelow, CountedFor, leftIn, Sized};
+use choices::fill;
+use choices::widths;
+
+// The ways below a first pick with this key: those of its group.
+fn widths_in<'a>(
+    takes: [u32; 4],
+    k: usize,
+    second: &'a [u16; 1024],
+    third: &'a [u16; 1024],
+    fourth: &'a [u16; 1024],
+    key: u32,
+) -> [u64; 4]
+    requires { ⌜ Sized (now second) × Sized (now third) × Sized (now fourth) × (key < 524288) ⌝ }
+    ensures { λ r. ⌜ r ≡ widthsOf takes (leftIn (now (second .entry)) (now (third .entry)) (now (fourth .entry)) (key / 512)) k ⌝ }
+{
+    let g = (key / 512) as usize;
+    let left = [0, second[g] as u64, third[g] as u64, fourth[g] as u64];
+    widths(takes, left, k)
+}
+
+// The same as one number, 0 where the key is not on the first port.
+fn width_at<'a>(
+    takes: [u32; 4],
+    k: usize,
+    second: &'a [u16; 1024],
+    third: &'a [u16; 1024],
+    fourth: &'a [u16; 1024],
+    key: u32,
+) -> u64
+    requires { ⌜ Sized (now second) × Sized (now third) × Sized (now fourth) × (key < 524288) ⌝ }
+    ensures { λ r. ⌜ (r ≤ 1073741824) × (r ≡ cond (eqb (key % 512) (getD takes 0 0))
+        (getD (widthsOf takes (leftIn (now (second .entry)) (now (third .entry)) (now (fourth .entry)) (key / 512)) k) 0 0) 0) ⌝ }
+{
+    if key % 512 != takes[0] {
+        return 0;
+    }
+    let below = widths_in(takes, k, second, third, fourth, key);
+    below[0]
+}
+
+// How many choices there are for the first k ports.
+pub fn group_total<'a>(
+    keys: &'a [u32; 1024],
+    n: usize,
+    takes: [u32; 4],
+    k: usize,
+    second: &'a [u16; 1024],
+    third: &'a [u16; 1024],
+    fourth: &'a [u16; 1024],
+) -> u64
+    requires { ⌜ KeysBelow n (now keys) × (1 ≤ k) × (k ≤ 4) × CountedFor (take n (now keys)) takes k (now second) (now third) (now fourth) ⌝ }
+    ensures { λ r. ⌜ (r ≡ length (choicesByGroup (take n (now (keys .entry))) (take k takes))) × (r ≤ 1099511627776) ⌝ }
+{
+    let mut total = 0;
+    let mut p = 0;
+    while p < n {
+        total += width_at(takes, k, second, third, fourth, keys[p]);
+        p += 1;
+    }
+    total
+}
+
+fn shifted(takes: [u32; 4], base: u32) -> [u32; 4]
+    requires { ⌜ (base ≤ 524288) × ((j : ℕ) → getD takes j 0 < 65536) ⌝ }
+    ensures { λ r. ⌜ r ≡ map (λ u. u + base) takes ⌝ }
+{
+    [
+        takes[0] + base,
+        takes[1] + base,
+        takes[2] + base,
+        takes[3] + base,
+    ]
+}
+
+// A page of them, each as a head and four picks.
+pub fn group_page<'a>(
+    keys: &'a [u32; 1024],
+    n: usize,
+    takes: [u32; 4],
+    k: usize,
+    second: &'a [u16; 1024],
+    third: &'a [u16; 1024],
+    fourth: &'a [u16; 1024],
+    head: u32,
+    first: u64,
+    count: usize,
+    target: &mut [u32],
+    at: usize,
+) -> usize
+    requires { ⌜ KeysBelow n (now keys) × (1 ≤ k) × (k ≤ 4) × CountedFor (take n (now keys)) takes k (now second) (now third) (now fourth) ⌝ }
+    requires { ⌜ (count ≤ 256) × (at + 5 * count ≤ length (now target)) × ((j : ℕ) → getD takes j 0 < 65536) ⌝ }
+    ensures { λ r. ⌜ Paged (choiceWords head (0 ∷ 0 ∷ 0 ∷ 0 ∷ []) 0) 5 (choicesByGroup (take n (now (keys .entry))) (take k takes))
+        first count at (now (target .entry)) (now (target .exit)) r ⌝ }
+{
+    let t = takes[0];
+    let mut skip = first;
+    let mut done = 0;
+    let mut p = 0;
+    while p < n {
+        if done == count {
+            return done;
+        }
+        let key = keys[p];
+        if key % 512 != t {
+            p += 1;
+        } else {
+            let below = widths_in(takes, k, second, third, fourth, key);
+            let width = below[0];
+            if width <= skip {
+                skip -= width;
+                p += 1;
+            } else {
+                let wanted = shifted(takes, key - t);
+                let picks = [p as u32, 0, 0, 0];
+                done += fill(
+                    keys,
+                    n,
+                    wanted,
+                    below,
+                    k,
+                    head,
+                    picks,
+                    1,
+                    skip,
+                    count - done,
+                    target,
+                    at + 5 * done,
+                );
+                skip = 0;
+                p += 1;
+            }
+        }
+    }
+    done
+}
