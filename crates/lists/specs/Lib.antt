@@ -36,3 +36,5 @@ pub mod Runs
 pub mod Splits
 pub mod Tuples
 pub mod Choosing
+pub mod Beside
+pub mod KeyedTuples

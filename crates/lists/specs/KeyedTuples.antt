@@ -1,0 +1,145 @@
+-- The choices of places by keys are the tuples of different places that have the keys wanted.
+use Prim.Native.Nat.{ℕ, zero, suc, _+_, _%_, _<_}
+use mathlib.Core.Bool.{Bool, true, false, _&&_, _||_, not}
+use mathlib.Core.List.{List, [], _∷_, _++_, map}
+use mathlib.Core.Path.{_≡_, refl, sym, ap, _∙_}
+use native.Mathlib.Omega.{arith}
+use lib.Dec.{eqb}
+use lib.ListN.{length, getD, length-map}
+use Rattle.lists.specs.Lists.{keep, isIn, distinct, upFrom, each, tuples}
+use Rattle.lists.specs.Each.{All, All-map, All-append, All-unmap, keep-same}
+use Rattle.lists.specs.Seen.{unseen, unseen-ext, unseen-distinct}
+use Rattle.lists.specs.Beside.{allBeside, beside-map}
+use Rattle.lists.specs.Tuples.{each-same, reads, chosen, keep-tuples}
+use Rattle.lists.specs.Choosing.{fits, choicesFrom, groupBase, choicesIn, choicesByGroup}
+
+-- ---- the elements of tuples
+
+pub up-below : (i n : ℕ) → All (λ p. p < i + n) (upFrom i n)
+up-below i zero = tt
+up-below i (suc n) = (omega arith, All-map {P = λ p. p < suc i + n} {Q = λ p. p < i + suc n} (λ p h. omega arith) (upFrom (suc i) n) (up-below (suc i) n))
+
+All-each : {A B : Type 0} (P : B → Type 0) (f : A → List B) (xs : List A) → All (λ x. All P (f x)) xs → All P (each f xs)
+All-each P f [] h = tt
+All-each P f (x ∷ xs) h = All-append P (f x) (each f xs) (h .0) (All-each P f xs (h .1))
+
+-- k numbers below n
+abbrev pub IsTuple : ℕ → ℕ → List ℕ → Type 0
+IsTuple n k ps = (length ps ≡ k) × All (λ p. p < n) ps
+
+tuples-are : (n k : ℕ) → All (IsTuple n k) (tuples n k)
+tuples-are n zero = ((refl, tt), tt)
+tuples-are n (suc k) =
+    All-each (IsTuple n (suc k)) (λ p. map (λ ps. p ∷ ps) (tuples n k)) (upFrom 0 n)
+    (All-map {P = λ p. p < 0 + n} (more (tuples-are n k)) (upFrom 0 n) (up-below 0 n))
+  where
+    more : All (IsTuple n k) (tuples n k) → (p : ℕ) → p < 0 + n → All (IsTuple n (suc k)) (map (λ ps. p ∷ ps) (tuples n k))
+    more ih p h = All-unmap (λ ps. p ∷ ps) (IsTuple n (suc k)) (tuples n k)
+        (All-map {P = IsTuple n k} (λ ps (e, l). (ap suc e, (omega arith, l))) (tuples n k) ih)
+
+-- tests that agree on tuples keep the same tuples
+pub tuples-same : (p q : List ℕ → Bool) (n k : ℕ) → ((ps : List ℕ) → IsTuple n k ps → p ps ≡ q ps) → keep p (tuples n k) ≡ keep q (tuples n k)
+tuples-same p q n k f = keep-same p q (tuples n k) (All-map f (tuples n k) (tuples-are n k))
+
+-- ---- read from the front
+
+-- what is still wanted: numbers of any group, or keys, some places being used
+data Wanted : Type 0 where
+  numbers : List ℕ → Wanted
+  keys : List ℕ → List ℕ → Wanted
+
+module _ (ks : List ℕ) where
+  abbrev mayFollow : Wanted → ℕ → Bool
+  mayFollow (numbers []) p = false
+  mayFollow (numbers (t ∷ ts)) p = eqb (getD ks p 0 % 512) t
+  mayFollow (keys used []) p = false
+  mayFollow (keys used (t ∷ ts)) p = fits ks used t p
+
+  abbrev wantedAfter : Wanted → ℕ → Wanted
+  wantedAfter (numbers []) p = numbers []
+  wantedAfter (numbers (t ∷ ts)) p = keys (p ∷ []) (map (λ u. u + groupBase ks t p) ts)
+  wantedAfter (keys used []) p = keys used []
+  wantedAfter (keys used (t ∷ ts)) p = keys (used ++ p ∷ []) ts
+
+  -- each place has the key beside it
+  abbrev pub haveKeys : List ℕ → List ℕ → Bool
+  haveKeys ts ps = allBeside (λ t p. eqb (getD ks p 0) t) ts ps
+
+  chosen-keys : (used ts : List ℕ) → chosen mayFollow wantedAfter (length ks) (keys used ts) (length ts) ≡ choicesFrom ks used ts
+  chosen-keys used [] = refl
+  chosen-keys used (t ∷ ts) =
+      each-same (λ p. map (λ c. p ∷ c) (chosen mayFollow wantedAfter (length ks) (keys (used ++ p ∷ []) ts) (length ts)))
+      (λ p. map (λ c. p ∷ c) (choicesFrom ks (used ++ p ∷ []) ts)) (λ p. ap (map (λ c. p ∷ c)) (chosen-keys (used ++ p ∷ []) ts))
+      (keep (fits ks used t) (upFrom 0 (length ks)))
+
+  one-more : (u p : ℕ) (used : List ℕ) → isIn u (used ++ p ∷ []) ≡ eqb u p || isIn u used
+  one-more u p [] = refl
+  one-more u p (q ∷ used) = rw (one-more u p used) (swap (eqb u q) (eqb u p) (isIn u used))
+    where
+      swap : (a b c : Bool) → a || (b || c) ≡ b || (a || c)
+      swap true true c = refl
+      swap true false c = refl
+      swap false b c = refl
+
+  apart : (a b c d : Bool) → a && b && (c && d) ≡ b && c && (a && d)
+  apart true true c d = refl
+  apart true false c d = refl
+  apart false true true d = refl
+  apart false true false d = refl
+  apart false false c d = refl
+
+  reads-keys : (used ts ps : List ℕ) → length ps ≡ length ts
+      → reads mayFollow wantedAfter (keys used ts) ps ≡ unseen (λ u. isIn u used) ps && haveKeys ts ps
+  reads-keys used [] [] e = refl
+  reads-keys used [] (p ∷ ps) e = absurd (omega arith)
+  reads-keys used (t ∷ ts) [] e = absurd (omega arith)
+  reads-keys used (t ∷ ts) (p ∷ ps) e =
+      rw (reads-keys (used ++ p ∷ []) ts ps (omega arith), unseen-ext (λ u. one-more u p used) ps)
+      (apart (eqb (getD ks p 0) t) (not (isIn p used)) (unseen (λ u. eqb u p || isIn u used) ps) (haveKeys ts ps))
+
+  -- different places with these keys
+  pub keep-keys : (ts : List ℕ) → keep (λ ps. distinct ps && haveKeys ts ps) (tuples (length ks) (length ts)) ≡ choicesFrom ks [] ts
+  keep-keys ts =
+      tuples-same (λ ps. distinct ps && haveKeys ts ps) (reads mayFollow wantedAfter (keys [] ts)) (length ks) (length ts)
+      (λ ps (e, l). rw (reads-keys [] ts ps e, unseen-distinct ps))
+      ∙ keep-tuples mayFollow wantedAfter (length ks) (keys [] ts) (length ts) ∙ chosen-keys [] ts
+
+  -- the first place has the first number, and the others have the others in its group
+  abbrev pub haveGroup : List ℕ → List ℕ → Bool
+  haveGroup [] [] = true
+  haveGroup [] (p ∷ ps) = false
+  haveGroup (t ∷ ts) [] = false
+  haveGroup (t ∷ ts) (p ∷ ps) = eqb (getD ks p 0 % 512) t && allBeside (λ u q. eqb (getD ks q 0) (u + groupBase ks t p)) ts ps
+
+  chosen-numbers : (ts : List ℕ) → chosen mayFollow wantedAfter (length ks) (numbers ts) (length ts) ≡ choicesByGroup ks ts
+  chosen-numbers [] = refl
+  chosen-numbers (t ∷ ts) =
+      each-same (λ p. map (λ c. p ∷ c) (chosen mayFollow wantedAfter (length ks) (keys (p ∷ []) (map (λ u. u + groupBase ks t p) ts)) (length ts)))
+      (choicesIn ks t ts) (λ p. ap (map (λ c. p ∷ c)) (rw (length-map ts (λ u. u + groupBase ks t p))
+      at (chosen-keys (p ∷ []) (map (λ u. u + groupBase ks t p) ts))))
+      (keep (λ p. eqb (getD ks p 0 % 512) t) (upFrom 0 (length ks)))
+
+  reads-numbers : (ts ps : List ℕ) → length ps ≡ length ts → distinct ps && haveGroup ts ps ≡ reads mayFollow wantedAfter (numbers ts) ps
+  reads-numbers [] [] e = refl
+  reads-numbers [] (p ∷ ps) e = absurd (omega arith)
+  reads-numbers (t ∷ ts) [] e = absurd (omega arith)
+  reads-numbers (t ∷ ts) (p ∷ ps) e =
+      rw (
+        ← (unseen-distinct (p ∷ ps)),
+        reads-keys (p ∷ []) (map (λ u. u + groupBase ks t p) ts) ps (omega (arith, length-map ts (λ u. u + groupBase ks t p))),
+        beside-map (λ u. u + groupBase ks t p) (λ t p. eqb (getD ks p 0) t) ts ps,
+      )
+      (inside (unseen (λ u. isIn u (p ∷ [])) ps) (eqb (getD ks p 0 % 512) t)
+      (allBeside (λ u q. eqb (getD ks q 0) (u + groupBase ks t p)) ts ps))
+    where
+      inside : (a b c : Bool) → a && (b && c) ≡ b && (a && c)
+      inside true b c = refl
+      inside false true c = refl
+      inside false false c = refl
+
+  -- different places with these numbers in one group
+  pub keep-group : (ts : List ℕ) → keep (λ ps. distinct ps && haveGroup ts ps) (tuples (length ks) (length ts)) ≡ choicesByGroup ks ts
+  keep-group ts =
+      tuples-same (λ ps. distinct ps && haveGroup ts ps) (reads mayFollow wantedAfter (numbers ts)) (length ks) (length ts)
+      (λ ps (e, l). reads-numbers ts ps e)
+      ∙ keep-tuples mayFollow wantedAfter (length ks) (numbers ts) (length ts) ∙ chosen-numbers ts
