@@ -7,39 +7,32 @@ use native.Mathlib.Omega.{arith}
 use lib.Dec.{eqb}
 use lib.ListN.{length, getD, length-map}
 use Rattle.lists.specs.Lists.{keep, isIn, distinct, upFrom, each, tuples}
-use Rattle.lists.specs.Each.{All, All-map, All-append, All-unmap, keep-same}
+use Rattle.lists.specs.Each.{All}
+use Rattle.lists.specs.Parts.{keep-map}
 use Rattle.lists.specs.Seen.{unseen, unseen-ext, unseen-distinct}
 use Rattle.lists.specs.Beside.{allBeside, beside-map}
-use Rattle.lists.specs.Tuples.{each-same, reads, chosen, keep-tuples}
+use Rattle.lists.specs.Tuples.{each-same, keep-each, reads, chosen, keep-tuples}
 use Rattle.lists.specs.Choosing.{fits, choicesFrom, groupBase, choicesIn, choicesByGroup}
 
--- ---- the elements of tuples
+-- ---- tests that agree on tuples
 
-pub up-below : (i n : ℕ) → All (λ p. p < i + n) (upFrom i n)
-up-below i zero = tt
-up-below i (suc n) = (omega arith, All-map {P = λ p. p < suc i + n} {Q = λ p. p < i + suc n} (λ p h. omega arith) (upFrom (suc i) n) (up-below (suc i) n))
-
-All-each : {A B : Type 0} (P : B → Type 0) (f : A → List B) (xs : List A) → All (λ x. All P (f x)) xs → All P (each f xs)
-All-each P f [] h = tt
-All-each P f (x ∷ xs) h = All-append P (f x) (each f xs) (h .0) (All-each P f xs (h .1))
+each-up : {B : Type 0} (f g : ℕ → List B) (n i : ℕ) → ((x : ℕ) → x < i + n → f x ≡ g x) → each f (upFrom i n) ≡ each g (upFrom i n)
+each-up f g zero i h = refl
+each-up f g (suc n) i h = rw (h i (omega arith), each-up f g n (suc i) (λ x l. h x (omega arith)))
 
 -- k numbers below n
 abbrev pub IsTuple : ℕ → ℕ → List ℕ → Type 0
 IsTuple n k ps = (length ps ≡ k) × All (λ p. p < n) ps
 
-tuples-are : (n k : ℕ) → All (IsTuple n k) (tuples n k)
-tuples-are n zero = ((refl, tt), tt)
-tuples-are n (suc k) =
-    All-each (IsTuple n (suc k)) (λ p. map (λ ps. p ∷ ps) (tuples n k)) (upFrom 0 n)
-    (All-map {P = λ p. p < 0 + n} (more (tuples-are n k)) (upFrom 0 n) (up-below 0 n))
-  where
-    more : All (IsTuple n k) (tuples n k) → (p : ℕ) → p < 0 + n → All (IsTuple n (suc k)) (map (λ ps. p ∷ ps) (tuples n k))
-    more ih p h = All-unmap (λ ps. p ∷ ps) (IsTuple n (suc k)) (tuples n k)
-        (All-map {P = IsTuple n k} (λ ps (e, l). (ap suc e, (omega arith, l))) (tuples n k) ih)
-
--- tests that agree on tuples keep the same tuples
 pub tuples-same : (p q : List ℕ → Bool) (n k : ℕ) → ((ps : List ℕ) → IsTuple n k ps → p ps ≡ q ps) → keep p (tuples n k) ≡ keep q (tuples n k)
-tuples-same p q n k f = keep-same p q (tuples n k) (All-map f (tuples n k) (tuples-are n k))
+tuples-same p q n zero f = rw (f [] (refl, tt))
+tuples-same p q n (suc k) f =
+    keep-each p (λ x. map (λ ps. x ∷ ps) (tuples n k)) (upFrom 0 n)
+    ∙ each-up (λ x. keep p (map (λ ps. x ∷ ps) (tuples n k))) (λ x. keep q (map (λ ps. x ∷ ps) (tuples n k))) n 0 (λ x l.
+    keep-map (λ ps. x ∷ ps) p (tuples n k)
+    ∙ ap (map (λ ps. x ∷ ps)) (tuples-same (λ ps. p (x ∷ ps)) (λ ps. q (x ∷ ps)) n k (λ ps (e, h). f (x ∷ ps) (ap suc e, (omega arith, h))))
+    ∙ sym (keep-map (λ ps. x ∷ ps) q (tuples n k)))
+    ∙ sym (keep-each q (λ x. map (λ ps. x ∷ ps) (tuples n k)) (upFrom 0 n))
 
 -- ---- read from the front
 
