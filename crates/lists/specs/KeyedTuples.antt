@@ -48,9 +48,13 @@ module _ (ks : List ℕ) where
   mayFollow (keys used []) p = false
   mayFollow (keys used (t ∷ ts)) p = fits ks used t p
 
+  -- the key of a number in the group of place p, whose own number is t
+  abbrev inGroup : ℕ → ℕ → ℕ → ℕ
+  inGroup t p u = u + groupBase ks t p
+
   abbrev wantedAfter : Wanted → ℕ → Wanted
   wantedAfter (numbers []) p = numbers []
-  wantedAfter (numbers (t ∷ ts)) p = keys (p ∷ []) (map (λ u. u + groupBase ks t p) ts)
+  wantedAfter (numbers (t ∷ ts)) p = keys (p ∷ []) (map (inGroup t p) ts)
   wantedAfter (keys used []) p = keys used []
   wantedAfter (keys used (t ∷ ts)) p = keys (used ++ p ∷ []) ts
 
@@ -102,14 +106,14 @@ module _ (ks : List ℕ) where
   haveGroup [] [] = true
   haveGroup [] (p ∷ ps) = false
   haveGroup (t ∷ ts) [] = false
-  haveGroup (t ∷ ts) (p ∷ ps) = eqb (getD ks p 0 % 512) t && allBeside (λ u q. eqb (getD ks q 0) (u + groupBase ks t p)) ts ps
+  haveGroup (t ∷ ts) (p ∷ ps) = eqb (getD ks p 0 % 512) t && allBeside (λ u q. eqb (getD ks q 0) (inGroup t p u)) ts ps
 
   chosen-numbers : (ts : List ℕ) → chosen mayFollow wantedAfter (length ks) (numbers ts) (length ts) ≡ choicesByGroup ks ts
   chosen-numbers [] = refl
   chosen-numbers (t ∷ ts) =
-      each-same (λ p. map (λ c. p ∷ c) (chosen mayFollow wantedAfter (length ks) (keys (p ∷ []) (map (λ u. u + groupBase ks t p) ts)) (length ts)))
-      (choicesIn ks t ts) (λ p. ap (map (λ c. p ∷ c)) (rw (length-map ts (λ u. u + groupBase ks t p))
-      at (chosen-keys (p ∷ []) (map (λ u. u + groupBase ks t p) ts))))
+      each-same (λ p. map (λ c. p ∷ c) (chosen mayFollow wantedAfter (length ks) (keys (p ∷ []) (map (inGroup t p) ts)) (length ts)))
+      (choicesIn ks t ts) (λ p. ap (map (λ c. p ∷ c)) (rw (length-map ts (inGroup t p))
+      at (chosen-keys (p ∷ []) (map (inGroup t p) ts))))
       (keep (λ p. eqb (getD ks p 0 % 512) t) (upFrom 0 (length ks)))
 
   reads-numbers : (ts ps : List ℕ) → length ps ≡ length ts → distinct ps && haveGroup ts ps ≡ reads mayFollow wantedAfter (numbers ts) ps
@@ -119,11 +123,11 @@ module _ (ks : List ℕ) where
   reads-numbers (t ∷ ts) (p ∷ ps) e =
       rw (
         ← (unseen-distinct (p ∷ ps)),
-        reads-keys (p ∷ []) (map (λ u. u + groupBase ks t p) ts) ps (omega (arith, length-map ts (λ u. u + groupBase ks t p))),
-        beside-map (λ u. u + groupBase ks t p) (λ t p. eqb (getD ks p 0) t) ts ps,
+        reads-keys (p ∷ []) (map (inGroup t p) ts) ps (omega (arith, length-map ts (inGroup t p))),
+        beside-map (inGroup t p) (λ t p. eqb (getD ks p 0) t) ts ps,
       )
       (inside (unseen (λ u. isIn u (p ∷ [])) ps) (eqb (getD ks p 0 % 512) t)
-      (allBeside (λ u q. eqb (getD ks q 0) (u + groupBase ks t p)) ts ps))
+      (allBeside (λ u q. eqb (getD ks q 0) (inGroup t p u)) ts ps))
     where
       inside : (a b c : Bool) → a && (b && c) ≡ b && (a && c)
       inside true b c = refl
