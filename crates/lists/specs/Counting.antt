@@ -1,7 +1,7 @@
 -- Laws of `countIf`, `keep`, `all` and `any`.
 use Prim.Native.Nat.{ℕ, suc, _+_, _≤_}
 use mathlib.Core.List.{List, [], _∷_, _++_, map}
-use mathlib.Core.Bool.{Bool, true, false, _||_}
+use mathlib.Core.Bool.{Bool, true, false, _||_, not}
 use mathlib.Core.Path.{_≡_, refl, sym, ap, _∙_}
 use native.Mathlib.Omega.{arith}
 use borrow.Author.Tests.{le-leb}
@@ -42,6 +42,16 @@ module _ {A : Type 0} (p : A → Bool) where
   pub length-keep : (xs : List A) → length (keep p xs) ≡ countIf p xs
   length-keep [] = refl
   length-keep (x ∷ xs) = length-keepIf (p x) x (keep p xs) ∙ ap (λ (n : ℕ). oneIf (p x) + n) (length-keep xs)
+
+  -- what a test keeps and what it does not keep
+  pub length-parts : (xs : List A) → length (keep p xs) + length (keep (λ x. not (p x)) xs) ≡ length xs
+  length-parts [] = refl
+  length-parts (x ∷ xs) = more (p x) (length-parts xs)
+    where
+      more : (b : Bool) → length (keep p xs) + length (keep (λ x. not (p x)) xs) ≡ length xs
+          → length (keepIf b x (keep p xs)) + length (keepIf (not b) x (keep (λ x. not (p x)) xs)) ≡ suc (length xs)
+      more true h = omega arith
+      more false h = omega arith
 
   pub any-count : (xs : List A) → any p xs ≡ leb 1 (countIf p xs)
   any-count [] = refl

@@ -1,7 +1,7 @@
 -- A type for each element of a list, and laws of all, any, keep and countIf, for every element type.
 use Prim.Native.Nat.{ℕ, zero, suc, _+_, _<_}
 use mathlib.Core.List.{List, [], _∷_, _++_, map, nil≢cons}
-use mathlib.Core.Bool.{Bool, true, false, _||_, true≢false, false≢true}
+use mathlib.Core.Bool.{Bool, true, false, _&&_, _||_, cond, and-true, and-false, true≢false, false≢true}
 use mathlib.Core.Path.{_≡_, refl}
 use native.Mathlib.Omega.{arith}
 use lib.ListN.{length, getD}
@@ -80,6 +80,13 @@ module _ {A : Type 0} where
   pub keep-none : (p : A → Bool) (xs : List A) → All (λ x. p x ≡ false) xs → keep p xs ≡ []
   keep-none p [] h = refl
   keep-none p (x ∷ xs) h = rw (h .0, keep-none p xs (h .1))
+
+  -- a test that has a part which is the same for all
+  pub keep-cond : (p : A → Bool) (b : Bool) (xs : List A) → keep (λ x. p x && b) xs ≡ cond b (keep p xs) []
+  keep-cond p true [] = refl
+  keep-cond p true (x ∷ xs) = rw (and-true (p x), keep-cond p true xs)
+  keep-cond p false [] = refl
+  keep-cond p false (x ∷ xs) = rw (and-false (p x), keep-cond p false xs)
 
   pub count-none : (p : A → Bool) (xs : List A) → All (λ x. p x ≡ false) xs → countIf p xs ≡ 0
   count-none p [] h = refl

@@ -28,10 +28,12 @@ pub mod Beginning
 pub mod Neither
 pub mod Numbers
 pub mod Each
+pub mod Beside
 pub mod UpFrom
 pub mod Fronts
 pub mod Mapped
 pub mod Columns
+pub mod KeyedTuples
 pub mod Runs
 pub mod Splits
 pub mod Tuples

@@ -33,3 +33,7 @@ module _ {A : Type 0} where
   All-among P [] x h m = absurd m
   All-among P (y ∷ xs) x h (inl e) = rw e (h .0)
   All-among P (y ∷ xs) x h (inr m) = All-among P xs x (h .1) m
+
+  pub All-every : (P : A → Type 0) (xs : List A) → ((x : A) → Among x xs → P x) → All P xs
+  All-every P [] f = tt
+  All-every P (x ∷ xs) f = (f x (inl refl), All-every P xs (λ y m. f y (inr m)))

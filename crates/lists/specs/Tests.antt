@@ -15,6 +15,11 @@ pub and-right-false : (a : Bool) {b : Bool} → b ≡ false → a && b ≡ false
 and-right-false true e = e
 and-right-false false e = refl
 
+-- the second part counts only where the first holds
+pub and-after : (a : Bool) {b c : Bool} → (a ≡ true → b ≡ c) → a && b ≡ a && c
+and-after true f = f refl
+and-after false f = refl
+
 -- both parts of a conjunction that holds
 pub and-both : (a b : Bool) → a && b ≡ true → (a ≡ true) × (b ≡ true)
 and-both true b h = (refl, h)

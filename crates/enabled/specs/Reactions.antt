@@ -1,0 +1,253 @@
+-- The reactions by one rule that are open in an accepted state: the choices by the keys of its entries.
+use Prim.Native.Nat.{ℕ, _+_, _*_, _%_, _≤_, _<_}
+use mathlib.Core.Bool.{Bool, true, false, _&&_, cond, and-true, and-false, and-assoc}
+use mathlib.Core.List.{List, [], _∷_, map}
+use mathlib.Core.Logic.{inl}
+use mathlib.Core.Path.{_≡_, refl, sym, ap, _∙_}
+use native.Mathlib.Omega.{arith}
+use borrow.Author.Tests.{leb-true, le-leb, ltb-false, eqb-true, eqb-false, eq-eqb, ne-eqb}
+use lib.Dec.{leb, ltb, eqb}
+use lib.ListN.{length, getD, length-map}
+use Rattle.lists.specs.Lists.{given, all, keep, distinct, tuples}
+use Rattle.lists.specs.Tests.{and-after, same-test}
+use Rattle.lists.specs.Choices.{by-bool, cond-false, and-left, and-right}
+use Rattle.lists.specs.Each.{All, All-map, keep-cond}
+use Rattle.lists.specs.Members.{among-map, among-keep, getD-among}
+use Rattle.lists.specs.Splits.{All-every}
+use Rattle.lists.specs.Smallest.{all-least}
+use Rattle.lists.specs.Parts.{keep-map}
+use Rattle.lists.specs.Counting.{length-parts}
+use Rattle.lists.specs.Beside.{allBeside, beside-same}
+use Rattle.lists.specs.Choosing.{groupBase, choicesFrom, choicesByGroup}
+use Rattle.lists.specs.KeyedTuples.{tuples-same, haveKeys, keep-keys, haveGroup, keep-group}
+use Rattle.semantics.specs.Table.{Table, Rule, sizesOf, portCount, classOf, tableOf, ruleAt, hasRole, consumed}
+use Rattle.semantics.specs.State.{Entry, State, isMessage, owned, stateOf}
+use Rattle.semantics.specs.Move.{unless, both, firstFault, react, isZero, nothing, entryAt, picked, onPorts, picksOk, ownersAt, ownersFit, hasId}
+use Rattle.semantics.specs.Move.{reacted, allowed, applied, moveVerdict}
+use Rattle.semantics.specs.Enabled.{reactionsOf, isAllowed}
+use Rattle.semantics.specs.Answers.{tableVerdict, stateVerdict}
+use Rattle.semantics.specs.declared.Sizes.{Sizes}
+use Rattle.semantics.specs.declared.Refusal.the-variants.{WrongPick, WrongOwner, NoMoreIds, TooManyEntries}
+use Rattle.semantics.specs.declared.Verdict.the-variants.{Allowed}
+use Rattle.wellformed.specs.Tables.{well-formed}
+use Rattle.wellformed.specs.States.{state-given}
+use Rattle.wellformed.specs.Rules.{RuleRight, rules-right}
+use Rattle.wellformed.specs.Entries.{EntryRight, StateRight, state-right}
+use Rattle.wellformed.specs.Picks.{ReactGiven, left-length, picks-length}
+use Rattle.wellformed.specs.Length.{length-reacted}
+use Rattle.enabled.specs.Keys.{takeable, takeableOn, Keyed, plain-key, local-key, group-key}
+
+-- ---- the verdict
+
+-- 12, whatever is picked: the consumed entries go, and one comes for each of the other atoms
+abbrev pub hasRoom : ℕ → Rule → State → Bool
+hasRoom ceiling R S = leb (length (S .entries) + length (R .atoms)) (ceiling + 2 * length (consumed R))
+
+room-same : (ceiling : ℕ) {R : Rule} {S : State} {ps : List ℕ} → ReactGiven R S ps → leb (length (reacted R 0 S ps .entries)) ceiling ≡ hasRoom ceiling R S
+room-same ceiling {R} {S} {ps} g =
+    let left = length (reacted R 0 S ps .entries) in
+    let before = length (S .entries) + length (R .atoms) in
+    let most = ceiling + 2 * length (consumed R) in
+    let a = length-reacted R 0 S ps in
+    let b = left-length g in
+    let c = picks-length g in
+    let d = length-parts (hasRole 0) (R .atoms) in
+    let e = length-map (keep (hasRole 0) (R .atoms)) (λ a. a .port) in
+    same-test (leb left ceiling) (leb before most)
+    (λ h. let l = leb-true left ceiling h in le-leb before most (omega arith))
+    (λ h. let l = leb-true before most h in le-leb left ceiling (omega arith))
+
+four-tests : (a b c d : Bool) {e : Bool} → (a ≡ true → b ≡ true → c ≡ true → d ≡ e)
+    → isAllowed (both (firstFault (unless a WrongPick ∷ unless b WrongOwner ∷ unless c NoMoreIds ∷ [])) (unless d TooManyEntries)) ≡ a && b && (c && e)
+four-tests false b c d f = refl
+four-tests true false c d f = refl
+four-tests true true false d f = refl
+four-tests true true true true f = f refl refl refl
+four-tests true true true false f = f refl refl refl
+
+-- 7 and 8
+abbrev picksFit : Rule → State → List ℕ → Bool
+picksFit R S ps = picksOk R S ps && ownersFit (R .class) (ownersAt S ps)
+
+-- only 7 and 8 look at the picks
+verdict-is : (ceiling : ℕ) (T : Table) (S : State) (r : ℕ) (ps : List ℕ)
+    → isAllowed (moveVerdict ceiling T S (react r ps)) ≡ picksFit (ruleAt T r) S ps && (hasId (ruleAt T r) S && hasRoom ceiling (ruleAt T r) S)
+unfolding moveVerdict allowed applied
+verdict-is ceiling T S r ps =
+    let R = ruleAt T r in
+    four-tests (picksOk R S ps) (ownersFit (R .class) (ownersAt S ps)) (hasId R S) (leb (length (reacted R 0 S ps .entries)) ceiling)
+    (λ a b c. room-same ceiling (record {
+      different = and-left (distinct ps) (onPorts (consumed R) (picked S ps)) a;
+      ports = and-right (distinct ps) (onPorts (consumed R) (picked S ps)) a;
+      owners = b;
+      ids = c;
+    }))
+
+-- ---- messages by port and owner
+
+-- what a rule of class c asks of an owner by itself
+abbrev ownerWanted : ℕ → ℕ → Bool
+ownerWanted c = cond (eqb c 0) isZero (ltb 0)
+
+abbrev isWanted : (ℕ → Bool) → ℕ → Entry → Bool
+isWanted ok t e = isMessage e && eqb (e .port) t && ok (e .owner)
+
+ports-owners : (ok : ℕ → Bool) (S : State) (ts ps : List ℕ)
+    → onPorts ts (picked S ps) && all ok (ownersAt S ps) ≡ allBeside (λ t p. isWanted ok t (entryAt (S .entries) p)) ts ps
+ports-owners ok S [] [] = refl
+ports-owners ok S [] (p ∷ ps) = refl
+ports-owners ok S (t ∷ ts) [] = refl
+ports-owners ok S (t ∷ ts) (p ∷ ps) =
+    let e = entryAt (S .entries) p in
+    rw (← (ports-owners ok S ts ps)) (turn (isMessage e && eqb (e .port) t) (onPorts ts (picked S ps)) (ok (e .owner)) (all ok (ownersAt S ps)))
+  where
+    turn : (a b c d : Bool) → a && b && (c && d) ≡ a && c && (b && d)
+    turn true true c d = refl
+    turn true false true d = refl
+    turn true false false d = refl
+    turn false b c d = refl
+
+module _ {z : Sizes} {next : ℕ} {e : Entry} (right : EntryRight z next e) where
+  -- what may be consumed has an owner as the class of its port wants it
+  takeable-owner : takeable z e ≡ isMessage e && ownerWanted (classOf z (e .port)) (e .owner)
+  takeable-owner = go (ltb (e .port) (z .globals)) refl (ltb (e .port) (z .globals + z .locals))
+    where
+      inner : ltb (e .port) (z .globals) ≡ false → ltb 0 (e .owner) ≡ true
+      inner q = by-bool (ltb 0 (e .owner)) (λ h. h) (λ h.
+          let l = ltb-false 0 (e .owner) h in
+          let k = right .global (omega arith) .1 in
+          let m = ltb-false (e .port) (z .globals) q in
+          absurd (omega arith))
+
+      go : (b : Bool) → ltb (e .port) (z .globals) ≡ b → (c : Bool)
+          → isMessage e && given b (owned 0 e) ≡ isMessage e && ownerWanted (cond b 0 (cond c 1 2)) (e .owner)
+      go true q c = refl
+      go false q true = rw (inner q)
+      go false q false = rw (inner q)
+
+  takeable-on : (t c : ℕ) → classOf z t ≡ c → takeableOn z t e ≡ isWanted (ownerWanted c) t e
+  takeable-on t c h = go (eqb (e .port) t) (λ q. rw (← h, ← (eqb-true (e .port) t q)) takeable-owner)
+    where
+      go : (b : Bool) → (b ≡ true → takeable z e ≡ isMessage e && ownerWanted c (e .owner)) → takeable z e && b ≡ isMessage e && b && ownerWanted c (e .owner)
+      go true f = rw (and-true (takeable z e), and-true (isMessage e)) (f refl)
+      go false f = rw (and-false (takeable z e), and-false (isMessage e))
+
+-- ---- the ports of a rule
+
+-- a port of class c
+abbrev pub OfClass : Sizes → ℕ → ℕ → Type 0
+OfClass z c t = (t < 256) × (classOf z t ≡ c)
+
+consumed-class : {z : Sizes} {R : Rule} → portCount z ≤ 256 → RuleRight z R → All (OfClass z (R .class)) (consumed R)
+consumed-class {z} {R} few rule = All-every (OfClass z (R .class)) (consumed R) (λ t m.
+    let (a, k, e) = among-map (λ a. a .port) (keep (hasRole 0) (R .atoms)) t m in
+    let (k, h) = among-keep (hasRole 0) (R .atoms) a k in
+    let l = rule .each a k .port-lt in
+    (omega arith, ap (classOf z) e ∙ rule .each a k .consume-class (eqb-true (a .role) 0 h)))
+
+-- a rule of an accepted table consumes from ports of its class only
+pub consumed-ports : (t : List ℕ) → tableVerdict t ≡ Allowed → (r : ℕ) → r < sizesOf t .rules
+    → All (OfClass (sizesOf t) (ruleAt (tableOf t) r .class)) (consumed (ruleAt (tableOf t) r))
+consumed-ports t h r l = consumed-class (well-formed t h .sizes .ports) (rules-right t h r l)
+
+-- and no port is above 255
+pub consumed-below : (t : List ℕ) → tableVerdict t ≡ Allowed → (r : ℕ) → r < sizesOf t .rules → All (λ p. p < 256) (consumed (ruleAt (tableOf t) r))
+consumed-below t h r l = All-map {Q = λ p. p < 256} (λ p k. k .0) (consumed (ruleAt (tableOf t) r)) (consumed-ports t h r l)
+
+-- ---- choices by keys
+
+-- in a local rule of one group, else of any
+abbrev pub choicesOf : Rule → List ℕ → List (List ℕ)
+choicesOf R ks = cond (eqb (R .class) 1) (choicesByGroup ks (consumed R)) (choicesFrom ks [] (consumed R))
+
+owners-each : (c : ℕ) → (c ≡ 1 → ⊥) → (os : List ℕ) → all (ownerWanted c) os ≡ ownersFit c os
+owners-each c n os = by-bool (eqb c 0) (λ h. rw h) (λ h. rw (h, ne-eqb c 1 n))
+
+module _ {z : Sizes} {S : State} {ks : List ℕ} (few : portCount z ≤ 256) (state : StateRight z S) (keyed : Keyed z (S .entries) ks) where
+  abbrev n : ℕ
+  n = length (S .entries)
+
+  abbrev at : ℕ → Entry
+  at p = entryAt (S .entries) p
+
+  at-right : (p : ℕ) → p < n → EntryRight z (S .next) (at p)
+  at-right p h = state .each (at p) (getD-among nothing (S .entries) p h)
+
+  small : (p : ℕ) → p < n → takeable z (at p) ≡ true → at p .port < 256
+  small p h q =
+      let k = and-left (isMessage (at p)) (given (ltb (at p .port) (z .globals)) (owned 0 (at p))) q in
+      let l = at-right p h .message (eqb-true (at p .kind) 0 k) in
+      omega arith
+
+  -- ports and owners of the picks of a rule that is not local
+  plain-fits : (c : ℕ) → (c ≡ 1 → ⊥) → (ts ps : List ℕ) → All (OfClass z c) ts → All (λ p. p < n) ps
+      → onPorts ts (picked S ps) && ownersFit c (ownersAt S ps) ≡ haveKeys ks ts ps
+  plain-fits c other ts ps h k =
+      rw (← (owners-each c other (ownersAt S ps))) (ports-owners (ownerWanted c) S ts ps)
+      ∙ beside-same (λ t p. isWanted (ownerWanted c) t (at p)) (λ t p. eqb (getD ks p 0) t)
+      (λ t p (l, e) m. sym (plain-key keyed t l (λ q. other (sym e ∙ q)) p m ∙ takeable-on (at-right p m) t c e)) ts ps h k
+
+  -- and of one that is
+  group-fits : (ts ps : List ℕ) → All (OfClass z 1) ts → All (λ p. p < n) ps → onPorts ts (picked S ps) && ownersFit 1 (ownersAt S ps) ≡ haveGroup ks ts ps
+  group-fits [] [] h k = refl
+  group-fits [] (p ∷ ps) h k = refl
+  group-fits (t ∷ ts) [] h k = refl
+  group-fits (t ∷ ts) (p ∷ ps) ((l, c), h) (k, m) =
+      rw (← (all-least (ltb 0) (ownersAt S (p ∷ ps)) (at p .owner) (inl refl)), ports-owners same S (t ∷ ts) (p ∷ ps), ← first)
+      (and-after (eqb (getD ks p 0 % 512) t) (λ w. beside-same (λ u q. isWanted same u (at q)) (λ u q. eqb (getD ks q 0) (u + groupBase ks t p))
+      (λ u q (i, d) j. sym (other (sym on ∙ w) u i d q j)) ts ps h m))
+    where
+      same : ℕ → Bool
+      same o = ltb 0 o && eqb o (at p .owner)
+
+      on : eqb (getD ks p 0 % 512) t ≡ takeableOn z t (at p)
+      on = local-key keyed small t l c p k
+
+      first : eqb (getD ks p 0 % 512) t ≡ isWanted same t (at p)
+      first = on ∙ takeable-on (at-right p k) t 1 c ∙ rw (eq-eqb (at p .owner) (at p .owner) refl, and-true (ltb 0 (at p .owner)))
+
+      other : takeableOn z t (at p) ≡ true → (u : ℕ) → u < 256 → classOf z u ≡ 1 → (q : ℕ) → q < n
+          → eqb (getD ks q 0) (u + groupBase ks t p) ≡ isWanted same u (at q)
+      other w u i d q j =
+          group-key keyed small t u l i c d p q k j w
+          ∙ rw (takeable-on (at-right q j) u 1 d)
+          (and-assoc (isMessage (at q) && eqb (at q .port) u) (ltb 0 (at q .owner)) (eqb (at q .owner) (at p .owner)))
+
+  abbrev fit : ℕ → List ℕ → List ℕ → Bool
+  fit c ts ps = distinct ps && onPorts ts (picked S ps) && ownersFit c (ownersAt S ps)
+
+  -- choices that fit by a test of ports and owners
+  fit-same : (c : ℕ) (ts : List ℕ) (test : List ℕ → Bool)
+      → ((ps : List ℕ) → All (λ p. p < n) ps → onPorts ts (picked S ps) && ownersFit c (ownersAt S ps) ≡ test ps)
+      → keep (fit c ts) (tuples n (length ts)) ≡ keep (λ ps. distinct ps && test ps) (tuples (length ks) (length ts))
+  fit-same c ts test f = rw (keyed .size) (tuples-same (fit c ts) (λ ps. distinct ps && test ps) n (length ts)
+      (λ ps (e, k). and-assoc (distinct ps) (onPorts ts (picked S ps)) (ownersFit c (ownersAt S ps)) ∙ ap (λ (b : Bool). distinct ps && b) (f ps k)))
+
+  choices-are : (c : ℕ) (ts : List ℕ) → All (OfClass z c) ts
+      → keep (fit c ts) (tuples n (length ts)) ≡ cond (eqb c 1) (choicesByGroup ks ts) (choicesFrom ks [] ts)
+  choices-are c ts h = by-bool (eqb c 1)
+      (λ q. let e = eqb-true c 1 q in rw e (fit-same 1 ts (haveGroup ks ts) (λ ps. group-fits ts ps (rw e at h)) ∙ keep-group ks ts))
+      (λ q. fit-same c ts (haveKeys ks ts) (λ ps. plain-fits c (eqb-false c 1 q) ts ps h) ∙ keep-keys ks ts
+      ∙ sym (cond-false (choicesByGroup ks ts) (choicesFrom ks [] ts) q))
+
+-- ---- the open reactions by a rule
+
+pub reactions-open : (t s : List ℕ) → stateVerdict t s ≡ Allowed → (r : ℕ) → r < sizesOf t .rules → (ceiling : ℕ) {ks : List ℕ}
+    → Keyed (sizesOf t) (stateOf s .entries) ks
+    → keep (λ m. isAllowed (moveVerdict ceiling (tableOf t) (stateOf s) m)) (reactionsOf (tableOf t) (length (stateOf s .entries)) r)
+    ≡ map (react r)
+    (cond (hasId (ruleAt (tableOf t) r) (stateOf s) && hasRoom ceiling (ruleAt (tableOf t) r) (stateOf s)) (choicesOf (ruleAt (tableOf t) r) ks) [])
+reactions-open t s ok r l ceiling {ks} keyed =
+    let (table, _, entries) = state-given s t ok in
+    let T = tableOf t in
+    let S = stateOf s in
+    let R = ruleAt T r in
+    let all-picks = tuples (length (S .entries)) (length (consumed R)) in
+    let may = hasId R S && hasRoom ceiling R S in
+    keep-map (react r) (λ m. isAllowed (moveVerdict ceiling T S m)) all-picks
+    ∙ ap (map (react r)) (
+    tuples-same (λ ps. isAllowed (moveVerdict ceiling T S (react r ps))) (λ ps. picksFit R S ps && may) (length (S .entries)) (length (consumed R))
+    (λ ps h. verdict-is ceiling T S r ps)
+    ∙ keep-cond (picksFit R S) may all-picks
+    ∙ ap (λ (l : List (List ℕ)). cond may l [])
+    (choices-are (well-formed t table .sizes .ports) (state-right (sizesOf t) S entries) keyed (R .class) (consumed R) (consumed-ports t table r l)))
