@@ -35,4 +35,5 @@ pub mod Columns
 pub mod Runs
 pub mod Splits
 pub mod Tuples
+pub mod TupleMembers
 pub mod Choosing

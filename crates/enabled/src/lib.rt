@@ -1,0 +1,1 @@
+// Theorems about the list of open moves. No code: see specs/.
