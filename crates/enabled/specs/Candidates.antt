@@ -34,46 +34,52 @@ Candidate t s (commit b) = (1 ≤ b) × (b < s .next)
 Candidate t s (abort b) = (1 ≤ b) × (b < s .next)
 
 module _ (t : Table) (s : State) where
-  abbrev reactions : List Move
-  reactions = each (reactionsOf t (length (s .entries))) (upFrom 0 (length (t .rules)))
+  -- the parts of which the candidates are made
+  abbrev pub allReactions : List Move
+  allReactions = each (reactionsOf t (length (s .entries))) (upFrom 0 (length (t .rules)))
 
-  abbrev ids : List ℕ
-  ids = upFrom 1 (s .next - 1)
+  abbrev pub allIds : List ℕ
+  allIds = upFrom 1 (s .next - 1)
 
-  given-out : (b : ℕ) → Among b ids → (1 ≤ b) × (b < s .next)
-  given-out b m = let h = among-up 1 (s .next - 1) b m in omega arith
+  abbrev front : List Move
+  front = allReactions ++ map commit allIds
 
-  id-among : (b : ℕ) → (1 ≤ b) × (b < s .next) → Among b ids
-  id-among b h = up-among 1 (s .next - 1) b (h .0) (omega arith)
+  pub among-reactions : (m : Move) → Among m allReactions → (r : ℕ) × (ps : List ℕ) × Candidate t s (react r ps) × (m ≡ react r ps)
+  among-reactions m h =
+      let n = length (s .entries) in
+      let (r, i, j) = among-each (reactionsOf t n) (upFrom 0 (length (t .rules))) m h in
+      let (ps, p, e) = among-map (react r) (tuples n (length (consumed (ruleAt t r)))) m j in
+      let (l, f) = among-tuples n (length (consumed (ruleAt t r))) ps p in
+      let u = among-up 0 (length (t .rules)) r i in
+      (r, ps, (omega arith, l, f), e)
+
+  pub among-ends : (end : ℕ → Move) (m : Move) → Among m (map end allIds) → (b : ℕ) × ((1 ≤ b) × (b < s .next)) × (m ≡ end b)
+  among-ends end m h = let (b, i, e) = among-map end allIds m h in let u = among-up 1 (s .next - 1) b i in (b, omega arith, e)
 
   pub among-candidates : (m : Move) → Among m (candidates t s) → Candidate t s m
-  among-candidates m h = go (among-append (reactions ++ map commit ids) (map abort ids) m h)
+  among-candidates m h = go (among-append front (map abort allIds) m h)
     where
-      front : Among m reactions ⊎ Among m (map commit ids) → Candidate t s m
-      front (inl k) =
-          let n = length (s .entries) in
-          let (r, i, j) = among-each (reactionsOf t n) (upFrom 0 (length (t .rules))) m k in
-          let (ps, p, e) = among-map (react r) (tuples n (length (consumed (ruleAt t r)))) m j in
-          let (l, f) = among-tuples n (length (consumed (ruleAt t r))) ps p in
-          let u = among-up 0 (length (t .rules)) r i in
-          rw e (omega arith, l, f)
-      front (inr k) = let (b, i, e) = among-map commit ids m k in rw e (given-out b i)
+      first : Among m allReactions ⊎ Among m (map commit allIds) → Candidate t s m
+      first (inl k) = let (r, ps, c, e) = among-reactions m k in rw e c
+      first (inr k) = let (b, c, e) = among-ends commit m k in rw e c
 
-      go : Among m (reactions ++ map commit ids) ⊎ Among m (map abort ids) → Candidate t s m
-      go (inl k) = front (among-append reactions (map commit ids) m k)
-      go (inr k) = let (b, i, e) = among-map abort ids m k in rw e (given-out b i)
+      go : Among m front ⊎ Among m (map abort allIds) → Candidate t s m
+      go (inl k) = first (among-append allReactions (map commit allIds) m k)
+      go (inr k) = let (b, c, e) = among-ends abort m k in rw e c
+
+  ends-among : (end : ℕ → Move) (b : ℕ) → (1 ≤ b) × (b < s .next) → Among (end b) (map end allIds)
+  ends-among end b h = map-among end allIds b (up-among 1 (s .next - 1) b (h .0) (omega arith))
 
   pub candidates-among : (m : Move) → Candidate t s m → Among m (candidates t s)
   candidates-among (react r ps) (l, n, f) =
       let c = length (consumed (ruleAt t r)) in
-      among-left (reactions ++ map commit ids) (map abort ids) (react r ps) (among-left reactions (map commit ids) (react r ps)
+      among-left front (map abort allIds) (react r ps) (among-left allReactions (map commit allIds) (react r ps)
       (each-among (reactionsOf t (length (s .entries))) (upFrom 0 (length (t .rules))) r (react r ps)
       (up-among 0 (length (t .rules)) r (omega arith) (omega arith))
       (map-among (react r) (tuples (length (s .entries)) c) ps (tuples-among (length (s .entries)) c ps n f))))
   candidates-among (commit b) h =
-      among-left (reactions ++ map commit ids) (map abort ids) (commit b)
-      (among-right reactions (map commit ids) (commit b) (map-among commit ids b (id-among b h)))
-  candidates-among (abort b) h = among-right (reactions ++ map commit ids) (map abort ids) (abort b) (map-among abort ids b (id-among b h))
+      among-left front (map abort allIds) (commit b) (among-right allReactions (map commit allIds) (commit b) (ends-among commit b h))
+  candidates-among (abort b) h = among-right front (map abort allIds) (abort b) (ends-among abort b h)
 
 -- ---- under accepted words
 

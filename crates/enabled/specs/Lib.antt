@@ -1,2 +1,4 @@
 pub mod Candidates
 pub mod Membership
+pub mod Rising
+pub mod Length

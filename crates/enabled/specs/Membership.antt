@@ -12,7 +12,7 @@ use Rattle.semantics.specs.Table.{Table, tableOf}
 use Rattle.semantics.specs.State.{State, stateOf}
 use Rattle.semantics.specs.Move.{Move, moveOk, moveOf, allowed, applied, unless, refused, steppedBy, moveVerdict}
 use Rattle.semantics.specs.Enabled.{candidates, isAllowed, enabled, moveWords}
-use Rattle.semantics.specs.Answers.{stateVerdict, answerOf, Result, outcomeOf, lineCeiling, stateRoom, steppedResult, moveResult, makeMove}
+use Rattle.semantics.specs.Answers.{stateVerdict, answerOf, Result, outcomeOf, lineCeiling, stateRoom, steppedResult, moveResult, makeMove, enabledIn}
 use Rattle.semantics.specs.declared.Refusal.the-variants.{MoveForm, TooManyEntries}
 use Rattle.semantics.specs.declared.Verdict.{Verdict}
 use Rattle.semantics.specs.declared.Verdict.the-variants.{Allowed, Denied}
@@ -79,29 +79,27 @@ module _ (ceiling : ℕ) (t s m target : List ℕ) (h : stateVerdict t s ≡ All
 
   -- ---- the list and the answer
 
-  abbrev moves : List Move
-  moves = enabled ceiling (tableOf t) (stateOf s)
-
-  listed-accepted : Among m (map moveWords moves) → moveNumber ceiling t s m target ≡ 0
+  listed-accepted : Among m (map moveWords (enabledIn ceiling t s)) → moveNumber ceiling t s m target ≡ 0
   listed-accepted k =
-      let (x, i, e) = among-map moveWords moves m k in
+      let (x, i, e) = among-map moveWords (enabledIn ceiling t s) m k in
       let (c, v) = among-enabled ceiling (tableOf t) (stateOf s) x i in
       let held = candidate-holdable (words-given t s h) x (among-candidates (tableOf t) (stateOf s) x c) in
       accepts (rw e (words-ok (tableOf t) x held)) (rw (e, words-back (tableOf t) x held) v)
 
-  accepted-listed : moveNumber ceiling t s m target ≡ 0 → Among m (map moveWords moves)
+  accepted-listed : moveNumber ceiling t s m target ≡ 0 → Among m (map moveWords (enabledIn ceiling t s))
   accepted-listed k =
       let (ok, v) = accepted k in
       let c = allowed-candidate (words-given t s h) move (rule-known (tableOf t) m ok) (verdict-allowed ceiling (tableOf t) (stateOf s) move v) in
-      subst (λ (w : List ℕ). Among w (map moveWords moves)) (words-again (tableOf t) m ok)
-      (map-among moveWords moves move (enabled-among ceiling (tableOf t) (stateOf s) move (candidates-among (tableOf t) (stateOf s) move c) v))
+      let i = enabled-among ceiling (tableOf t) (stateOf s) move (candidates-among (tableOf t) (stateOf s) move c) v in
+      let ms = map moveWords (enabledIn ceiling t s) in
+      subst (λ (w : List ℕ). Among w ms) (words-again (tableOf t) m ok) (map-among moveWords (enabledIn ceiling t s) move i)
 
   -- under any ceiling: words are those of an open move exactly if the move in them is made
-  pub open-exactly : Among m (map moveWords moves) ↔ (moveNumber ceiling t s m target ≡ 0)
+  pub open-exactly : Among m (map moveWords (enabledIn ceiling t s)) ↔ (moveNumber ceiling t s m target ≡ 0)
   open-exactly = (listed-accepted, accepted-listed)
 
 -- the same of the public call
 pub makeMove-exactly : (t s m target : List ℕ) → stateVerdict t s ≡ Allowed → stateRoom ≤ length target
-    → Among m (map moveWords (enabled lineCeiling (tableOf t) (stateOf s))) ↔ (makeMove t s m target .number ≡ 0)
+    → Among m (map moveWords (enabledIn lineCeiling t s)) ↔ (makeMove t s m target .number ≡ 0)
 unfolding makeMove
 makeMove-exactly = open-exactly lineCeiling

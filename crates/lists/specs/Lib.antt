@@ -36,4 +36,6 @@ pub mod Runs
 pub mod Splits
 pub mod Tuples
 pub mod TupleMembers
+pub mod TupleCount
+pub mod Pairwise
 pub mod Choosing
