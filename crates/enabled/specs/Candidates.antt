@@ -84,14 +84,14 @@ module _ (t : Table) (s : State) where
 -- ---- under accepted words
 
 -- a table and a state that accepted words hold
-pub record Given (t : Table) (s : State) : Type 0 where
+pub record FromWords (t : Table) (s : State) : Type 0 where
   pub right : TableRight t
   pub few-rules : length (t .rules) ≤ 64
   pub sound : Sound (t .sizes) s
   pub few-entries : length (s .entries) ≤ 1024
 
-pub words-given : (t s : List ℕ) → stateVerdict t s ≡ Allowed → Given (tableOf t) (stateOf s)
-words-given t s h =
+pub from-words : (t s : List ℕ) → stateVerdict t s ≡ Allowed → FromWords (tableOf t) (stateOf s)
+from-words t s h =
     let (table, _, _) = state-given s t h in
     let held = stateOf-held t s h in
     record {
@@ -101,15 +101,15 @@ words-given t s h =
       few-entries = held .few;
     }
 
-module _ {t : Table} {s : State} (given : Given t s) where
+module _ {t : Table} {s : State} (words : FromWords t s) where
   -- words can hold a candidate
   pub candidate-holdable : (m : Move) → Candidate t s m → Holdable t m
-  candidate-holdable (react r ps) (l, n, f) = let k = given .right .rule r l .consumes-le in let q = given .few-rules in (l, omega arith, n, omega arith)
-  candidate-holdable (commit b) h = let k = given .sound .next-high in omega arith
-  candidate-holdable (abort b) h = let k = given .sound .next-high in omega arith
+  candidate-holdable (react r ps) (l, n, f) = let k = words .right .rule r l .consumes-le in let q = words .few-rules in (l, omega arith, n, omega arith)
+  candidate-holdable (commit b) h = let k = words .sound .next-high in omega arith
+  candidate-holdable (abort b) h = let k = words .sound .next-high in omega arith
 
   open-candidate : (may : Bool) (b : ℕ) → firstFault (endFaults may b s) ≡ Allowed → (1 ≤ b) × (b < s .next)
-  open-candidate may b h = open-id b s (given .sound) (unless-allowed (isOpen b s) NoTransaction (passed-each (endFaults may b s) h .0))
+  open-candidate may b h = open-id b s (words .sound) (unless-allowed (isOpen b s) NoTransaction (passed-each (endFaults may b s) h .0))
 
   -- an allowed move is a candidate: past the last entry there is no message to pick, and an open transaction's id has been given out
   pub allowed-candidate : (m : Move) → RuleKnown t m → allowed t s m ≡ Allowed → Candidate t s m

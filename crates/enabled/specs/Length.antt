@@ -15,9 +15,9 @@ use Rattle.semantics.specs.Move.{react, commit, abort, moveVerdict}
 use Rattle.semantics.specs.Enabled.{reactionsOf, candidates, isAllowed, enabled}
 use Rattle.semantics.specs.Answers.{stateVerdict, enabledIn}
 use Rattle.semantics.specs.declared.Verdict.the-variants.{Allowed}
-use Rattle.enabled.specs.Candidates.{allReactions, allIds, Given, words-given}
+use Rattle.enabled.specs.Candidates.{allReactions, allIds, FromWords, from-words}
 
-module _ {t : Table} {s : State} (given : Given t s) where
+module _ {t : Table} {s : State} (words : FromWords t s) where
   -- at most 1,024 entries for each of at most four consumes
   rule-length : (r : ℕ) → Among r (upFrom 0 (length (t .rules))) → length (reactionsOf t (length (s .entries)) r) ≤ 1024 ^ 4
   rule-length r m =
@@ -26,8 +26,8 @@ module _ {t : Table} {s : State} (given : Given t s) where
       let u = among-up 0 (length (t .rules)) r m in
       let a = length-map (tuples n c) (react r) in
       let b = length-tuples n c in
-      let d : n ^ c ≤ 1024 ^ c = pow-le-pow-left (given .few-entries) c in
-      let e : 1024 ^ c ≤ 1024 ^ 4 = pow-le-pow-right (omega arith) (given .right .rule r (omega arith) .consumes-le) in
+      let d : n ^ c ≤ 1024 ^ c = pow-le-pow-left (words .few-entries) c in
+      let e : 1024 ^ c ≤ 1024 ^ 4 = pow-le-pow-right (omega arith) (words .right .rule r (omega arith) .consumes-le) in
       omega arith
 
   candidates-length : length (candidates t s) < 2 ^ 63
@@ -40,13 +40,13 @@ module _ {t : Table} {s : State} (given : Given t s) where
       let e = length-up 1 (s .next - 1) in
       let f = length-each-le (reactionsOf t (length (s .entries))) (1024 ^ 4) rules rule-length in
       let g = length-up 0 (length (t .rules)) in
-      let few = given .few-rules in
-      let next = given .sound .next-high in
+      let few = words .few-rules in
+      let next = words .sound .next-high in
       omega arith
 
 pub enabled-length : (ceiling : ℕ) (t s : List ℕ) → stateVerdict t s ≡ Allowed → length (enabledIn ceiling t s) < 2 ^ 63
 unfolding enabled
 enabled-length ceiling t s h =
     let a = keep-le (λ m. isAllowed (moveVerdict ceiling (tableOf t) (stateOf s) m)) (candidates (tableOf t) (stateOf s)) in
-    let b = candidates-length (words-given t s h) in
+    let b = candidates-length (from-words t s h) in
     omega arith

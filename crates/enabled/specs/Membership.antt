@@ -22,7 +22,7 @@ use Rattle.wellformed.specs.MoveWords.{words-ok, words-back, words-again}
 use Rattle.wellformed.specs.Preservation.{rule-known}
 use Rattle.wellformed.specs.Results.{number-own}
 use Rattle.wellformed.specs.OneByOne.{moveResult-step}
-use Rattle.enabled.specs.Candidates.{among-candidates, candidates-among, words-given, candidate-holdable, allowed-candidate}
+use Rattle.enabled.specs.Candidates.{among-candidates, candidates-among, from-words, candidate-holdable, allowed-candidate}
 
 -- ---- what is in the list
 
@@ -83,13 +83,13 @@ module _ (ceiling : ℕ) (t s m target : List ℕ) (h : stateVerdict t s ≡ All
   listed-accepted k =
       let (x, i, e) = among-map moveWords (enabledIn ceiling t s) m k in
       let (c, v) = among-enabled ceiling (tableOf t) (stateOf s) x i in
-      let held = candidate-holdable (words-given t s h) x (among-candidates (tableOf t) (stateOf s) x c) in
+      let held = candidate-holdable (from-words t s h) x (among-candidates (tableOf t) (stateOf s) x c) in
       accepts (rw e (words-ok (tableOf t) x held)) (rw (e, words-back (tableOf t) x held) v)
 
   accepted-listed : moveNumber ceiling t s m target ≡ 0 → Among m (map moveWords (enabledIn ceiling t s))
   accepted-listed k =
       let (ok, v) = accepted k in
-      let c = allowed-candidate (words-given t s h) move (rule-known (tableOf t) m ok) (verdict-allowed ceiling (tableOf t) (stateOf s) move v) in
+      let c = allowed-candidate (from-words t s h) move (rule-known (tableOf t) m ok) (verdict-allowed ceiling (tableOf t) (stateOf s) move v) in
       let i = enabled-among ceiling (tableOf t) (stateOf s) move (candidates-among (tableOf t) (stateOf s) move c) v in
       let ms = map moveWords (enabledIn ceiling t s) in
       subst (λ (w : List ℕ). Among w ms) (words-again (tableOf t) m ok) (map-among moveWords (enabledIn ceiling t s) move i)

@@ -23,7 +23,7 @@ use Rattle.semantics.specs.Log.{headOf, fourPicks}
 use Rattle.semantics.specs.Enabled.{reactionsOf, candidates, isAllowed, enabled, moveWords}
 use Rattle.semantics.specs.Answers.{stateVerdict, enabledIn}
 use Rattle.semantics.specs.declared.Verdict.the-variants.{Allowed}
-use Rattle.enabled.specs.Candidates.{allReactions, allIds, among-reactions, among-ends, Given, words-given}
+use Rattle.enabled.specs.Candidates.{allReactions, allIds, among-reactions, among-ends, FromWords, from-words}
 
 -- one list of words before another: the first place at which they differ decides
 abbrev pub precedes : List ℕ → List ℕ → Bool
@@ -99,7 +99,7 @@ Earlier a b = Less (moveWords a) (moveWords b)
 head-earlier : (a b : Move) → headOf a < headOf b → Earlier a b
 head-earlier a b h = precedes-head (headOf a) (headOf b) (fourPicks a) (fourPicks b) h
 
-module _ {t : Table} {s : State} (given : Given t s) where
+module _ {t : Table} {s : State} (words : FromWords t s) where
   abbrev n : ℕ
   n = length (s .entries)
 
@@ -116,7 +116,7 @@ module _ {t : Table} {s : State} (given : Given t s) where
   rule-rises r m =
       let c = length (consumed (ruleAt t r)) in
       let u = among-up 0 (length (t .rules)) r m in
-      let few = given .right .rule r (omega arith) .consumes-le in
+      let few = words .right .rule r (omega arith) .consumes-le in
       pairwise-map Earlier (react r) (tuples n c) (pairwise-weaker Less (λ ps qs. Earlier (react r ps) (react r qs)) (tuples n c)
       (λ ps qs i j h.
       let p = among-tuples n c ps i .0 in
@@ -140,10 +140,10 @@ module _ {t : Table} {s : State} (given : Given t s) where
   -- the heads of the three parts
 
   reaction-head : (m : Move) → Among m reactions → headOf m < headWord 1 0
-  reaction-head m i = let (r, ps, c, e) = among-reactions t s m i in let few = given .few-rules in rw e (omega arith)
+  reaction-head m i = let (r, ps, c, e) = among-reactions t s m i in let few = words .few-rules in rw e (omega arith)
 
   commit-head : (m : Move) → Among m (map commit ids) → (headWord 1 0 ≤ headOf m) × (headOf m < headWord 2 0)
-  commit-head m i = let (b, c, e) = among-ends t s commit m i in let few = given .sound .next-high in rw e (omega arith)
+  commit-head m i = let (b, c, e) = among-ends t s commit m i in let few = words .sound .next-high in rw e (omega arith)
 
   abort-head : (m : Move) → Among m (map abort ids) → headWord 2 0 ≤ headOf m
   abort-head m i = let (b, _, e) = among-ends t s abort m i in rw e (omega arith)
@@ -172,7 +172,7 @@ module _ {t : Table} {s : State} (given : Given t s) where
 -- ---- the theorems
 
 pub enabled-rises : (ceiling : ℕ) (t s : List ℕ) → stateVerdict t s ≡ Allowed → strictlyRises (map moveWords (enabledIn ceiling t s)) ≡ true
-enabled-rises ceiling t s h = rises-pairwise (map moveWords (enabledIn ceiling t s)) (enabled-pairwise (words-given t s h) ceiling)
+enabled-rises ceiling t s h = rises-pairwise (map moveWords (enabledIn ceiling t s)) (enabled-pairwise (from-words t s h) ceiling)
 
 -- two places that hold the same five words are one
 pub enabled-once : (ceiling : ℕ) (t s : List ℕ) → stateVerdict t s ≡ Allowed → (i j : ℕ)
@@ -186,7 +186,7 @@ enabled-once ceiling t s h i j a b e = go (order i j)
     differ : (i j : ℕ) → i < j → j < length (enabledIn ceiling t s) → getD ms i [] ≡ getD ms j [] → ⊥
     differ i j l k e =
         let within : j < length ms = rw (length-map (enabledIn ceiling t s) moveWords) k in
-        let p = pairwise-at Less [] ms i j (enabled-pairwise (words-given t s h) ceiling) l within in
+        let p = pairwise-at Less [] ms i j (enabled-pairwise (from-words t s h) ceiling) l within in
         clash (rw e at p) (precedes-self (getD ms j []))
 
     go : Order i j → i ≡ j
