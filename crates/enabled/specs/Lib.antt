@@ -1,2 +1,6 @@
+pub mod Candidates
+pub mod Membership
+pub mod Rising
+pub mod Length
 pub mod Keys
 pub mod Reactions

@@ -37,6 +37,9 @@ pub mod KeyedTuples
 pub mod Runs
 pub mod Splits
 pub mod Tuples
+pub mod TupleMembers
+pub mod TupleCount
+pub mod Pairwise
 pub mod Choosing
 pub mod Pages
 pub mod Ways

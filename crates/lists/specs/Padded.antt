@@ -5,8 +5,9 @@ use mathlib.Core.List.{List, [], _∷_, _++_, map, map-append, append-assoc}
 use native.Mathlib.Nat.{sub-zero}
 use native.Mathlib.Numerals.{add-one}
 use native.Mathlib.Omega.{arith}
-use lib.ListN.{length, getD, take, set, replicate, length-append, length-replicate, length-map, replicate-append-replicate}
+use lib.ListN.{length, getD, take, drop, set, replicate, length-append, length-replicate, length-map, replicate-append-replicate}
 use lib.Seq.{length-take-le, take-suc, set-at, take-at, take-append-seam, take-append-add}
+use Rattle.lists.specs.Each.{All}
 
 module _ {A : Type 0} where
   -- xs, then d up to n elements
@@ -40,6 +41,15 @@ module _ {A : Type 0} where
       ∙ ap (take m) (sym (replicate-append-replicate m (length xs) d))
       ∙ take-at (replicate m d) (replicate (length xs) d) m (length-replicate m d) in
       sym (ap (λ (k : ℕ). take k (xs ++ replicate n d)) (sym e) ∙ take-append-add xs (replicate n d) m ∙ ap (λ (l : List A). xs ++ l) front)
+
+  -- a list of n whose elements from place u on are d, from its first u
+  pub cut-back : (d : A) (u n k : ℕ) (l : List A) → n ≤ k → length l ≡ n → All (λ x. x ≡ d) (drop u l) → take n (take u l ++ replicate k d) ≡ l
+  cut-back d u zero k [] h e z = refl
+  cut-back d u zero k (x ∷ l) h e z = absurd (omega arith)
+  cut-back d u (suc n) k [] h e z = absurd (omega arith)
+  cut-back d zero (suc n) zero (x ∷ l) h e z = absurd (omega arith)
+  cut-back d zero (suc n) (suc k) (x ∷ l) h e z = λ j. sym (z .0) j ∷ cut-back d zero n k l (omega arith) (omega arith) (z .1) j
+  cut-back d (suc u) (suc n) k (x ∷ l) h e z = ap (λ (m : List A). x ∷ m) (cut-back d u n k l (omega arith) (omega arith) z)
 
   pub getD-replicate-any : (n i : ℕ) (d : A) → getD (replicate n d) i d ≡ d
   getD-replicate-any zero i d = refl

@@ -15,6 +15,7 @@ use Rattle.semantics.specs.Move.{Move, entryAt, applied}
 use Rattle.semantics.specs.Serial.{marksIn, after, isEnd, placeOf, again}
 use Rattle.wellformed.specs.Rules.{TableRight}
 use Rattle.wellformed.specs.Entries.{Sound}
+use Rattle.wellformed.specs.MoveWords.{Holdable, words-ok, words-back}
 use Rattle.wellformed.specs.Preservation.{RuleKnown, applied-keeps}
 use Rattle.cells.specs.Origins.{isInO}
 use Rattle.cells.specs.ByOrigin.{Uniq, place-found, kept-look, origin-look}
@@ -24,7 +25,6 @@ use Rattle.cells.specs.Moves.{after-allowed}
 use Rattle.cells.specs.Simulation.{marked, marked-mark}
 use Rattle.serializability.specs.SameKey.{LogRuns}
 use Rattle.cells.specs.Replay.{Again, reacts, commits, aborts, Goes, Agains, again-known}
-use Rattle.serializability.specs.LogWords.{Holdable, words-ok, words-back}
 use Rattle.serializability.specs.RunWords.{all-holdable}
 use Rattle.serial_laws.specs.Acts.{idOf, Replays}
 

@@ -19,12 +19,13 @@ use Rattle.semantics.specs.declared.Verdict.the-variants.{Allowed}
 use Rattle.wellformed.specs.Tables.{well-formed, sizes-tableOf, length-rules}
 use Rattle.wellformed.specs.States.{state-given}
 use Rattle.wellformed.specs.Rules.{TableRight, table-right}
+use Rattle.wellformed.specs.MoveWords.{Holdable}
 use Rattle.wellformed.specs.Preservation.{RuleKnown, rule-known}
 use Rattle.wellformed.specs.Held.{stateOf-held}
 use Rattle.serializability.specs.Statement.{Accepted, Serial, movesIn, roomAlong, Demand3}
 use Rattle.cells.specs.Start.{Numbered, Start}
 use Rattle.serializability.specs.Decoded.{serial-known, serial-decoded}
-use Rattle.serializability.specs.LogWords.{Holdable, log-length, log-ok, moves-back, moves-count, count-1024}
+use Rattle.serializability.specs.LogWords.{log-length, log-ok, moves-back, moves-count, count-1024}
 use Rattle.serializability.specs.RunWords.{run-accepted, accepted-run, all-holdable}
 
 entries-numbered : (q : ℕ) (os ws : List ℕ) → Numbered q (entriesOf q os ws)

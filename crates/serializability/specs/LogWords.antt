@@ -2,80 +2,21 @@
 use mathlib.Core.Path.{_≡_, refl, ap, _∙_}
 use mathlib.Core.Bool.{true, _&&_}
 use mathlib.Core.List.{List, [], _∷_, _++_, map}
-use Prim.Native.Nat.{ℕ, zero, suc, _+_, _*_, _≤_, _<_}
+use Prim.Native.Nat.{ℕ, suc, _+_, _*_, _≤_, _<_}
 use native.Mathlib.Omega.{arith}
 use native.Mathlib.Numerals.{one-add}
 use lib.Dec.{eqb, leb}
-use borrow.Author.Tests.{eq-eqb, lt-ltb, le-leb, leb-true}
-use lib.ListN.{length, getD, take, drop, replicate, length-map, length-append, length-take, List·getD-append}
-use lib.Seq.{drop-append-add, take-at, take-take}
-use Rattle.lists.specs.Lists.{all, upFrom}
+use borrow.Author.Tests.{eq-eqb, le-leb, leb-true}
+use lib.ListN.{length, getD, take, drop, length-map, length-append, List·getD-append}
+use lib.Seq.{drop-append-add, take-at}
+use Rattle.lists.specs.Lists.{upFrom}
 use Rattle.lists.specs.Choices.{and-left, and-right, and-intro}
 use Rattle.lists.specs.Tabled.{length-tabled}
 use Rattle.lists.specs.UpFrom.{map-up, map-shift}
-use Rattle.semantics.specs.Words.{headKind, headNumber, headWord}
-use Rattle.semantics.specs.Table.{Table, ruleAt, consumed}
-use Rattle.semantics.specs.Move.{Move, react, commit, abort, isZero, moveOk, moveOf}
+use Rattle.semantics.specs.Move.{Move}
 use Rattle.semantics.specs.Log.{moveCount, logSizesOk, moveAt, movesOf, headOf, fourPicks, allPicks, logWords}
-
-abbrev pub moveWords : Move → List ℕ
-moveWords m = headOf m ∷ fourPicks m
-
--- a move that words can hold
-abbrev pub Holdable : Table → Move → Type 0
-Holdable t (react r ps) = (r < length (t .rules)) × (r < 65536) × (length ps ≡ length (consumed (ruleAt t r))) × (length ps ≤ 4)
-Holdable t (commit b) = (1 ≤ b) × (b ≤ 65535)
-Holdable t (abort b) = (1 ≤ b) × (b ≤ 65535)
-
--- ---- heads
-
-head-kind : (k n : ℕ) → headNumber n ≡ n → headKind (headWord k n) ≡ k
-head-kind k n h = omega arith
-
-head-number : (k n : ℕ) → headNumber n ≡ n → headNumber (headWord k n) ≡ n
-head-number k n h = omega arith
-
--- ---- picks
-
-four-length : (ps : List ℕ) → length (take 4 (ps ++ replicate 4 0)) ≡ 4
-four-length ps = let a = length-take 4 (ps ++ replicate 4 0) in let b = length-append ps (replicate 4 0) in omega arith
-
-fourPicks-length : (m : Move) → length (fourPicks m) ≡ 4
-fourPicks-length (react r ps) = four-length ps
-fourPicks-length (commit b) = refl
-fourPicks-length (abort b) = refl
-
-zeros-take : (k j : ℕ) → all isZero (take k (replicate j 0)) ≡ true
-zeros-take zero j = refl
-zeros-take (suc k) zero = refl
-zeros-take (suc k) (suc j) = zeros-take k j
-
-rest-zero : (ps : List ℕ) (k j : ℕ) → all isZero (drop (length ps) (take k (ps ++ replicate j 0))) ≡ true
-rest-zero [] k j = zeros-take k j
-rest-zero (p ∷ ps) zero j = refl
-rest-zero (p ∷ ps) (suc k) j = rest-zero ps k j
-
-picks-back : (ps : List ℕ) → length ps ≤ 4 → take (length ps) (take 4 (ps ++ replicate 4 0)) ≡ ps
-picks-back ps h = take-take (length ps) 4 (ps ++ replicate 4 0) h ∙ take-at ps (replicate 4 0) (length ps) refl
-
--- ---- a move's words
-
-pub words-ok : (t : Table) (m : Move) → Holdable t m → moveOk t (moveWords m) ≡ true
-unfolding moveOk
-words-ok t (react r ps) (l, s, n, f) =
-    let k = head-kind 0 r (omega arith) in let q = head-number 0 r (omega arith) in
-    and-intro (and-intro (eq-eqb (suc (length (take 4 (ps ++ replicate 4 0)))) 5 (ap suc (four-length ps))) (rw (k, q) (lt-ltb r (length (t .rules)) l)))
-    (rw (k, q, ← n) (rest-zero ps 4 4))
-words-ok t (commit b) (l, h) = let k = head-kind 1 b (omega arith) in let q = head-number 1 b (omega arith) in rw (k, q, le-leb 1 b l, le-leb b 65535 h)
-words-ok t (abort b) (l, h) = let k = head-kind 2 b (omega arith) in let q = head-number 2 b (omega arith) in rw (k, q, le-leb 1 b l, le-leb b 65535 h)
-
-pub words-back : (t : Table) (m : Move) → Holdable t m → moveOf t (moveWords m) ≡ m
-unfolding moveOf
-words-back t (react r ps) (l, s, n, f) =
-    let k = head-kind 0 r (omega arith) in let q = head-number 0 r (omega arith) in
-    rw (k, q, ← n) (ap (react r) (picks-back ps f))
-words-back t (commit b) (l, h) = let k = head-kind 1 b (omega arith) in let q = head-number 1 b (omega arith) in rw (k, q)
-words-back t (abort b) (l, h) = let k = head-kind 2 b (omega arith) in let q = head-number 2 b (omega arith) in rw (k, q)
+use Rattle.semantics.specs.Enabled.{moveWords}
+use Rattle.wellformed.specs.MoveWords.{fourPicks-length}
 
 -- ---- the columns of a log
 

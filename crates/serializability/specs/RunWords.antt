@@ -4,30 +4,29 @@ use mathlib.Core.Bool.{Bool, true, false, cond}
 use mathlib.Core.List.{List, [], _∷_, map}
 use Prim.Native.Nat.{ℕ, suc, _≤_}
 use native.Mathlib.Omega.{arith}
-use lib.Dec.{leb, ltb}
-use borrow.Author.Tests.{eqb-true, ltb-true}
+use lib.Dec.{leb}
 use lib.ListN.{length}
-use Rattle.lists.specs.Lists.{all, any}
+use Rattle.lists.specs.Lists.{all}
 use Rattle.lists.specs.Choices.{and-left, and-right}
 use Rattle.lists.specs.Each.{All}
 use Rattle.semantics.specs.Table.{Table}
-use Rattle.semantics.specs.State.{State, owned}
+use Rattle.semantics.specs.State.{State}
 use Rattle.semantics.specs.Move.{Move, react, commit, abort, moveOk, moveOf, isOpen, allowed, applied, to, refused, steppedBy, step, within, stepWords}
 use Rattle.semantics.specs.Log as Log
 use Rattle.semantics.specs.Log.{stopped, onward, run}
 use Rattle.semantics.specs.Serial.{after, along, fits}
+use Rattle.semantics.specs.Enabled.{moveWords}
 use Rattle.semantics.specs.declared.Refusal.{Refusal}
 use Rattle.semantics.specs.declared.Refusal.the-variants.{MoveForm, TooManyEntries}
 use Rattle.semantics.specs.declared.Verdict.{Verdict}
 use Rattle.semantics.specs.declared.Verdict.the-variants.{Allowed, Denied}
-use Rattle.lists.specs.Members.{any-some}
 use Rattle.wellformed.specs.Rules.{TableRight}
 use Rattle.wellformed.specs.Entries.{Sound}
+use Rattle.wellformed.specs.MoveWords.{Holdable, words-ok, words-back, open-id}
 use Rattle.wellformed.specs.Picks.{picks-length}
 use Rattle.wellformed.specs.Preservation.{RuleKnown, applied-keeps}
 use Rattle.serializability.specs.Statement.{Accepted}
 use Rattle.cells.specs.Moves.{after-allowed, react-passes, commit-passes, abort-passes}
-use Rattle.serializability.specs.LogWords.{moveWords, Holdable, words-ok, words-back}
 
 -- ---- from words to moves
 
@@ -88,19 +87,13 @@ accepted-run ceiling t i s (m ∷ ms) e a f h =
 -- ---- the moves of an accepted log can be held
 
 module _ (t : Table) (right : TableRight t) (few : length (t .rules) ≤ 64) where
-  -- the id of an open transaction of a well-formed state is that of a member
-  open-id : (b : ℕ) (s : State) → Sound (t .sizes) s → isOpen b s ≡ true → (1 ≤ b) × (b ≤ 65535)
-  open-id b s sound o =
-      let l = ltb-true 0 b (and-left (ltb 0 b) (any (owned b) (s .entries)) o) in
-      let (e, m, w) = any-some (owned b) (s .entries) (and-right (ltb 0 b) (any (owned b) (s .entries)) o) in
-      let q = eqb-true (e .owner) b w in
-      let (d, n, k, x, v) = sound .right .own e m (λ z. omega arith) in
-      let y = sound .right .each d n .member-mark k .value-lt in let z = sound .next-high in (omega arith, omega arith)
+  id-fits : (b : ℕ) (s : State) → Sound (t .sizes) s → isOpen b s ≡ true → (1 ≤ b) × (b ≤ 65535)
+  id-fits b s sound o = let h = open-id b s sound o in let k = sound .next-high in omega arith
 
   holdable : (s : State) (m : Move) → allowed t s m ≡ Allowed → Sound (t .sizes) s → RuleKnown t m → Holdable t m
   holdable s (react r ps) a sound l = let n = picks-length (react-passes t s r ps a) in let f = right .rule r l .consumes-le in (l, omega arith, n, omega arith)
-  holdable s (commit b) a sound l = open-id b s sound (commit-passes t s b a .0)
-  holdable s (abort b) a sound l = open-id b s sound (abort-passes t s b a .0)
+  holdable s (commit b) a sound l = id-fits b s sound (commit-passes t s b a .0)
+  holdable s (abort b) a sound l = id-fits b s sound (abort-passes t s b a .0)
 
   pub all-holdable : (i : ℕ) (s : State) (ms : List Move) (e : State) → Accepted t i s ms e → Sound (t .sizes) s → All (RuleKnown t) ms → All (Holdable t) ms
   all-holdable i s [] e a sound r = tt

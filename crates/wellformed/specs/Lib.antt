@@ -3,6 +3,7 @@ pub mod Tables
 pub mod States
 pub mod Rules
 pub mod Entries
+pub mod MoveWords
 pub mod Picks
 pub mod Products
 pub mod Reaction
