@@ -27,7 +27,7 @@ module _ {xs : List ℕ} {m : ℕ} (a : Ascending xs m) where
       go (equal q) = omega arith
       go (after k) = absurd (omega (arith, a .rise j i k h))
 
-  -- equal numbers are one
+  -- equal numbers stand at one place
   pub ascending-same : (i j : ℕ) → i < m → j < m → getD xs i 0 ≡ getD xs j 0 → i ≡ j
   ascending-same i j h k e = omega (arith, not-before i j h (omega arith), not-before j i k (omega arith))
 
@@ -64,27 +64,26 @@ pub record PlaceIn (xs : List ℕ) (x from size : ℕ) : Type 0 where
   pub high : place < from + size
   pub here : getD xs place 0 ≡ x
 
-module _ {xs : List ℕ} {m : ℕ} (a : Ascending xs m) where
-  module _ {x from size : ℕ} (p : PlaceIn xs x from size) (h : from + size ≤ m) (l : 1 < size) where
-    half-by : (mid : ℕ) → mid ≡ from + size / 2 → (b : Bool) → leb (getD xs mid 0) x ≡ b
-        → PlaceIn xs x (cond b mid from) (size - size / 2) × (cond b mid from + (size - size / 2) ≤ m)
-    half-by mid e true q =
-        let low = not-before a mid (p .place) (omega arith) (omega (arith, leb-true (getD xs mid 0) x q, p .here)) in
-        (record { place = p .place; low = low; high = omega (arith, p .high); here = p .here }, omega arith)
-    half-by mid e false q =
-        let below = leb-false (getD xs mid 0) x q in
-        let k : p .place < m = omega (arith, p .high) in
-        let i = not-before a (p .place) mid k (omega (arith, p .here)) in
-        let n : p .place ≡ mid → ⊥ = λ g. let here = rw g at (p .here) in omega arith in
-        (record { place = p .place; low = p .low; high = omega arith; here = p .here }, omega arith)
+module _ {xs : List ℕ} {m : ℕ} (a : Ascending xs m) {x from size : ℕ} (p : PlaceIn xs x from size) (h : from + size ≤ m) (l : 1 < size) where
+  half-by : (mid : ℕ) → mid ≡ from + size / 2 → (b : Bool) → leb (getD xs mid 0) x ≡ b
+      → PlaceIn xs x (cond b mid from) (size - size / 2) × (cond b mid from + (size - size / 2) ≤ m)
+  half-by mid e true q =
+      let low = not-before a mid (p .place) (omega arith) (omega (arith, leb-true (getD xs mid 0) x q, p .here)) in
+      (record { place = p .place; low = low; high = omega (arith, p .high); here = p .here }, omega arith)
+  half-by mid e false q =
+      let below = leb-false (getD xs mid 0) x q in
+      let k : p .place < m = omega (arith, p .high) in
+      let i = not-before a (p .place) mid k (omega (arith, p .here)) in
+      let n : p .place ≡ mid → ⊥ = λ g. let here = rw g at (p .here) in omega arith in
+      (record { place = p .place; low = p .low; high = omega arith; here = p .here }, omega arith)
 
-    -- the number in the middle says in which half
-    pub place-half : {r : ℕ} → r ≡ cond (leb (getD xs (from + size / 2) 0) x) (from + size / 2) from
-        → PlaceIn xs x r (size - size / 2) × (r + (size - size / 2) ≤ m)
-    place-half e = rw e (half-by (from + size / 2) refl (leb (getD xs (from + size / 2) 0) x) refl)
+  -- the number in the middle says in which half
+  pub place-half : {r : ℕ} → r ≡ cond (leb (getD xs (from + size / 2) 0) x) (from + size / 2) from
+      → PlaceIn xs x r (size - size / 2) × (r + (size - size / 2) ≤ m)
+  place-half e = rw e (half-by (from + size / 2) refl (leb (getD xs (from + size / 2) 0) x) refl)
 
 -- one place is left
-pub place-found : {xs : List ℕ} {x from size : ℕ} → PlaceIn xs x from size → size ≤ 1 → (getD xs from 0 ≡ x) × (1 ≤ size)
-place-found {xs} {x} {from} p h =
+pub place-left : {xs : List ℕ} {x from size : ℕ} → PlaceIn xs x from size → size ≤ 1 → (getD xs from 0 ≡ x) × (1 ≤ size)
+place-left {xs} {x} {from} p h =
     let e : p .place ≡ from = omega (arith, p .low, p .high) in
     (rw e at (p .here), omega (arith, p .low, p .high))

@@ -7,11 +7,10 @@ use native.Mathlib.Numerals.{add-one}
 use native.Mathlib.Omega.{arith}
 use lib.ListN.{length, take, set, length-append, length-set}
 use lib.Seq.{length-take-le, take-suc-set}
-use Rattle.lists.specs.Lists.{keep, keepIf, upFrom, countIf}
+use Rattle.lists.specs.Lists.{keep, upFrom, countIf}
 use Rattle.lists.specs.Counting.{length-keep}
 use Rattle.lists.specs.Parts.{keepIf-append}
 use Rattle.lists.specs.UpFrom.{keep-onward}
-use Rattle.idset.specs.IdSet.{has, Behind}
 use Rattle.transactions.specs.Ids.{AddedIf, IdsBelow}
 
 -- ---- a number added

@@ -29,35 +29,35 @@ module _ {p : ℕ → Entry → Bool} {row : ℕ → Entry} {n : ℕ} {ws : List
     gathering-done l v = finding-done (rows-tails row n) (g .so-far v) l
 
 -- the three sets before row i
-pub record SetsSoFar (globals : ℕ) (row : ℕ → Entry) (n : ℕ) (present blocked stopped : List ℕ) (i : ℕ) : Type 0 where
+pub record SetsSoFar (globals : ℕ) (row : ℕ → Entry) (n : ℕ) (present blocked aborting : List ℕ) (i : ℕ) : Type 0 where
   pub owning : Gathering owned row n present i
   pub blocking : Gathering (λ v e. owned v e && blocks globals e) row n blocked i
-  pub stopping : Gathering (λ v e. owned v e && isAbortMark e) row n stopped i
+  pub marking : Gathering (λ v e. owned v e && isAbortMark e) row n aborting i
 
 -- an owner's number put into a set where b holds
 owner-put : (e : Entry) (b : Bool) {ws ws' : List ℕ} → InsertedIf b (e .owner) ws ws' → (v : ℕ) → has ws' v ≡ (owned v e && b || has ws v)
 owner-put e b h v = rw (h .holds v, and-comm b (eqb v (e .owner)), eqb-swap v (e .owner))
 
-module _ {globals : ℕ} {row : ℕ → Entry} {n : ℕ} {present blocked stopped : List ℕ} where
-  pub sets-start : EmptySet present → EmptySet blocked → EmptySet stopped → SetsSoFar globals row n present blocked stopped 0
-  sets-start o b s = record { owning = gathering-start o; blocking = gathering-start b; stopping = gathering-start s }
+module _ {globals : ℕ} {row : ℕ → Entry} {n : ℕ} {present blocked aborting : List ℕ} where
+  pub sets-start : EmptySet present → EmptySet blocked → EmptySet aborting → SetsSoFar globals row n present blocked aborting 0
+  sets-start o b m = record { owning = gathering-start o; blocking = gathering-start b; marking = gathering-start m }
 
-  module _ {i : ℕ} (so : SetsSoFar globals row n present blocked stopped i) where
-    pub sets-next : {present' blocked' stopped' : List ℕ} → i < n → EnteredIn globals (row i) present blocked stopped present' blocked' stopped'
-        → SetsSoFar globals row n present' blocked' stopped' (i + 1)
+  module _ {i : ℕ} (so : SetsSoFar globals row n present blocked aborting i) where
+    pub sets-next : {present' blocked' aborting' : List ℕ} → i < n → EnteredIn globals (row i) present blocked aborting present' blocked' aborting'
+        → SetsSoFar globals row n present' blocked' aborting' (i + 1)
     sets-next l t = record {
       owning = gathering-next (so .owning) l (λ v. rw (t .owning .holds v, eqb-swap v (row i .owner)));
       blocking = gathering-next (so .blocking) l (owner-put (row i) (blocks globals (row i)) (t .blocking));
-      stopping = gathering-next (so .stopping) l (owner-put (row i) (isAbortMark (row i)) (t .stopping));
+      marking = gathering-next (so .marking) l (owner-put (row i) (isAbortMark (row i)) (t .marking));
     }
 
-    pub sets-done : n ≤ i → length present ≡ 1024 → length blocked ≡ 1024 → length stopped ≡ 1024
-        → TransactionSets globals (rows row 0 n) present blocked stopped
-    sets-done l o b s = record {
+    pub sets-done : n ≤ i → length present ≡ 1024 → length blocked ≡ 1024 → length aborting ≡ 1024
+        → TransactionSets globals (rows row 0 n) present blocked aborting
+    sets-done l o b m = record {
       present-size = o;
       blocked-size = b;
-      stopped-size = s;
+      aborting-size = m;
       present-are = gathering-done (so .owning) l;
       blocked-are = gathering-done (so .blocking) l;
-      stopped-are = gathering-done (so .stopping) l;
+      aborting-are = gathering-done (so .marking) l;
     }

@@ -1,5 +1,5 @@
 -- The ids of open transactions in order: what the functions say of them, and what their callers use.
-use Prim.Native.Nat.{ℕ, _+_, _-_, _≤_, _<_}
+use Prim.Native.Nat.{ℕ, _-_, _≤_, _<_}
 use mathlib.Core.Path.{_≡_, sym, ap, _∙_}
 use mathlib.Core.Bool.{Bool, true}
 use mathlib.Core.List.{List, [], _++_}
@@ -50,7 +50,7 @@ module _ {next : ℕ} {p : ℕ → Bool} {ids : List ℕ} {m : ℕ} (h : IdsBelo
 pub owners-few : (es : List Entry) (i n : ℕ) → countIf (λ v. any (owned v) es) (upFrom i n) ≤ length es
 owners-few es i n = keys-few (λ e. e .owner) es i n
 
-pub present-few : {globals : ℕ} {es : List Entry} {present blocked stopped : List ℕ} → TransactionSets globals es present blocked stopped
+pub present-few : {globals : ℕ} {es : List Entry} {present blocked aborting : List ℕ} → TransactionSets globals es present blocked aborting
     → (i n : ℕ) → countIf (has present) (upFrom i n) ≤ length es
 present-few {es = es} {present = present} sets i n =
     omega (arith, count-weaker (has present) (λ v. any (owned v) es) (λ v e. sym (sets .present-are v) ∙ e) (upFrom i n), owners-few es i n)

@@ -17,19 +17,19 @@ abbrev pub blocks : ℕ → Entry → Bool
 blocks globals e = isAbortMark e || isMessage e && not (ltb (e .port) globals)
 
 -- the sets after the entry e: its owner is present, and in each of the other two if e gives the reason
-pub record EnteredIn (globals : ℕ) (e : Entry) (present blocked stopped present' blocked' stopped' : List ℕ) : Type 0 where
+pub record EnteredIn (globals : ℕ) (e : Entry) (present blocked aborting present' blocked' aborting' : List ℕ) : Type 0 where
   pub owning : Inserted (e .owner) present present'
   pub blocking : InsertedIf (blocks globals e) (e .owner) blocked blocked'
-  pub stopping : InsertedIf (isAbortMark e) (e .owner) stopped stopped'
+  pub marking : InsertedIf (isAbortMark e) (e .owner) aborting aborting'
 
 -- the ids of the owners of es, of those that own what blocks a commit, and of those that own an abort mark
-pub record TransactionSets (globals : ℕ) (es : List Entry) (present blocked stopped : List ℕ) : Type 0 where
+pub record TransactionSets (globals : ℕ) (es : List Entry) (present blocked aborting : List ℕ) : Type 0 where
   pub present-size : length present ≡ 1024
   pub blocked-size : length blocked ≡ 1024
-  pub stopped-size : length stopped ≡ 1024
+  pub aborting-size : length aborting ≡ 1024
   pub present-are : (v : ℕ) → has present v ≡ any (owned v) es
   pub blocked-are : (v : ℕ) → has blocked v ≡ any (λ e. owned v e && blocks globals e) es
-  pub stopped-are : (v : ℕ) → has stopped v ≡ any (λ e. owned v e && isAbortMark e) es
+  pub aborting-are : (v : ℕ) → has aborting v ≡ any (λ e. owned v e && isAbortMark e) es
 
 -- ---- when a transaction may end
 
@@ -48,5 +48,5 @@ commit-unblocked t b s =
     let globals = t .sizes .globals in
     all-not-any (blocks globals) _ (unblocked globals) (entriesIn b s) ∙ ap not (sym (any-keep (blocks globals) (owned b) (s .entries)))
 
-pub abort-stopped : (b : ℕ) (s : State) → mayAbort b s ≡ any (λ e. owned b e && isAbortMark e) (s .entries)
-abort-stopped b s = sym (any-keep isAbortMark (owned b) (s .entries))
+pub abort-marked : (b : ℕ) (s : State) → mayAbort b s ≡ any (λ e. owned b e && isAbortMark e) (s .entries)
+abort-marked b s = sym (any-keep isAbortMark (owned b) (s .entries))

@@ -27,17 +27,17 @@ fn enter(
     globals: u32,
     present: &mut [u64; WORDS],
     blocked: &mut [u64; WORDS],
-    stopped: &mut [u64; WORDS],
+    aborting: &mut [u64; WORDS],
 )
-    requires { ⌜ (length (now present) ≡ 1024) × (length (now blocked) ≡ 1024) × (length (now stopped) ≡ 1024) ⌝ }
+    requires { ⌜ (length (now present) ≡ 1024) × (length (now blocked) ≡ 1024) × (length (now aborting) ≡ 1024) ⌝ }
     ensures { λ _. ⌜ ((origin : ℕ) → EnteredIn globals (entryFrom owner item origin)
-        (now (present .entry)) (now (blocked .entry)) (now (stopped .entry))
-        (now (present .exit)) (now (blocked .exit)) (now (stopped .exit))) ⌝ }
+        (now (present .entry)) (now (blocked .entry)) (now (aborting .entry))
+        (now (present .exit)) (now (blocked .exit)) (now (aborting .exit))) ⌝ }
 {
     let id = owner as u32;
     idset::insert(present, id);
     idset::insert_if(blocked, id, blocks(item, globals));
-    idset::insert_if(stopped, id, item::kind_of(item) == item::ABORT_MARK);
+    idset::insert_if(aborting, id, item::kind_of(item) == item::ABORT_MARK);
 }
 
 // One pass over the entries. What is global is entered under 0, which is no transaction's id.
@@ -48,15 +48,15 @@ pub fn survey<'a>(
     globals: u32,
     present: &mut [u64; WORDS],
     blocked: &mut [u64; WORDS],
-    stopped: &mut [u64; WORDS],
+    aborting: &mut [u64; WORDS],
 )
-    requires { ⌜ Columns (now owners) (now items) n × EmptySet (now present) × EmptySet (now blocked) × EmptySet (now stopped) ⌝ }
+    requires { ⌜ Columns (now owners) (now items) n × EmptySet (now present) × EmptySet (now blocked) × EmptySet (now aborting) ⌝ }
     ensures { λ _. ⌜ ((gs : List ℕ) → TransactionSets globals (rows (rowOf (now (owners .entry)) (now (items .entry)) gs) 0 n)
-        (now (present .exit)) (now (blocked .exit)) (now (stopped .exit))) ⌝ }
+        (now (present .exit)) (now (blocked .exit)) (now (aborting .exit))) ⌝ }
 {
     let mut i = 0;
     while i < n {
-        enter(owners[i], items[i], globals, present, blocked, stopped);
+        enter(owners[i], items[i], globals, present, blocked, aborting);
         i += 1;
     }
 }

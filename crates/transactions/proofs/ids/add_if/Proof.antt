@@ -23,4 +23,7 @@ returns-2 c =
 
 pub add-if-spec : {M : Type 1} → statement M
 add-if-spec =
-    tie.close (tie.spec (λ c κs. search needs) returns (λ c. search needs) (λ c. search needs) (λ c. c .before .before .pre .3 (member c)) (λ c. search needs) returns-2)
+    tie.close
+    (tie.spec
+    (λ c κs. search needs) returns (λ c. search needs) (λ c. search needs) (λ c. c .before .before .pre .3 (member c))
+    (λ c. search needs) returns-2)

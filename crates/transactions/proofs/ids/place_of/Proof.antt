@@ -2,7 +2,7 @@
 use Prim.Native.Nat.{_+_, _≤_}
 use borrow.Author.Needs.{needs}
 use native.Mathlib.Omega.{arith}
-use Rattle.lists.specs.Ascending.{PlaceIn, place-half, place-found}
+use Rattle.lists.specs.Ascending.{PlaceIn, place-half, place-left}
 use Rattle.transactions.proofs.ids.place_of.Statement.{statement}
 use Rattle.transactions.proofs.ids.place_of.Tie as tie
 
@@ -23,7 +23,7 @@ loop-again c =
 returns : tie.Need-returns Inv μ
 returns c =
     let (p, w) = c .before .loop .inv in
-    let (here, some) = place-found p (c .loop-test .left) in
+    let (here, some) = place-left p (c .loop-test .left) in
     (omega arith, here)
 
 pub place-of-spec : {M : Type 1} → statement M

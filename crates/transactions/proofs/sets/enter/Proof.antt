@@ -9,7 +9,7 @@ returns c origin =
     record {
       owning = second .before .before .before .insert .ensures;
       blocking = rw (second .before .blocks2 .ensures 0 origin) at (second .insert-if .ensures);
-      stopping = rw (c .before .kind-of .ensures) at (c .insert-if2 .ensures);
+      marking = rw (c .before .kind-of .ensures) at (c .insert-if2 .ensures);
     }
 
 pub enter-spec : {M : Type 1} → statement M

@@ -10,14 +10,14 @@ use Rattle.transactions.proofs.sets.survey.Statement.{statement}
 use Rattle.transactions.proofs.sets.survey.Tie as tie
 
 abbrev Inv : tie.InvT-loop
-Inv owners items n globals present₀ blocked₀ stopped₀ i₀ present blocked stopped i =
+Inv owners items n globals present₀ blocked₀ aborting₀ i₀ present blocked aborting i =
     (length present ≡ 1024)
     × (length blocked ≡ 1024)
-    × (length stopped ≡ 1024)
-    × ((gs : List ℕ) → SetsSoFar globals (rowOf owners items gs) n present blocked stopped i)
+    × (length aborting ≡ 1024)
+    × ((gs : List ℕ) → SetsSoFar globals (rowOf owners items gs) n present blocked aborting i)
 
 abbrev μ : tie.MeasureT-loop
-μ owners items n globals present₀ blocked₀ stopped₀ i₀ present blocked stopped i = n - i
+μ owners items n globals present₀ blocked₀ aborting₀ i₀ present blocked aborting i = n - i
 
 loop-holds : tie.Need-loop-holds Inv μ
 loop-holds c = (c .pre .1 .size, c .pre .2 .size, c .pre .3 .size, λ gs. sets-start (c .pre .1) (c .pre .2) (c .pre .3))
@@ -26,7 +26,7 @@ loop-again : tie.Need-loop-again Inv μ
 loop-again c =
     let turn = c .before .before .before .before .before .before in
     let t = c .enter .ensures in
-    (t 0 .owning .size, t 0 .blocking .size, t 0 .stopping .size, λ gs. sets-next (turn .before .loop .inv .3 gs) (turn .loop-test .taken) (t _))
+    (t 0 .owning .size, t 0 .blocking .size, t 0 .marking .size, λ gs. sets-next (turn .before .loop .inv .3 gs) (turn .loop-test .taken) (t _))
 
 returns : tie.Need-returns Inv μ
 returns c gs =
