@@ -18,7 +18,7 @@ loop-holds c = (c .pre .2, omega arith)
 loop-again : tie.Need-loop-again Inv μ
 loop-again c =
     let (p, w) = c .before .before .before .loop .inv in
-    place-half (c .before .before .before .before .pre .1) p w (c .before .before .loop-test .taken) (c .later .ensures)
+    place-half (c .before .before .before .before .pre .1) p w (omega (arith, c .before .before .loop-test .taken)) (c .later .ensures)
 
 returns : tie.Need-returns Inv μ
 returns c =
