@@ -1,8 +1,8 @@
 -- A set of numbers below 65,536 as a list of 1024 words of 64 bits: what it holds, and what an insertion does.
 use mathlib.Core.Path.{_≡_, refl}
-use mathlib.Core.Bool.{Bool, false, _||_}
+use mathlib.Core.Bool.{Bool, false, _&&_, _||_}
 use mathlib.Core.List.{List}
-use Prim.Native.Nat.{ℕ, zero, suc, _/_, _%_, _^_, _≤_}
+use Prim.Native.Nat.{ℕ, zero, suc, _/_, _%_, _^_, _≤_, _<_}
 use native.Mathlib.Nat.{zero-div}
 use native.Mathlib.Omega.{arith}
 use lib.ListN.{length, getD, replicate, List·getD-eq-default}
@@ -21,6 +21,22 @@ pub record Inserted (v : ℕ) (before after : List ℕ) : Type 0 where
   pub size : length after ≡ 1024
   pub holds : (u : ℕ) → has after u ≡ (eqb u v || has before u)
 
+-- the same where b holds; else what `before` holds
+pub record InsertedIf (b : Bool) (v : ℕ) (before after : List ℕ) : Type 0 where
+  pub size : length after ≡ 1024
+  pub holds : (u : ℕ) → has after u ≡ (b && eqb u v || has before u)
+
+-- r is behind v and at most end, and no member lies between v and r.
+pub record Behind (ws : List ℕ) (v end r : ℕ) : Type 0 where
+  pub onward : v < r
+  pub within : r ≤ end
+  pub none : (u : ℕ) → v < u → u < r → has ws u ≡ false
+
+-- a set that can be lent and holds nothing
+pub record EmptySet (ws : List ℕ) : Type 0 where
+  pub size : length ws ≡ 1024
+  pub none : (u : ℕ) → has ws u ≡ false
+
 -- Zeros read as zero past their end too, so that `empty` needs no bound.
 zeros : (n i : ℕ) → getD (replicate n zero) i zero ≡ zero
 zeros zero i = refl
@@ -31,6 +47,9 @@ zeros (suc n) (suc i) = zeros n i
 pub empty : (u : ℕ) → has (replicate 1024 0) u ≡ false
 unfolding has
 empty u = rw (zeros 1024 (u / 64), zero-div)
+
+pub zeros-empty : EmptySet (replicate 1024 0)
+zeros-empty = record { size = refl; none = empty }
 
 -- No number from 65,536 on is in a set.
 pub beyond : (ws : List ℕ) (u : ℕ) → length ws ≡ 1024 → 65536 ≤ u → has ws u ≡ false

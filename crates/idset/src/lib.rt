@@ -1,8 +1,8 @@
 // A set of numbers below 65,536, one bit for each: v is bit v % 64 of word v / 64. `[0; WORDS]` is the empty set.
 ghost use mathlib.Core.Path.{_≡_};
-ghost use Prim.Native.Nat.{_<_};
+ghost use Prim.Native.Nat.{_≤_, _<_, min};
 ghost use lib.ListN.{length};
-ghost use Rattle.idset.specs.IdSet.{has, Inserted};
+ghost use Rattle.idset.specs.IdSet.{has, Inserted, InsertedIf, Behind};
 
 // The words of a set.
 pub const WORDS: usize = 1024;
@@ -23,4 +23,33 @@ pub fn insert(words: &mut [u64; WORDS], v: u32)
 {
     let i = (v / 64) as usize;
     words[i] |= 1u64 << (v % 64);
+}
+
+// Puts v into the set where b holds.
+pub fn insert_if(words: &mut [u64; WORDS], v: u32, b: bool)
+    requires { ⌜ (v < 65536) × (length (now words) ≡ 1024) ⌝ }
+    ensures { λ _. ⌜ InsertedIf b v (now (words .entry)) (now (words .exit)) ⌝ }
+{
+    if !b {
+        return;
+    }
+    insert(words, v);
+}
+
+fn lower(a: u32, b: u32) -> u32
+    ensures { λ r. ⌜ r ≡ min a b ⌝ }
+{
+    if a < b { a } else { b }
+}
+
+// The next member behind v, or the first number of the next word where v's word has no more, or `end`:
+// a walk through the set stops at its members and once in each word.
+pub fn behind(words: &[u64; WORDS], v: u32, end: u32) -> u32
+    requires { ⌜ (v < end) × (end ≤ 65536) ⌝ }
+    ensures { λ r. ⌜ Behind (now (words .entry)) v end r ⌝ }
+{
+    let bits = words[(v / 64) as usize];
+    let more = (bits >> (v % 64)) / 2;
+    let next = v + 1 + u64::trailing_zeros(more);
+    lower(lower(next, (v / 64 + 1) * 64), end)
 }

@@ -69,6 +69,17 @@ module _ {A B : Type 0} (f : A → B) (p : B → Bool) where
   count-map [] = refl
   count-map (x ∷ xs) = ap (λ (n : ℕ). oneIf (p (f x)) + n) (count-map xs)
 
+-- ---- of either of two tests
+module _ {A : Type 0} (p q : A → Bool) where
+  pub count-or : (xs : List A) → countIf (λ x. p x || q x) xs ≤ countIf p xs + countIf q xs
+  count-or [] = omega arith
+  count-or (x ∷ xs) = more (p x) (q x) (count-or xs)
+    where
+      more : (b c : Bool) → countIf (λ x. p x || q x) xs ≤ countIf p xs + countIf q xs
+          → oneIf (b || c) + countIf (λ x. p x || q x) xs ≤ oneIf b + countIf p xs + (oneIf c + countIf q xs)
+      more true c h = omega arith
+      more false c h = omega arith
+
 -- ---- of two tests, of which the first holds only where the second does
 module _ {A : Type 0} (p q : A → Bool) (f : (x : A) → p x ≡ true → q x ≡ true) where
   pub all-weaker : (xs : List A) → all p xs ≡ true → all q xs ≡ true

@@ -11,6 +11,10 @@ regroup : (a b c : Bool) → a || (b || c) ≡ a || b || c
 regroup true b c = refl
 regroup false b c = refl
 
+not-or : (a b : Bool) → not a && not b ≡ not (a || b)
+not-or true b = refl
+not-or false b = refl
+
 neither : (a b c d : Bool) → not a && not b && not (c || d) ≡ not ((a || c) || (b || d))
 neither true b c d = refl
 neither false true true d = refl
@@ -48,3 +52,7 @@ module _ {A : Type 0} where
   pub all-neither : (p q r : A → Bool) → ((x : A) → r x ≡ not (p x) && not (q x)) → (xs : List A) → all r xs ≡ not (any p xs || any q xs)
   all-neither p q r e [] = refl
   all-neither p q r e (x ∷ xs) = rw (e x, all-neither p q r e xs) (neither (p x) (q x) (any p xs) (any q xs))
+
+  pub all-not-any : (p r : A → Bool) → ((x : A) → r x ≡ not (p x)) → (xs : List A) → all r xs ≡ not (any p xs)
+  all-not-any p r e [] = refl
+  all-not-any p r e (x ∷ xs) = rw (e x, all-not-any p r e xs) (not-or (p x) (any p xs))

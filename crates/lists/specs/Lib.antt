@@ -17,6 +17,7 @@ pub mod Counting
 pub mod Rising
 pub mod Keys
 pub mod Ahead
+pub mod Ascending
 pub mod Seen
 pub mod Rows
 pub mod Filled

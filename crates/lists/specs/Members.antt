@@ -1,10 +1,10 @@
 -- Membership as a type: what `all`, `any`, `keep`, `map`, `++` and `isIn` say of the elements.
-use Prim.Native.Nat.{ℕ, zero, suc, _<_}
+use Prim.Native.Nat.{ℕ, zero, suc, _<_, suc-le-suc}
 use mathlib.Core.Bool.{Bool, true, false, _||_, false≢true}
 use mathlib.Core.List.{List, [], _∷_, _++_, map}
 use mathlib.Core.Logic.{_⊎_, inl, inr}
 use mathlib.Core.Path.{_≡_, refl, sym, ap, _∙_}
-use native.Mathlib.Nat.{le-of-suc-le-suc, not-suc-le-zero}
+use native.Mathlib.Nat.{zero-lt-suc, le-of-suc-le-suc, not-suc-le-zero}
 use lib.Dec.{eqb}
 use lib.ListN.{length, getD}
 use borrow.Author.Tests.{eqb-true, eq-eqb}
@@ -105,3 +105,8 @@ module _ {A : Type 0} (d : A) where
   getD-among [] i h = absurd (not-suc-le-zero h)
   getD-among (x ∷ xs) zero h = inl refl
   getD-among (x ∷ xs) (suc i) h = inr (getD-among xs i (le-of-suc-le-suc h))
+
+  pub among-place : (xs : List A) (x : A) → Among x xs → (i : ℕ) × (i < length xs) × (getD xs i d ≡ x)
+  among-place [] x m = absurd m
+  among-place (y ∷ ys) x (inl e) = (0, zero-lt-suc (length ys), sym e)
+  among-place (y ∷ ys) x (inr m) = let (i, l, e) = among-place ys x m in (suc i, suc-le-suc l, e)
