@@ -1,0 +1,2 @@
+pub mod PortTally
+pub mod KeyCases

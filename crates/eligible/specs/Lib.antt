@@ -1,0 +1,2 @@
+pub mod KeyColumn
+pub mod Ports
