@@ -3,4 +3,5 @@ mod page;
 mod ways;
 
 pub use page::fill;
+pub use page::put;
 pub use ways::widths;

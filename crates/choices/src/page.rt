@@ -33,7 +33,7 @@ fn is_free(keys: &[u32; 1024], p: usize, t: u32, picks: [u32; 4], i: usize) -> b
 }
 
 // A head and its four picks, at a place of the target.
-fn put(target: &mut [u32], at: usize, head: u32, picks: [u32; 4])
+pub fn put(target: &mut [u32], at: usize, head: u32, picks: [u32; 4])
     requires { ⌜ at + 5 ≤ length (now target) ⌝ }
     ensures { λ _. ⌜ now (target .exit) ≡ sets (now (target .entry)) at (head ∷ picks) ⌝ }
 {

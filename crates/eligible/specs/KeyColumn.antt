@@ -1,12 +1,18 @@
 -- What the code's keys are.
 use Prim.Native.Nat.{ℕ, _+_, _*_, _/_, _%_, _≤_, _<_}
 use mathlib.Core.Bool.{true, false}
-use mathlib.Core.Path.{_≡_}
+use mathlib.Core.Path.{_≡_, sym, ap, _∙_}
 use mathlib.Core.List.{List}
-use lib.ListN.{length, getD}
+use native.Mathlib.Nat.{zero-add}
+use native.Mathlib.Omega.{arith}
+use lib.ListN.{length, getD, take}
+use lib.Seq.{length-take-le, getD-take}
+use Rattle.lists.specs.Rows.{rows, length-rows, getD-rows}
+use Rattle.lists.specs.Ascending.{Ascending, ascending-same}
 use Rattle.semantics.specs.State.{Entry}
+use Rattle.semantics.specs.Move.{nothing, entryAt}
 use Rattle.semantics.specs.declared.Sizes.{Sizes}
-use Rattle.enabled.specs.Keys.{isLocal, portKey}
+use Rattle.enabled.specs.Keys.{isLocal, portKey, Keyed}
 
 -- the key of the entry e; its group is the place of its owner among the ids
 pub record KeyAs (z : Sizes) (ids : List ℕ) (m : ℕ) (e : Entry) (key : ℕ) : Type 0 where
@@ -17,3 +23,27 @@ pub record KeyAs (z : Sizes) (ids : List ℕ) (m : ℕ) (e : Entry) (key : ℕ) 
 pub record KeyColumn (z : Sizes) (ids : List ℕ) (m : ℕ) (row : ℕ → Entry) (n : ℕ) (keys : List ℕ) : Type 0 where
   pub size : length keys ≡ 1024
   pub each : (p : ℕ) → p < n → KeyAs z ids m (row p) (getD keys p 0)
+
+-- Such a column has keys as the list of open moves wants them: groups are the same where owners are, since no id stands twice.
+keyed-row : {z : Sizes} {ids : List ℕ} {m : ℕ} {row : ℕ → Entry} {n : ℕ} {keys : List ℕ} → KeyColumn z ids m row n keys → n ≤ 1024
+    → (p : ℕ) → p < length (rows row 0 n) → KeyAs z ids m (entryAt (rows row 0 n) p) (getD (take n keys) p 0)
+keyed-row {z} {ids} {m} {row} {n} {keys} c few p h =
+    let l : p < n = rw length-rows at h in
+    let e : entryAt (rows row 0 n) p ≡ row p = getD-rows nothing row 0 n p l ∙ ap row (zero-add p) in
+    rw (e, getD-take n keys p 0 l) (c .each p l)
+
+pub keyed-column : {z : Sizes} {ids : List ℕ} {m : ℕ} {row : ℕ → Entry} {n : ℕ} {keys : List ℕ} → KeyColumn z ids m row n keys → n ≤ 1024
+    → Ascending ids m → Keyed z (rows row 0 n) (take n keys)
+keyed-column {z} {ids} {m} {row} {n} {keys} c few asc = record {
+  size = length-take-le n keys (omega (arith, c .size)) ∙ sym (length-rows row 0 n);
+  plain = λ p h i. keyed-row c few p h .plain i;
+  local = λ p h i. keyed-row c few p h .local i .0;
+  together = λ p q h k i j e.
+      let (_, a, o) = keyed-row c few p h .local i in
+      let (_, b, u) = keyed-row c few q k .local j in
+      ascending-same asc (getD (take n keys) p 0 / 512) (getD (take n keys) q 0 / 512) a b (o ∙ e ∙ sym u);
+  apart = λ p q h k i j e.
+      let (_, a, o) = keyed-row c few p h .local i in
+      let (_, b, u) = keyed-row c few q k .local j in
+      sym o ∙ ap (λ (g : ℕ). getD ids g 0) e ∙ u;
+}

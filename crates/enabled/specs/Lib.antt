@@ -4,3 +4,4 @@ pub mod Rising
 pub mod Length
 pub mod Keys
 pub mod Reactions
+pub mod Ends

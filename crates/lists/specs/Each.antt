@@ -88,6 +88,15 @@ module _ {A : Type 0} where
   keep-cond p false [] = refl
   keep-cond p false (x ∷ xs) = rw (and-false (p x), keep-cond p false xs)
 
+  -- one test after another
+  pub keep-both : (p q : A → Bool) (xs : List A) → keep q (keep p xs) ≡ keep (λ x. p x && q x) xs
+  keep-both p q [] = refl
+  keep-both p q (x ∷ xs) = go (p x) (keep-both p q xs)
+    where
+      go : (b : Bool) → keep q (keep p xs) ≡ keep (λ x. p x && q x) xs → keep q (keepIf b x (keep p xs)) ≡ keepIf (b && q x) x (keep (λ x. p x && q x) xs)
+      go true e = rw e
+      go false e = e
+
   pub count-none : (p : A → Bool) (xs : List A) → All (λ x. p x ≡ false) xs → countIf p xs ≡ 0
   count-none p [] h = refl
   count-none p (x ∷ xs) h = rw (h .0, count-none p xs (h .1))

@@ -39,7 +39,7 @@ fn message_on(items: &[u32; 1024], n: usize, p: usize, port: u16) -> bool
 }
 
 // The ports of the consumes (takes), which come first. By constant places, so that the atoms are not copied.
-fn consume_ports(rule: Rule) -> [u16; 4]
+pub fn consume_ports(rule: Rule) -> [u16; 4]
     requires { ⌜ Decodes rule (ruleIn rule) ⌝ }
     ensures { λ r. ⌜ (take (rule .consumes) r ≡ consumed (ruleIn rule)) × (length r ≡ 4) ⌝ }
 {

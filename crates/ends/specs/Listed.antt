@@ -1,0 +1,77 @@
+-- What is said of a part of the list that has ends only, and that it is the list's commits or aborts.
+use Prim.Native.Nat.{ℕ, _-_, _≤_}
+use mathlib.Core.Bool.{Bool, true, false, _&&_, not, cond, and-true}
+use mathlib.Core.List.{List, [], _∷_, map}
+use mathlib.Core.Path.{_≡_, refl, sym, ap, _∙_}
+use lib.ListN.{length, take, length-map}
+use Rattle.lists.specs.Lists.{any, keep, upFrom}
+use Rattle.lists.specs.Each.{keep-same, keep-both}
+use Rattle.lists.specs.UpFrom.{up-each}
+use Rattle.lists.specs.Pages.{Paged, paged-map, paged-same}
+use Rattle.semantics.specs.Words.{headWord}
+use Rattle.semantics.specs.Table.{Table}
+use Rattle.semantics.specs.State.{State, owned}
+use Rattle.semantics.specs.Move.{Move, commit, abort, mayCommit, mayAbort, moveVerdict}
+use Rattle.semantics.specs.Enabled.{isAllowed, moveWords}
+use Rattle.enabled.specs.Ends.{commits-open, aborts-open}
+use Rattle.idset.specs.IdSet.{has}
+use Rattle.transactions.specs.Sets.{TransactionSets, commit-unblocked, abort-marked}
+use Rattle.transactions.specs.Ids.{IdsBelow}
+use Rattle.ends.specs.declared.Part.{Part}
+
+-- v is in the set where that is wanted, and else it is not
+abbrev pub agrees : Bool → List ℕ → ℕ → Bool
+agrees wanted set v = cond wanted (has set v) (not (has set v))
+
+-- the end of v, kind 1 a commit and 2 an abort
+abbrev pub endWords : ℕ → ℕ → List ℕ
+endWords kind v = headWord kind v ∷ 0 ∷ 0 ∷ 0 ∷ 0 ∷ []
+
+-- r tells the length of xs, and how many of the page's elements were written.
+pub record EndsAs {A : Type 0} (words : A → List ℕ) (xs : List A) (first count at : ℕ) (before after : List ℕ) (r : Part) : Type 0 where
+  pub total : r .length ≡ length xs
+  pub few : r .length ≤ 1024
+  pub paged : Paged words 5 xs first count at before after (r .written)
+
+-- ---- for callers
+
+module _ (ceiling : ℕ) (T : Table) (S : State) (room : length (S .entries) ≤ ceiling) {globals : ℕ} (port : globals ≡ T .sizes .globals)
+    {present blocked aborting ids : List ℕ} {m : ℕ} (sets : TransactionSets globals (S .entries) present blocked aborting)
+    (listed : IdsBelow (S .next) (has present) ids m) where
+  -- the open ones among the ends of all ids given out
+  abbrev openEnds : (ℕ → Move) → List Move
+  openEnds end = keep (λ x. isAllowed (moveVerdict ceiling T S x)) (map end (upFrom 1 (S .next - 1)))
+
+  kept : (end : ℕ → Move) (may p : ℕ → Bool) → ((v : ℕ) → may v ≡ p v)
+      → openEnds end ≡ map end (keep (λ v. any (owned v) (S .entries) && may v) (upFrom 1 (S .next - 1))) → openEnds end ≡ map end (keep p (take m ids))
+  kept end may p h e =
+      let all = upFrom 1 (S .next - 1) in
+      e ∙ ap (map end) (keep-same (λ v. any (owned v) (S .entries) && may v) (λ v. has present v && p v) all
+      (up-each (λ v. any (owned v) (S .entries) && may v ≡ has present v && p v) 1 (S .next - 1) (λ v _ _. rw (h v, sets .present-are v)))
+      ∙ sym (keep-both (has present) p all) ∙ ap (keep p) (sym (listed .list)))
+
+  commits-kept : openEnds commit ≡ map commit (keep (agrees false blocked) (take m ids))
+  commits-kept = kept commit (λ v. mayCommit T v S) (agrees false blocked) (λ v. commit-unblocked T v S ∙ rw (sets .blocked-are v, port))
+      (commits-open ceiling T S room)
+
+  aborts-kept : openEnds abort ≡ map abort (keep (agrees true aborting) (take m ids))
+  aborts-kept = kept abort (λ v. mayAbort v S) (agrees true aborting) (λ v. abort-marked v S ∙ sym (sets .aborting-are v)) (aborts-open ceiling T S room)
+
+  as-moves : (end : ℕ → Move) {ms : List Move} {vs : List ℕ} {first count at : ℕ} {before after : List ℕ} {r : Part} → ms ≡ map end vs
+      → EndsAs (λ v. moveWords (end v)) vs first count at before after r → EndsAs moveWords ms first count at before after r
+  as-moves end {ms} {vs} {first} {count} {at} {before} {after} {r} e p = record {
+    total = p .total ∙ sym (length-map vs end) ∙ ap length (sym e);
+    few = p .few;
+    paged = paged-same moveWords 5 (sym e) (paged-map end moveWords 5 vs first count at before after (r .written) (p .paged));
+  }
+
+  module _ {first count at : ℕ} {before after : List ℕ} {r : Part} where
+    -- the transactions that nothing blocks, under kind 1, are the open commits
+    pub commits-listed : EndsAs (endWords 1) (keep (agrees false blocked) (take m ids)) first count at before after r
+        → EndsAs moveWords (keep (λ x. isAllowed (moveVerdict ceiling T S x)) (map commit (upFrom 1 (S .next - 1)))) first count at before after r
+    commits-listed = as-moves commit commits-kept
+
+    -- those that own an abort mark, under kind 2, are the open aborts
+    pub aborts-listed : EndsAs (endWords 2) (keep (agrees true aborting) (take m ids)) first count at before after r
+        → EndsAs moveWords (keep (λ x. isAllowed (moveVerdict ceiling T S x)) (map abort (upFrom 1 (S .next - 1)))) first count at before after r
+    aborts-listed = as-moves abort aborts-kept

@@ -1,0 +1,80 @@
+// The commits and aborts on a page of the list of open moves.
+ghost use mathlib.Core.Path.{_≡_};
+ghost use mathlib.Core.Bool.{true, cond};
+ghost use mathlib.Core.List.{[], _∷_};
+ghost use Prim.Native.Nat.{_+_, _*_, _≤_, _<_};
+ghost use lib.ListN.{length, take};
+ghost use lib.Seq.{sets};
+ghost use Rattle.lists.specs.Lists.{oneIf, keep};
+ghost use Rattle.ends.specs.Listed.{agrees, endWords, EndsAs};
+use choices::put;
+use idset::WORDS;
+use words::head;
+
+// A part of the list: its length, and how many of its moves were written.
+pub struct Part {
+    pub length: u64,
+    pub written: usize,
+}
+
+// Whether v is in the set, or that it is not where that is wanted.
+fn agrees(set: &[u64; WORDS], v: u32, wanted: bool) -> bool
+    requires { ⌜ v < 65536 ⌝ }
+    ensures { λ r. ⌜ r ≡ agrees wanted (now (set .entry)) v ⌝ }
+{
+    let there = idset::has(set, v);
+    if wanted { there } else { !there }
+}
+
+fn one_if(b: bool) -> usize
+    ensures { λ r. ⌜ (r ≡ oneIf b) × (r ≤ 1) ⌝ }
+{
+    if b { 1 } else { 0 }
+}
+
+// An end, written where it is due.
+fn put_if(due: bool, target: &mut [u32], at: usize, head: u32)
+    requires { ⌜ (due ≡ true → at + 5 ≤ length (now target)) ⌝ }
+    ensures { λ _. ⌜ now (target .exit) ≡ cond due (sets (now (target .entry)) at (head ∷ 0 ∷ 0 ∷ 0 ∷ 0 ∷ [])) (now (target .entry)) ⌝ }
+{
+    if !due {
+        return;
+    }
+    put(target, at, head, [0, 0, 0, 0]);
+}
+
+// The ends of one kind of those of the first m ids that are in the set, or that are not: of them the ones from `first` on,
+// at most `count`. All ids are looked at, since the length is told.
+pub fn ends(
+    ids: &[u16; 1024],
+    m: usize,
+    set: &[u64; WORDS],
+    wanted: bool,
+    kind: u32,
+    first: u64,
+    count: usize,
+    target: &mut [u32],
+    at: usize,
+) -> Part
+    requires { ⌜ (m ≤ 1024) × (length (now ids) ≡ 1024) × (kind < 256) ⌝ }
+    requires { ⌜ (count ≤ 256) × (at + 5 * count ≤ length (now target)) ⌝ }
+    ensures { λ r. ⌜ EndsAs (endWords kind) (keep (agrees wanted (now (set .entry))) (take m (now (ids .entry))))
+        first count at (now (target .entry)) (now (target .exit)) r ⌝ }
+{
+    let mut length = 0;
+    let mut written = 0;
+    let mut i = 0;
+    while i < m {
+        let id = ids[i] as u32;
+        let hit = agrees(set, id, wanted);
+        let due = hit & (first <= length as u64) & (written < count);
+        put_if(due, target, at + 5 * written, head::head_of(kind, id));
+        written += one_if(due);
+        length += one_if(hit);
+        i += 1;
+    }
+    Part {
+        length: length as u64,
+        written,
+    }
+}

@@ -1,0 +1,3 @@
+// The open reactions by one rule: how many there are, and those on a page.
+mod grouped;
+mod plain;
