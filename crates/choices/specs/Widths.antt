@@ -1,7 +1,7 @@
 -- How many choices are below a pick: the figures that the code computes, and what they are.
 use Prim.Native.Nat.{ℕ, zero, suc, _+_, _-_, _*_, _≤_, _<_}
 use mathlib.Core.Path.{_≡_, refl, sym, ap, _∙_}
-use mathlib.Core.Bool.{cond}
+use mathlib.Core.Bool.{Bool, true, false, cond}
 use mathlib.Core.List.{List, [], _∷_}
 use native.Mathlib.Nat.{mul-one, mul-le-mul, sub-zero}
 use native.Mathlib.Omega.{arith}
@@ -102,3 +102,12 @@ pub widths-as : (ts ls : List ℕ) (k x y z : ℕ) → x ≡ secondWays ts ls k 
     → (x * (y * z)) ∷ (y * z) ∷ z ∷ 1 ∷ [] ≡ widthsOf ts ls k
 unfolding widthsOf
 widths-as ts ls k x y z e f g = rw (e, f, g)
+
+-- the first is the largest, and is no more than three numbers have
+pub widths-small : (ts ls : List ℕ) (k : ℕ) → ((j : ℕ) → getD ls j 0 ≤ 1024) → getD (widthsOf ts ls k) 0 0 ≤ 1073741824
+unfolding widthsOf
+widths-small ts ls k h = mul-le-mul (at (ltb 1 k) 1 _) (mul-le-mul (at (ltb 2 k) 2 _) (at (ltb 3 k) 3 _))
+  where
+    at : (b : Bool) (j d : ℕ) → cond b (getD ls j 0 - d) 1 ≤ 1024
+    at true j d = let x = h j in omega arith
+    at false j d = omega arith

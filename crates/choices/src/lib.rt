@@ -2,6 +2,12 @@
 mod page;
 mod ways;
 
+// A part of the list of open moves: its length, and how many of its moves were written.
+pub struct Part {
+    pub length: u64,
+    pub written: usize,
+}
+
 pub use page::fill;
 pub use page::put;
 pub use ways::widths;

@@ -3,7 +3,6 @@ use Prim.Native.Nat.{ℕ, zero, suc, _+_, _-_, _*_, _/_, _%_, _≤_, _<_, _^_}
 use mathlib.Core.Bool.{Bool, true, false, not, _&&_, cond}
 use mathlib.Core.Path.{_≡_, refl, sym, ap, _∙_, subst}
 use mathlib.Core.List.{List, [], _∷_, _++_, map}
-use native.Mathlib.Nat.{mul-le-mul}
 use native.Mathlib.Omega.{arith}
 use borrow.Author.Tests.{eqb-true, eq-eqb, lt-ltb}
 use lib.Dec.{eqb, ltb, lit<}
@@ -41,14 +40,6 @@ widths-shift b (x ∷ y ∷ z ∷ []) ls h k = absurd (omega arith)
 widths-shift b (x ∷ y ∷ z ∷ w ∷ []) ls h k =
     rw (eqb-shift b x y, eqb-shift b x z, eqb-shift b y z, eqb-shift b x w, eqb-shift b y w, eqb-shift b z w)
 widths-shift b (x ∷ y ∷ z ∷ w ∷ v ∷ r) ls h k = absurd (omega arith)
-
-pub widths-small : (ts ls : List ℕ) (k : ℕ) → ((j : ℕ) → getD ls j 0 ≤ 1024) → getD (widthsOf ts ls k) 0 0 ≤ 1073741824
-unfolding widthsOf
-widths-small ts ls k h = mul-le-mul (at (ltb 1 k) 1 _) (mul-le-mul (at (ltb 2 k) 2 _) (at (ltb 3 k) 3 _))
-  where
-    at : (b : Bool) (j d : ℕ) → cond b (getD ls j 0 - d) 1 ≤ 1024
-    at true j d = let x = h j in omega arith
-    at false j d = omega arith
 
 getD-shift : (b : ℕ) (xs : List ℕ) (j : ℕ) → j < length xs → getD (shifted b xs) j 0 ≡ getD xs j 0 + b
 getD-shift b [] j h = absurd (omega arith)

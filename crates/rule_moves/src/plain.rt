@@ -4,22 +4,30 @@ ghost use mathlib.Core.List.{[], _∷_};
 ghost use Prim.Native.Nat.{ℕ, _+_, _*_, _≤_, _<_};
 ghost use lib.ListN.{length, getD, take};
 ghost use Rattle.lists.specs.Choosing.{choicesFrom};
+ghost use Rattle.choices.specs.Parts.{PartAs};
 ghost use Rattle.choices.specs.Words.{choiceWords};
 ghost use Rattle.eligible.specs.Ports.{PortCounts};
-ghost use Rattle.rule_moves.specs.Takes.{Small, countsAt, PartAs};
+ghost use Rattle.rule_moves.specs.Takes.{Small, countsAt};
+use choices::Part;
 use choices::fill;
 use choices::widths;
-use ends::Part;
+
+fn count_at(counts: &[u16; 512], t: u32) -> u64
+    requires { ⌜ (length (now counts) ≡ 512) × (t < 511) × (getD (now counts) t 0 ≤ 1024) ⌝ }
+    ensures { λ r. ⌜ r ≡ getD (now (counts .entry)) t 0 ⌝ }
+{
+    counts[t as usize] as u64
+}
 
 // The entries on each of four ports.
 fn counts_at(counts: &[u16; 512], takes: [u32; 4]) -> [u64; 4]
-    requires { ⌜ (length (now counts) ≡ 512) × Small takes ⌝ }
+    requires { ⌜ (length (now counts) ≡ 512) × Small takes × ((t : ℕ) → t < 511 → getD (now counts) t 0 ≤ 1024) ⌝ }
     ensures { λ r. ⌜ r ≡ countsAt (now (counts .entry)) takes ⌝ }
 {
-    let a = counts[takes[0] as usize] as u64;
-    let b = counts[takes[1] as usize] as u64;
-    let c = counts[takes[2] as usize] as u64;
-    let d = counts[takes[3] as usize] as u64;
+    let a = count_at(counts, takes[0]);
+    let b = count_at(counts, takes[1]);
+    let c = count_at(counts, takes[2]);
+    let d = count_at(counts, takes[3]);
     [a, b, c, d]
 }
 
@@ -48,6 +56,19 @@ pub fn plain_moves<'a>(
         return Part { length, written: 0 };
     }
     let picks = [0u32; 4];
-    let written = fill(keys, n, takes, below, k, head, picks, 0, first, count, target, at);
+    let written = fill(
+        keys,
+        n,
+        takes,
+        below,
+        k,
+        head,
+        picks,
+        0,
+        first,
+        count,
+        target,
+        at,
+    );
     Part { length, written }
 }

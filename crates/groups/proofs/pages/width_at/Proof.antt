@@ -6,8 +6,9 @@ use native.Mathlib.Omega.{arith}
 use borrow.Author.Tests.{eq-eqb, ne-eqb}
 use lib.ListN.{getD}
 use Rattle.lists.specs.Choices.{cond-true, cond-false}
+use Rattle.choices.specs.Widths.{widths-small}
 use Rattle.groups.specs.Groups.{leftIn}
-use Rattle.groups.proofs.Within.{left-small, widths-small}
+use Rattle.groups.proofs.Within.{left-small}
 use borrow.Author.Needs.{needs}
 use Rattle.groups.proofs.pages.width_at.Statement.{statement}
 use Rattle.groups.proofs.pages.width_at.Tie as tie

@@ -1,0 +1,2 @@
+pub mod PlainCount
+pub mod GroupCount
