@@ -1,8 +1,8 @@
--- What is said of a part of the list that has ends only, and that it is the list's commits or aborts.
+-- A page of ends: what is said of it, and that it is one of the open commits or of the open aborts.
 use Prim.Native.Nat.{ℕ, _-_, _≤_}
-use mathlib.Core.Bool.{Bool, true, false, _&&_, not, cond, and-true}
+use mathlib.Core.Bool.{Bool, true, false, _&&_, not, cond}
 use mathlib.Core.List.{List, [], _∷_, map}
-use mathlib.Core.Path.{_≡_, refl, sym, ap, _∙_}
+use mathlib.Core.Path.{_≡_, sym, ap, _∙_}
 use lib.ListN.{length, take, length-map}
 use Rattle.lists.specs.Lists.{any, keep, upFrom}
 use Rattle.lists.specs.Each.{keep-same, keep-both}
@@ -27,13 +27,21 @@ agrees wanted set v = cond wanted (has set v) (not (has set v))
 abbrev pub endWords : ℕ → ℕ → List ℕ
 endWords kind v = headWord kind v ∷ 0 ∷ 0 ∷ 0 ∷ 0 ∷ []
 
--- r tells the length of xs, and how many of the page's elements were written.
+-- r tells the length of xs, and how many elements the page has that was written.
 pub record EndsAs {A : Type 0} (words : A → List ℕ) (xs : List A) (first count at : ℕ) (before after : List ℕ) (r : Part) : Type 0 where
   pub total : r .length ≡ length xs
   pub few : r .length ≤ 1024
   pub paged : Paged words 5 xs first count at before after (r .written)
 
 -- ---- for callers
+
+as-moves : (end : ℕ → Move) {ms : List Move} {vs : List ℕ} {first count at : ℕ} {before after : List ℕ} {r : Part} → ms ≡ map end vs
+    → EndsAs (λ v. moveWords (end v)) vs first count at before after r → EndsAs moveWords ms first count at before after r
+as-moves end {ms} {vs} {first} {count} {at} {before} {after} {r} e p = record {
+  total = p .total ∙ sym (length-map vs end) ∙ ap length (sym e);
+  few = p .few;
+  paged = paged-same moveWords 5 (sym e) (paged-map end moveWords 5 vs first count at before after (r .written) (p .paged));
+}
 
 module _ (ceiling : ℕ) (T : Table) (S : State) (room : length (S .entries) ≤ ceiling) {globals : ℕ} (port : globals ≡ T .sizes .globals)
     {present blocked aborting ids : List ℕ} {m : ℕ} (sets : TransactionSets globals (S .entries) present blocked aborting)
@@ -43,27 +51,20 @@ module _ (ceiling : ℕ) (T : Table) (S : State) (room : length (S .entries) ≤
   openEnds end = keep (λ x. isAllowed (moveVerdict ceiling T S x)) (map end (upFrom 1 (S .next - 1)))
 
   kept : (end : ℕ → Move) (may p : ℕ → Bool) → ((v : ℕ) → may v ≡ p v)
-      → openEnds end ≡ map end (keep (λ v. any (owned v) (S .entries) && may v) (upFrom 1 (S .next - 1))) → openEnds end ≡ map end (keep p (take m ids))
+      → openEnds end ≡ map end (keep (λ v. any (owned v) (S .entries) && may v) (upFrom 1 (S .next - 1)))
+      → openEnds end ≡ map end (keep p (take m ids))
   kept end may p h e =
       let all = upFrom 1 (S .next - 1) in
       e ∙ ap (map end) (keep-same (λ v. any (owned v) (S .entries) && may v) (λ v. has present v && p v) all
       (up-each (λ v. any (owned v) (S .entries) && may v ≡ has present v && p v) 1 (S .next - 1) (λ v _ _. rw (h v, sets .present-are v)))
       ∙ sym (keep-both (has present) p all) ∙ ap (keep p) (sym (listed .list)))
 
-  commits-kept : openEnds commit ≡ map commit (keep (agrees false blocked) (take m ids))
+  pub commits-kept : openEnds commit ≡ map commit (keep (agrees false blocked) (take m ids))
   commits-kept = kept commit (λ v. mayCommit T v S) (agrees false blocked) (λ v. commit-unblocked T v S ∙ rw (sets .blocked-are v, port))
       (commits-open ceiling T S room)
 
-  aborts-kept : openEnds abort ≡ map abort (keep (agrees true aborting) (take m ids))
+  pub aborts-kept : openEnds abort ≡ map abort (keep (agrees true aborting) (take m ids))
   aborts-kept = kept abort (λ v. mayAbort v S) (agrees true aborting) (λ v. abort-marked v S ∙ sym (sets .aborting-are v)) (aborts-open ceiling T S room)
-
-  as-moves : (end : ℕ → Move) {ms : List Move} {vs : List ℕ} {first count at : ℕ} {before after : List ℕ} {r : Part} → ms ≡ map end vs
-      → EndsAs (λ v. moveWords (end v)) vs first count at before after r → EndsAs moveWords ms first count at before after r
-  as-moves end {ms} {vs} {first} {count} {at} {before} {after} {r} e p = record {
-    total = p .total ∙ sym (length-map vs end) ∙ ap length (sym e);
-    few = p .few;
-    paged = paged-same moveWords 5 (sym e) (paged-map end moveWords 5 vs first count at before after (r .written) (p .paged));
-  }
 
   module _ {first count at : ℕ} {before after : List ℕ} {r : Part} where
     -- the transactions that nothing blocks, under kind 1, are the open commits

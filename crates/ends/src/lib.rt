@@ -1,7 +1,6 @@
 // The commits and aborts on a page of the list of open moves.
 ghost use mathlib.Core.Path.{_≡_};
 ghost use mathlib.Core.Bool.{true, cond};
-ghost use mathlib.Core.List.{[], _∷_};
 ghost use Prim.Native.Nat.{_+_, _*_, _≤_, _<_};
 ghost use lib.ListN.{length, take};
 ghost use lib.Seq.{sets};
@@ -17,12 +16,11 @@ pub struct Part {
     pub written: usize,
 }
 
-// Whether v is in the set, or that it is not where that is wanted.
-fn agrees(set: &[u64; WORDS], v: u32, wanted: bool) -> bool
-    requires { ⌜ v < 65536 ⌝ }
+// Whether v is in the set if that is wanted, else whether it is not.
+fn agrees(set: &[u64; WORDS], v: u16, wanted: bool) -> bool
     ensures { λ r. ⌜ r ≡ agrees wanted (now (set .entry)) v ⌝ }
 {
-    let there = idset::has(set, v);
+    let there = idset::has(set, v as u32);
     if wanted { there } else { !there }
 }
 
@@ -32,19 +30,19 @@ fn one_if(b: bool) -> usize
     if b { 1 } else { 0 }
 }
 
-// An end, written where it is due.
-fn put_if(due: bool, target: &mut [u32], at: usize, head: u32)
-    requires { ⌜ (due ≡ true → at + 5 ≤ length (now target)) ⌝ }
-    ensures { λ _. ⌜ now (target .exit) ≡ cond due (sets (now (target .entry)) at (head ∷ 0 ∷ 0 ∷ 0 ∷ 0 ∷ [])) (now (target .entry)) ⌝ }
+// The end of v, written where it is due.
+fn put_if(due: bool, target: &mut [u32], at: usize, kind: u32, v: u16)
+    requires { ⌜ (kind < 256) × (due ≡ true → at + 5 ≤ length (now target)) ⌝ }
+    ensures { λ _. ⌜ now (target .exit) ≡ cond due (sets (now (target .entry)) at (endWords kind v)) (now (target .entry)) ⌝ }
 {
     if !due {
         return;
     }
-    put(target, at, head, [0, 0, 0, 0]);
+    put(target, at, head::head_of(kind, v as u32), [0, 0, 0, 0]);
 }
 
-// The ends of one kind of those of the first m ids that are in the set, or that are not: of them the ones from `first` on,
-// at most `count`. All ids are looked at, since the length is told.
+// The ends of one kind, commits or aborts, of those of the first m ids that are in the set, or of those that are not: a page of
+// them from `first` on. All ids are looked at, since the length is told too.
 pub fn ends(
     ids: &[u16; 1024],
     m: usize,
@@ -65,10 +63,10 @@ pub fn ends(
     let mut written = 0;
     let mut i = 0;
     while i < m {
-        let id = ids[i] as u32;
-        let hit = agrees(set, id, wanted);
+        let v = ids[i];
+        let hit = agrees(set, v, wanted);
         let due = hit & (first <= length as u64) & (written < count);
-        put_if(due, target, at + 5 * written, head::head_of(kind, id));
+        put_if(due, target, at + 5 * written, kind, v);
         written += one_if(due);
         length += one_if(hit);
         i += 1;
