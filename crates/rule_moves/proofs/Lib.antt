@@ -1,2 +1,3 @@
 pub mod PlainCount
 pub mod GroupCount
+pub mod Reactions

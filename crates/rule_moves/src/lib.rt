@@ -1,3 +1,6 @@
 // The open reactions by one rule: how many there are, and those on a page.
 mod grouped;
 mod plain;
+mod rule;
+
+pub use rule::moves_by;
