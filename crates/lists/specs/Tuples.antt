@@ -74,3 +74,23 @@ module _ {B : Type 0} (f : ℕ → List B) (q : ℕ → Bool) (n : ℕ) where
 
     pub from-here : q p ≡ true → eachFrom p ≡ f p ++ eachFrom (p + 1)
     from-here e = rw (step, e)
+
+-- the same where every number counts
+module _ {B : Type 0} (f : ℕ → List B) (n : ℕ) where
+  abbrev pub eachUp : ℕ → List B
+  eachUp p = each f (upFrom p (n - p))
+
+  pub up-start : eachUp 0 ≡ each f (upFrom 0 n)
+  up-start = rw sub-zero
+
+  pub up-end : (p : ℕ) → n ≤ p → eachUp p ≡ []
+  up-end p h = let e : n - p ≡ 0 = omega arith in rw e
+
+  pub up-here : (p : ℕ) → p < n → eachUp p ≡ f p ++ eachUp (p + 1)
+  up-here p h = rw (step f (λ _. true) n p h)
+
+pub each-up : {B : Type 0} (f g : ℕ → List B) (i n : ℕ) → ((r : ℕ) → r < i + n → f r ≡ g r) → each f (upFrom i n) ≡ each g (upFrom i n)
+each-up f g i zero h = refl
+each-up f g i (suc n) h =
+    let r = each-up f g (suc i) n (λ r l. h r (omega arith)) in
+    rw (h i (omega arith), r)
