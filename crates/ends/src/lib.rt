@@ -1,10 +1,10 @@
 // The commits and aborts on a page of the list of open moves.
 ghost use mathlib.Core.Path.{_≡_};
-ghost use mathlib.Core.Bool.{true, cond};
+ghost use mathlib.Core.List.{[]};
 ghost use Prim.Native.Nat.{_+_, _*_, _≤_, _<_};
 ghost use lib.ListN.{length, take};
-ghost use lib.Seq.{sets};
-ghost use Rattle.lists.specs.Lists.{oneIf, keep};
+ghost use Rattle.lists.specs.Lists.{oneIf, keep, keepIf};
+ghost use Rattle.lists.specs.Pages.{Paged};
 ghost use Rattle.ends.specs.Listed.{agrees, endWords, EndsAs};
 use choices::put;
 use idset::WORDS;
@@ -30,15 +30,19 @@ fn one_if(b: bool) -> usize
     if b { 1 } else { 0 }
 }
 
-// The end of v, written where it is due.
-fn put_if(due: bool, target: &mut [u32], at: usize, kind: u32, v: u16)
-    requires { ⌜ (kind < 256) × (due ≡ true → at + 5 ≤ length (now target)) ⌝ }
-    ensures { λ _. ⌜ now (target .exit) ≡ cond due (sets (now (target .entry)) at (endWords kind v)) (now (target .entry)) ⌝ }
+// The end of v, written where it is due and there is room for one more; how many were written.
+fn put_if(due: bool, kind: u32, v: u16, left: usize, target: &mut [u32], at: usize) -> usize
+    requires { ⌜ (kind < 256) × (at + 5 * left ≤ length (now target)) ⌝ }
+    ensures { λ r. ⌜ Paged (endWords kind) 5 (keepIf due v []) 0 left at (now (target .entry)) (now (target .exit)) r ⌝ }
 {
     if !due {
-        return;
+        return 0;
+    }
+    if left == 0 {
+        return 0;
     }
     put(target, at, head::head_of(kind, v as u32), [0, 0, 0, 0]);
+    1
 }
 
 // The ends of one kind, commits or aborts, of those of the first m ids that are in the set, or of those that are not: a page of
@@ -65,9 +69,8 @@ pub fn ends(
     while i < m {
         let v = ids[i];
         let hit = agrees(set, v, wanted);
-        let due = hit & (first <= length as u64) & (written < count);
-        put_if(due, target, at + 5 * written, kind, v);
-        written += one_if(due);
+        let due = hit & (first <= length as u64);
+        written += put_if(due, kind, v, count - written, target, at + 5 * written);
         length += one_if(hit);
         i += 1;
     }

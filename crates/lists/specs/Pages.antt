@@ -104,6 +104,12 @@ module _ {A : Type 0} (words : A → List ℕ) (w : ℕ) where
       → Paged ys first count at before after n
   paged-same e p = rw e at p
 
+  -- what is said of a page is said of another list's page that is the same
+  pub paged-page : {xs ys : List A} {first start count at : ℕ} {before after : List ℕ} {n : ℕ} → page first count xs ≡ page start count ys
+      → Paged xs first count at before after n → Paged ys start count at before after n
+  paged-page {at = at} {before = before} e p =
+      record { number = p .number ∙ ap length e; contents = p .contents ∙ ap (λ (l : List A). sets before at (each words l)) e }
+
   pub paging-start : (xs : List A) (first count at : ℕ) (before : List ℕ) → Paging xs xs first count first 0 at before before
   paging-start xs first count at before =
       record { seen = []; whole = refl; left = sym (sub-zero first); paged = paged-none first count at before }
