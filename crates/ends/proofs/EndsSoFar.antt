@@ -13,7 +13,8 @@ use Rattle.lists.specs.Counting.{count-le, length-keep}
 use Rattle.lists.specs.Parts.{keepIf-append}
 use Rattle.lists.specs.Prefix.{prefix-tails}
 use Rattle.lists.specs.Pages.{page, page-past, Paged, paged-le, paged-length, paged-page, Paging, paging-start, paging-more, paging-end}
-use Rattle.ends.specs.Listed.{endWords, EndsAs}
+use Rattle.choices.specs.Parts.{PartAs}
+use Rattle.ends.specs.Listed.{endWords}
 
 -- An id's end is due where the id is listed and as many as are passed over are listed before it: then it is next on the page.
 due-page : (v first len count : ℕ) (hit : Bool) → page 0 count (keepIf (hit && leb first len) v []) ≡ page (first - len) count (keepIf hit v [])
@@ -74,11 +75,7 @@ module _ {p : ℕ → Bool} {kind : ℕ} {ids : List ℕ} {m first count at : �
         }
 
     pub ends-done : m ≤ i → m ≤ 1024
-        → EndsAs (endWords kind) (keep p (take m ids)) first count at before after (record { length = len; written = written })
+        → PartAs (endWords kind) (keep p (take m ids)) first count at before after (record { length = len; written = written }) × (len ≤ 1024)
     ends-done h small =
         let none : keep p (drop i (take m ids)) ≡ [] = ap (keep p) (prefix-tails 0 ids m enough .none i h) in
-        record {
-          total = omega (arith, l .counted, ap length none);
-          few = omega (arith, l .few, l .within);
-          paged = paging-end (endWords kind) 5 (λ v. refl) (l .paging) none;
-        }
+        (record { total = omega (arith, l .counted, ap length none); paged = paging-end (endWords kind) 5 (λ v. refl) (l .paging) none }, omega (arith, l .few, l .within))

@@ -3,21 +3,19 @@ use Prim.Native.Nat.{ℕ, _-_, _≤_}
 use mathlib.Core.Bool.{Bool, true, false, _&&_, not, cond}
 use mathlib.Core.List.{List, [], _∷_, map}
 use mathlib.Core.Path.{_≡_, sym, ap, _∙_}
-use lib.ListN.{length, take, length-map}
+use lib.ListN.{length, take}
 use Rattle.lists.specs.Lists.{any, keep, upFrom}
 use Rattle.lists.specs.Each.{keep-same, keep-both}
 use Rattle.lists.specs.UpFrom.{up-each}
-use Rattle.lists.specs.Pages.{Paged, paged-map, paged-same}
 use Rattle.semantics.specs.Words.{headWord}
 use Rattle.semantics.specs.Table.{Table}
 use Rattle.semantics.specs.State.{State, owned}
 use Rattle.semantics.specs.Move.{Move, commit, abort, mayCommit, mayAbort, moveVerdict}
-use Rattle.semantics.specs.Enabled.{isAllowed, moveWords}
+use Rattle.semantics.specs.Enabled.{isAllowed}
 use Rattle.enabled.specs.Ends.{commits-open, aborts-open}
 use Rattle.idset.specs.IdSet.{has}
 use Rattle.transactions.specs.Sets.{TransactionSets, commit-unblocked, abort-marked}
 use Rattle.transactions.specs.Ids.{IdsBelow}
-use Rattle.ends.specs.declared.Part.{Part}
 
 -- v is in the set where that is wanted, and else it is not
 abbrev pub agrees : Bool → List ℕ → ℕ → Bool
@@ -27,21 +25,7 @@ agrees wanted set v = cond wanted (has set v) (not (has set v))
 abbrev pub endWords : ℕ → ℕ → List ℕ
 endWords kind v = headWord kind v ∷ 0 ∷ 0 ∷ 0 ∷ 0 ∷ []
 
--- r tells the length of xs, and how many elements the page has that was written.
-pub record EndsAs {A : Type 0} (words : A → List ℕ) (xs : List A) (first count at : ℕ) (before after : List ℕ) (r : Part) : Type 0 where
-  pub total : r .length ≡ length xs
-  pub few : r .length ≤ 1024
-  pub paged : Paged words 5 xs first count at before after (r .written)
-
 -- ---- for callers
-
-as-moves : (end : ℕ → Move) {ms : List Move} {vs : List ℕ} {first count at : ℕ} {before after : List ℕ} {r : Part} → ms ≡ map end vs
-    → EndsAs (λ v. moveWords (end v)) vs first count at before after r → EndsAs moveWords ms first count at before after r
-as-moves end {ms} {vs} {first} {count} {at} {before} {after} {r} e p = record {
-  total = p .total ∙ sym (length-map vs end) ∙ ap length (sym e);
-  few = p .few;
-  paged = paged-same moveWords 5 (sym e) (paged-map end moveWords 5 vs first count at before after (r .written) (p .paged));
-}
 
 module _ (ceiling : ℕ) (T : Table) (S : State) (room : length (S .entries) ≤ ceiling) {globals : ℕ} (port : globals ≡ T .sizes .globals)
     {present blocked aborting ids : List ℕ} {m : ℕ} (sets : TransactionSets globals (S .entries) present blocked aborting)
@@ -65,14 +49,3 @@ module _ (ceiling : ℕ) (T : Table) (S : State) (room : length (S .entries) ≤
 
   pub aborts-kept : openEnds abort ≡ map abort (keep (agrees true aborting) (take m ids))
   aborts-kept = kept abort (λ v. mayAbort v S) (agrees true aborting) (λ v. abort-marked v S ∙ sym (sets .aborting-are v)) (aborts-open ceiling T S room)
-
-  module _ {first count at : ℕ} {before after : List ℕ} {r : Part} where
-    -- the transactions that nothing blocks, under kind 1, are the open commits
-    pub commits-listed : EndsAs (endWords 1) (keep (agrees false blocked) (take m ids)) first count at before after r
-        → EndsAs moveWords (keep (λ x. isAllowed (moveVerdict ceiling T S x)) (map commit (upFrom 1 (S .next - 1)))) first count at before after r
-    commits-listed = as-moves commit commits-kept
-
-    -- those that own an abort mark, under kind 2, are the open aborts
-    pub aborts-listed : EndsAs (endWords 2) (keep (agrees true aborting) (take m ids)) first count at before after r
-        → EndsAs moveWords (keep (λ x. isAllowed (moveVerdict ceiling T S x)) (map abort (upFrom 1 (S .next - 1)))) first count at before after r
-    aborts-listed = as-moves abort aborts-kept

@@ -5,16 +5,12 @@ ghost use Prim.Native.Nat.{_+_, _*_, _≤_, _<_};
 ghost use lib.ListN.{length, take};
 ghost use Rattle.lists.specs.Lists.{oneIf, keep, keepIf};
 ghost use Rattle.lists.specs.Pages.{Paged};
-ghost use Rattle.ends.specs.Listed.{agrees, endWords, EndsAs};
+ghost use Rattle.choices.specs.Parts.{PartAs};
+ghost use Rattle.ends.specs.Listed.{agrees, endWords};
+use choices::Part;
 use choices::put;
 use idset::WORDS;
 use words::head;
-
-// A part of the list: its length, and how many of its moves were written.
-pub struct Part {
-    pub length: u64,
-    pub written: usize,
-}
 
 // Whether v is in the set if that is wanted, else whether it is not.
 fn agrees(set: &[u64; WORDS], v: u16, wanted: bool) -> bool
@@ -60,8 +56,9 @@ pub fn ends(
 ) -> Part
     requires { ⌜ (m ≤ 1024) × (length (now ids) ≡ 1024) × (kind < 256) ⌝ }
     requires { ⌜ (count ≤ 256) × (at + 5 * count ≤ length (now target)) ⌝ }
-    ensures { λ r. ⌜ EndsAs (endWords kind) (keep (agrees wanted (now (set .entry))) (take m (now (ids .entry))))
+    ensures { λ r. ⌜ PartAs (endWords kind) (keep (agrees wanted (now (set .entry))) (take m (now (ids .entry))))
         first count at (now (target .entry)) (now (target .exit)) r ⌝ }
+    ensures { λ r. ⌜ r .length ≤ 1024 ⌝ }
 {
     let mut length = 0;
     let mut written = 0;

@@ -67,5 +67,8 @@ pub fn reactions<'a>(
         done += part.written;
         r += 1;
     }
-    Part { length, written: done }
+    Part {
+        length,
+        written: done,
+    }
 }

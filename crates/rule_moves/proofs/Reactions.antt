@@ -6,11 +6,11 @@ use mathlib.Core.List.{List, [], _∷_, _++_, map}
 use native.Mathlib.Omega.{arith}
 use borrow.Author.Tests.{ltb-true, eq-eqb, ne-eqb}
 use lib.Dec.{ltb}
-use lib.ListN.{length, getD, take, set, replicate, length-map, length-take}
+use lib.ListN.{length, getD, take, set, replicate, length-take}
 use lib.Seq.{sets, getD-take}
 use Rattle.lists.specs.Each.{All, All-getD}
 use Rattle.lists.specs.Choices.{by-bool}
-use Rattle.lists.specs.Pages.{Paged, paged-map, paged-none}
+use Rattle.lists.specs.Pages.{paged-none}
 use Rattle.lists.specs.Choosing.{choicesFrom, choicesByGroup}
 use Rattle.semantics.specs.Table.{Rule, consumed}
 use Rattle.semantics.specs.Move.{react}
@@ -18,7 +18,7 @@ use Rattle.semantics.specs.Enabled.{moveWords}
 use Rattle.enabled.specs.Reactions.{choicesOf}
 use Rattle.choices.specs.declared.Part.{Part}
 use Rattle.choices.specs.Words.{choiceWords}
-use Rattle.choices.specs.Parts.{PartAs}
+use Rattle.choices.specs.Parts.{PartAs, part-map}
 use Rattle.rule_moves.specs.Takes.{Small, frontOf}
 
 -- ---- the words of a reaction
@@ -47,15 +47,11 @@ over-blank (a ∷ b ∷ c ∷ d ∷ xs) = sets-past (a ∷ b ∷ c ∷ d ∷ [])
 react-words : (r : ℕ) (c : List ℕ) → choiceWords r blank 0 c ≡ moveWords (react r c)
 react-words r c = let e : r ≡ 0 * 16777216 + r = omega arith in ap (λ (l : List ℕ). r ∷ l) (over-blank c) ∙ ap (λ (h : ℕ). h ∷ take 4 (c ++ replicate 4 0)) e
 
-pub as-reactions : {r : ℕ} {cs : List (List ℕ)} {first count at : ℕ} {before after : List ℕ} {p : Part}
+as-reactions : {r : ℕ} {cs : List (List ℕ)} {first count at : ℕ} {before after : List ℕ} {p : Part}
     → PartAs (choiceWords r blank 0) cs first count at before after p → PartAs moveWords (map (react r) cs) first count at before after p
 as-reactions {r} {cs} {first} {count} {at} {before} {after} {p} h =
     let w : choiceWords r blank 0 ≡ (λ c. moveWords (react r c)) = fun-ext (react-words r) in
-    record {
-      total = h .total ∙ sym (length-map cs (react r));
-      paged = paged-map (react r) moveWords 5 cs first count at before after (p .written)
-          (subst (λ (f : List ℕ → List ℕ). Paged f 5 cs first count at before after (p .written)) w (h .paged));
-    }
+    part-map (react r) moveWords (subst (λ (f : List ℕ → List ℕ). PartAs f cs first count at before after p) w h)
 
 -- where the rule is open, and where it is not
 pub open-moves : (r : ℕ) {b : Bool} (cs : List (List ℕ)) {first count at : ℕ} {before after : List ℕ} {p : Part} → b ≡ true
