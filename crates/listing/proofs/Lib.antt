@@ -1,1 +1,3 @@
 pub mod Whole
+pub mod Open
+pub mod Loaded

@@ -39,3 +39,7 @@ module _ {x : rules.Rule} {R : Rule} (d : Decodes x R) where
 pub from-zero : (d : ℕ) {xs : List Move} {first count : ℕ} {before after : List ℕ} {n : ℕ} → Paged moveWords 5 xs first count (5 * d) before after n
     → Paged moveWords 5 xs first count (0 + 5 * d) before after n
 from-zero d h = rw (zero-add (5 * d)) h
+
+pub part-from-zero : (d : ℕ) {xs : List Move} {first count : ℕ} {before after : List ℕ} {p : Part} → PartAs moveWords xs first count (5 * d) before after p
+    → PartAs moveWords xs first count (0 + 5 * d) before after p
+part-from-zero d h = rw (zero-add (5 * d)) h
