@@ -1,5 +1,6 @@
 pub mod Answers
 pub mod Results
+pub mod Listing
 pub mod Running
 pub mod Moving
 pub mod Serializing

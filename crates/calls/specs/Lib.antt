@@ -1,3 +1,4 @@
 pub mod Results
+pub mod Lists
 pub mod Logs
 pub mod Moves

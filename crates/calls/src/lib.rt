@@ -3,10 +3,12 @@
 mod checks;
 mod logs;
 mod moves;
+mod pages;
 mod serials;
 
 pub use checks::check_state;
 pub use checks::check_table;
 pub use logs::run;
 pub use moves::make_move;
+pub use pages::list_moves;
 pub use serials::serialize;
