@@ -1,8 +1,10 @@
 // Document 01's numbers, as code.
 ghost use mathlib.Core.Path.{_≡_};
-ghost use Rattle.semantics.specs.Answers.{number, answerOf};
+ghost use Rattle.semantics.specs.Answers.{number, answerOf, pageAnswer};
 use semantics::Answer;
+use semantics::Listed;
 use semantics::Outcome;
+use semantics::Page;
 use semantics::Refusal;
 
 pub fn number_of(refusal: Refusal) -> u32
@@ -56,5 +58,17 @@ pub fn answer_of(outcome: Outcome) -> Answer
             place,
             own: number_of(refusal),
         },
+    }
+}
+
+pub fn page_of(listed: Listed) -> Page
+    ensures { λ r. ⌜ r ≡ pageAnswer listed ⌝ }
+{
+    let outcome = listed.outcome;
+    let answer = answer_of(outcome);
+    Page {
+        number: answer.number,
+        words: answer.words,
+        length: listed.length,
     }
 }

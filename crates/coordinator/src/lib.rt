@@ -1,8 +1,10 @@
 // The public calls for C and Rust: the archive of this crate is the one that buyers link.
 ghost use mathlib.Core.Path.{_≡_};
-ghost use Rattle.semantics.specs.Answers.{checkTable, checkState, makeMove, makeMoveTarget, runLog, runLogTarget, serialize, serializeTarget};
+ghost use Rattle.semantics.specs.Answers.{checkTable, checkState, makeMove, makeMoveTarget, listMoves, listMovesTarget, runLog, runLogTarget, serialize, serializeTarget};
 use answers::answer_of;
+use answers::page_of;
 use semantics::Answer;
+use semantics::Page;
 
 #[no_mangle]
 pub extern "C" fn coordinator_check_table(table: &[u32]) -> Answer
@@ -29,6 +31,20 @@ pub extern "C" fn coordinator_move<'a>(
     ensures contents { λ _. ⌜ now (target .exit) ≡ makeMoveTarget (now (table .entry)) (now (state .entry)) (now (mv .entry)) (now (target .entry)) ⌝ }
 {
     answer_of(calls::make_move(table, state, mv, target))
+}
+
+#[no_mangle]
+pub extern "C" fn coordinator_list_moves<'a>(
+    table: &'a [u32],
+    state: &'a [u32],
+    first: u64,
+    count: u32,
+    target: &mut [u32],
+) -> Page
+    ensures answer { λ r. ⌜ r ≡ listMoves (now (table .entry)) (now (state .entry)) first count (now (target .entry)) ⌝ }
+    ensures contents { λ _. ⌜ now (target .exit) ≡ listMovesTarget (now (table .entry)) (now (state .entry)) first count (now (target .entry)) ⌝ }
+{
+    page_of(calls::list_moves(table, state, first, count, target))
 }
 
 #[no_mangle]
