@@ -38,13 +38,32 @@ impl Answer {
 /// A call on a table, a state, a move or log, and a target.
 pub type OnTarget = fn(&[u32], &[u32], &[u32], &mut [u32]) -> Answer;
 
-/// 01's order of faults for each call: the first one that an input has counts. 15 comes twice, for
-/// the log's start and its end.
+/// What the list of enabled moves answers: the words of a page, and how many moves the whole list has,
+/// 0 if it is refused.
+#[derive(Clone, Copy, Debug, PartialEq, Eq)]
+pub struct Page {
+    pub answer: Answer,
+    pub length: u64,
+}
+
+impl Page {
+    /// A list that is refused.
+    pub fn refused(number: u32) -> Page {
+        Page { answer: Answer::Refused(number), length: 0 }
+    }
+}
+
+/// The list on a table and a state: a first place, a count, and a target.
+pub type OnPage = fn(&[u32], &[u32], u64, u32, &mut [u32]) -> Page;
+
+/// The order of faults for each call, by 01 and 02: the first one that an input has counts. 15 comes
+/// twice, for the log's start and its end.
 pub mod order {
     pub const CHECK_TABLE: [u32; 2] = [1, 2];
     pub const CHECK_STATE: [u32; 4] = [1, 2, 3, 4];
     pub const MOVE: [u32; 12] = [1, 2, 3, 4, 5, 6, 7, 8, 9, 10, 11, 12];
     pub const RUN: [u32; 7] = [1, 2, 3, 4, 13, 6, 16];
     pub const SERIALIZE: [u32; 11] = [1, 2, 3, 4, 13, 6, 14, 15, 16, 15, 17];
+    pub const LIST_MOVES: [u32; 5] = [1, 2, 3, 4, 6];
     pub const PROGRAM: [u32; 5] = [1, 2, 3, 4, 13];
 }
