@@ -1,4 +1,5 @@
 //! What a public call answers: one type for the model, the plain code and the library.
+use crate::words::page_target;
 
 #[derive(Clone, Copy, Debug, PartialEq, Eq)]
 pub enum Answer {
@@ -55,6 +56,20 @@ impl Page {
 
 /// The list on a table and a state: a first place, a count, and a target.
 pub type OnPage = fn(&[u32], &[u32], u64, u32, &mut [u32]) -> Page;
+
+/// A first place and a count as words, for what measures all calls alike.
+pub fn page_words(first: u64, count: u32) -> Vec<u32> {
+    vec![first as u32, (first >> 32) as u32, count]
+}
+
+/// The list in the shape of the other calls. The length goes behind the longest page, so that a target
+/// has all that is answered.
+pub fn page_on_target(call: OnPage, table: &[u32], state: &[u32], asked: &[u32], target: &mut [u32]) -> Answer {
+    let (page, behind) = target.split_at_mut(page_target(u32::MAX));
+    let Page { answer, length } = call(table, state, u64::from(asked[1]) << 32 | u64::from(asked[0]), asked[2], page);
+    behind[..2].copy_from_slice(&[length as u32, (length >> 32) as u32]);
+    answer
+}
 
 /// The order of faults for each call, by 01 and 02: the first one that an input has counts. 15 comes
 /// twice, for the log's start and its end.

@@ -10,7 +10,7 @@ pub const MAX_NEXT: u32 = 65_536;
 pub const MAX_MOVES: usize = 1024;
 /// A target for a state must hold the largest one.
 pub const STATE_TARGET: usize = 2 + 2 * MAX_ENTRIES;
-/// A page of the list of enabled moves has no more; a larger count is read as this.
+/// A page of the list of enabled moves has no more, whatever the count.
 pub const MAX_PAGE_MOVES: usize = 256;
 
 /// The words that a target for a page of this count must have.

@@ -4,8 +4,8 @@ use super::state::{Marks, State};
 use super::table::{Class, Rule, Table};
 use crate::words::{act, kind, MAX_CONSUMES, MAX_ENTRIES, MAX_NEXT};
 
-/// A key is a port, and for a message on a local port that many times its group besides: its
-/// transaction's place among the open ones.
+/// The key of a message is its port, and on a local port so many times its group besides: the place of
+/// its transaction among the open ones.
 const GROUP: u32 = 512;
 /// The key of an entry that no rule may take.
 const NO_KEY: u32 = 256;
@@ -66,11 +66,11 @@ impl<'a> List<'a> {
         match rule.class {
             Class::Local => {
                 let counts = self.counts(&takes);
-                self.firsts(&takes).map(|(_, group)| takes.widths(|j| counts[j][group])[0]).sum()
+                self.firsts(&takes).map(|(_, group)| takes.ways(|j| counts[j][group])).sum()
             }
             _ => {
                 let firsts = u64::from(self.on_port[takes.ports[0] as usize]);
-                firsts * takes.widths(|j| self.on_port[takes.ports[j] as usize])[0]
+                firsts * takes.ways(|j| self.on_port[takes.ports[j] as usize])
             }
         }
     }
@@ -80,9 +80,8 @@ impl<'a> List<'a> {
         let mut counts = [[0; MAX_ENTRIES]; MAX_CONSUMES];
         for j in 1..takes.count {
             for &key in &self.keys {
-                if key % GROUP == takes.ports[j] {
-                    counts[j][(key / GROUP) as usize] += 1;
-                }
+                // Without a branch, since the ports follow no pattern.
+                counts[j][(key / GROUP) as usize % MAX_ENTRIES] += u16::from(key % GROUP == takes.ports[j]);
             }
         }
         counts
@@ -101,11 +100,9 @@ impl<'a> List<'a> {
             if page.full() {
                 break;
             }
-            if reactions <= page.skip {
-                page.skip -= reactions;
-                continue;
+            if !page.skips(reactions) {
+                self.reactions(number as u32, rule, &mut page);
             }
-            self.reactions(number as u32, rule, &mut page);
         }
         for (kind, ids) in [(act::COMMIT, &self.commits), (act::ABORT, &self.aborts)] {
             for id in ids.numbers(self.next) {
@@ -118,28 +115,23 @@ impl<'a> List<'a> {
         page.filled
     }
 
-    fn reactions(&self, number: u32, rule: &Rule, page: &mut Page) {
+    fn reactions(&self, head: u32, rule: &Rule, page: &mut Page) {
         let takes = Takes::new(self.table, rule);
         let mut picks = [0; MAX_CONSUMES];
         if rule.class != Class::Local {
             let widths = takes.widths(|j| self.on_port[takes.ports[j] as usize]);
-            return self.choose(
-                &Choice { head: number, count: takes.count, keys: takes.ports, widths },
-                0,
-                &mut picks,
-                page,
-            );
+            let choice = Choice { head, count: takes.count, keys: takes.ports, widths };
+            return self.choose(&choice, 0, &mut picks, page);
         }
         let counts = self.counts(&takes);
         for (place, group) in self.firsts(&takes) {
             let widths = takes.widths(|j| counts[j][group]);
-            if widths[0] <= page.skip {
-                page.skip -= widths[0];
+            if page.skips(widths[0]) {
                 continue;
             }
             picks[0] = place as u32;
             let keys = takes.ports.map(|port| group as u32 * GROUP + port);
-            self.choose(&Choice { head: number, count: takes.count, keys, widths }, 1, &mut picks, page);
+            self.choose(&Choice { head, count: takes.count, keys, widths }, 1, &mut picks, page);
             if page.full() {
                 return;
             }
@@ -158,11 +150,7 @@ impl<'a> List<'a> {
                 continue;
             }
             for (place, &other) in (32 * chunk as u32..).zip(keys) {
-                if other != key || picks[..at].contains(&place) {
-                    continue;
-                }
-                if width <= page.skip {
-                    page.skip -= width;
+                if other != key || picks[..at].contains(&place) || page.skips(width) {
                     continue;
                 }
                 picks[at] = place;
@@ -172,7 +160,6 @@ impl<'a> List<'a> {
                 }
             }
         }
-        picks[at] = 0;
     }
 }
 
@@ -207,7 +194,12 @@ impl Takes {
         takes
     }
 
-    /// For each consume, in how many ways those behind it can be filled, given how many messages there are for each.
+    /// In how many ways the consumes behind the first can be filled, given how many messages there are for each.
+    fn ways<T: Into<u32>>(&self, messages: impl Fn(usize) -> T) -> u64 {
+        (1..self.count).map(|j| u64::from(messages(j).into().saturating_sub(self.earlier[j]))).product()
+    }
+
+    /// For each consume, the ways of those behind it.
     fn widths<T: Into<u32>>(&self, messages: impl Fn(usize) -> T) -> [u64; MAX_CONSUMES] {
         let mut widths = [1; MAX_CONSUMES];
         for j in (1..self.count).rev() {
@@ -237,13 +229,20 @@ impl Page<'_> {
         self.filled == self.words.len()
     }
 
+    /// Whether the next moves of the list, so many, all stand before the page.
+    fn skips(&mut self, moves: u64) -> bool {
+        let skips = moves <= self.skip;
+        if skips {
+            self.skip -= moves;
+        }
+        skips
+    }
+
     /// The next move of the list.
     fn offer(&mut self, head: u32, [a, b, c, d]: [u32; 4]) {
-        if self.skip > 0 {
-            self.skip -= 1;
-            return;
+        if !self.skips(1) {
+            self.words[self.filled..self.filled + 5].copy_from_slice(&[head, a, b, c, d]);
+            self.filled += 5;
         }
-        self.words[self.filled..self.filled + 5].copy_from_slice(&[head, a, b, c, d]);
-        self.filled += 5;
     }
 }
