@@ -28,6 +28,9 @@
 //! let mv = react(0, &[0]);
 //! let after = make_move(Table::new(&table), State::new(&start), Move::new(&mv), &mut target)?;
 //! assert_eq!(after.next(), Some(2));
+//!
+//! // What can be done next: nothing takes the message inside, so the transaction cannot end either.
+//! assert_eq!(enabled_moves(Table::new(&table), after)?.count(), 0);
 //! # Ok::<(), Refusal>(())
 //! ```
 #![warn(missing_docs)]

@@ -50,6 +50,21 @@ pub struct EnabledMoves<'a> {
 }
 
 /// The moves that can be made in a state, in the order of [`list_moves`]. Refusals: 1 to 4.
+///
+/// ```
+/// use coordinator::*;
+///
+/// // One message for one.
+/// let received = Value::Received(0);
+/// let table = TableBuilder::new(2, 0, 0)
+///     .rule([Atom::Consume { port: 0 }, Atom::Emit { port: 1, value: received }])
+///     .words();
+/// let state = StateBuilder::new(1).message(0, 0, 7).message(0, 1, 8).message(0, 0, 9).words();
+///
+/// let moves = enabled_moves(Table::new(&table), State::new(&state))?;
+/// assert_eq!(moves.collect::<Vec<_>>(), [react(0, &[0]), react(0, &[2])]);
+/// # Ok::<(), Refusal>(())
+/// ```
 pub fn enabled_moves<'a>(table: Table<'a>, state: State<'a>) -> Result<EnabledMoves<'a>, Refusal> {
     let page = [0; MOVE_WORDS * MAX_PAGE_MOVES];
     let mut moves = EnabledMoves { table, state, length: 0, place: 0, page, first: 0, end: 0 };
