@@ -394,9 +394,16 @@ fn full_page(table: &[u32], state: &[u32], first: u64, length: u64) -> Vec<u32> 
 #[test]
 fn long_lists() {
     let mut random = Random::new(906);
-    for (class, open, ports) in
-        [(0, 0, [8, 4, 4]), (0, 0, [200, 0, 0]), (1, 300, [8, 4, 4]), (1, 3, [1, 12, 0]), (2, 300, [8, 4, 4])]
-    {
+    for (class, open, ports) in [
+        (0, 0, [8, 4, 4]),
+        (0, 0, [200, 0, 0]),
+        (1, 300, [8, 4, 4]),
+        (1, 3, [1, 12, 0]),
+        (1, 1, [0, 1, 0]),
+        (1, 600, [0, 1, 0]),
+        (2, 300, [8, 4, 4]),
+        (2, 900, [0, 0, 1]),
+    ] {
         let table = fours(&mut random, ports, class);
         let state = spread(&mut random, &table, class, 1_024, open);
         let borders = borders(&table, &state.words());
@@ -422,6 +429,26 @@ fn long_lists() {
         full_page(&table, &state, length.saturating_sub(256), length);
         gives(Asked::new(length, 256).of_long(&table, &state), &[], length);
     }
+}
+
+// Catches transactions that are counted together, and ids that are looked for in too few words: as many
+// as a state can hold, far apart, and messages in the first and the last of them.
+#[test]
+fn as_many_transactions_as_fit() {
+    let rules = vec![vec![Atom::consume(0), Atom::consume(1)]];
+    let table = Table { global: 0, local: 2, merge: 0, rules }.words();
+    let ids: Vec<u32> = (1..=1_020).map(|place| 64 * place).collect();
+    let [first, .., other, last] = ids[..] else { unreachable!() };
+    let mut entries: Vec<Entry> = ids.iter().map(|&id| Entry::member_mark(id, id)).collect();
+    for (owner, port) in [(first, 0), (last, 1), (other, 1), (last, 0)] {
+        entries.push(Entry::message(owner, port, 5));
+    }
+    let state = State { next: 65_281, entries }.words();
+    let commits = ids[1..1_018].iter().map(|&id| Move::commit(id));
+    let list: Vec<Move> = [Move::react(0, &[1_023, 1_021])].into_iter().chain(commits).collect();
+    assert_eq!(in_pages(&table, &state, 256), words(&list));
+    gives(Asked::new(0, 256).of(&table, &state), &list[..256], 1_018);
+    gives(Asked::new(1_017, 256).of(&table, &state), &list[1_017..], 1_018);
 }
 
 /// The move at a place of the list of 64 rules that each take any four of 1,024 messages: the pick of a
