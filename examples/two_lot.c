@@ -1,5 +1,6 @@
 /*
- * Log (a) of document 01's two-lot plant, and case (b): its commit one move too early.
+ * Log (a) of document 01's two-lot plant, case (b): its commit one move too early, and the moves that
+ * are enabled at the start.
  */
 #include "coordinator.h"
 
@@ -46,9 +47,26 @@ static void run(const char *name, const uint32_t *log, size_t log_len)
     }
 }
 
+static void list(void)
+{
+    uint32_t target[COORDINATOR_PAGE_TARGET_WORDS(COORDINATOR_MAX_PAGE_MOVES)];
+    const uint32_t *mv;
+    uint64_t first = 0;
+    coordinator_page page;
+    do {
+        page = coordinator_list_moves(table, LENGTH(table), start, LENGTH(start), first, COORDINATOR_MAX_PAGE_MOVES,
+                                      target, LENGTH(target));
+        for (mv = target; mv < target + page.words; mv += COORDINATOR_MOVE_WORDS, first++) {
+            printf("move %" PRIu64 " of %" PRIu64 ": 0x%08" PRIx32 " %" PRIu32 " %" PRIu32 " %" PRIu32 " %" PRIu32 "\n",
+                   first, page.length, mv[0], mv[1], mv[2], mv[3], mv[4]);
+        }
+    } while (first < page.length);
+}
+
 int main(void)
 {
     run("(a)", log_a, LENGTH(log_a));
     run("(b)", log_b, LENGTH(log_b));
+    list();
     return 0;
 }

@@ -10,8 +10,8 @@
  * and the target overlaps none of the other lists. Nothing is kept between calls, nothing is
  * allocated, and calls may be made from several threads at once.
  *
- * A refused call leaves the whole target as it was. An accepted one writes answer.words words to
- * its front and leaves the rest as it was.
+ * A refused call leaves the whole target as it was. An accepted one writes as many words to its
+ * front as the answer says and leaves the rest as it was.
  *
  * Stack: every call runs in a thread of COORDINATOR_STACK_BYTES. The figure with each call is the
  * most that was measured at full size, rounded up.
@@ -23,6 +23,7 @@
  *   consume, emit, begin        take, give, open
  *   abort mark, member mark     stop mark, lot mark
  *   commit, abort               release, call off
+ *   enabled move                open move (document 02)
  */
 #ifndef COORDINATOR_H
 #define COORDINATOR_H
@@ -34,6 +35,9 @@
 extern "C" {
 #endif
 
+/* Raised when a struct or a signature below changes; a call that is added changes neither. */
+#define COORDINATOR_ABI 1u
+
 /* Limits and sizes. */
 #define COORDINATOR_MAX_PORTS 256u       /* of a table, all three classes together */
 #define COORDINATOR_MAX_RULES 64u        /* of a table */
@@ -43,6 +47,7 @@ extern "C" {
 #define COORDINATOR_MAX_ENTRIES 1024u    /* of a state */
 #define COORDINATOR_MAX_NEXT 65536u      /* next id (ticket) of a state */
 #define COORDINATOR_MAX_MOVES 1024u      /* of a log */
+#define COORDINATOR_MAX_PAGE_MOVES 256u  /* of a page of the list of enabled moves, whatever is asked for */
 #define COORDINATOR_MOVE_WORDS 5u
 #define COORDINATOR_STATE_TARGET_WORDS 2050u /* of a target for a state, however small the state */
 #define COORDINATOR_STACK_BYTES 262144u
@@ -51,6 +56,9 @@ extern "C" {
 #define COORDINATOR_TABLE_WORDS(atoms) (5u + 2u * (atoms))
 #define COORDINATOR_STATE_WORDS(entries) (2u + 2u * (entries))
 #define COORDINATOR_LOG_WORDS(moves) (1u + 5u * (moves))
+
+/* Words of a target for a page of this count. */
+#define COORDINATOR_PAGE_TARGET_WORDS(count) (5u * ((count) < 256u ? (count) : 256u))
 
 /* Numbers. */
 #define COORDINATOR_ACCEPTED 0u          /* a check passed, or words were written */
@@ -61,7 +69,7 @@ extern "C" {
 #define COORDINATOR_STATE_SIZES 3u       /* state: count or next id (ticket) not valid, or length does not fit */
 #define COORDINATOR_STATE_CONTENTS 4u    /* state: an entry is wrong, or a transaction lacks its own member mark */
 #define COORDINATOR_MOVE_FORM 5u         /* move: length not 5, kind, rule or id (ticket) not valid, or spare pick not 0 */
-#define COORDINATOR_TARGET_TOO_SHORT 6u  /* target: below COORDINATOR_STATE_TARGET_WORDS or COORDINATOR_LOG_WORDS(k) */
+#define COORDINATOR_TARGET_TOO_SHORT 6u  /* target: below STATE_TARGET_WORDS, LOG_WORDS(k) or PAGE_TARGET_WORDS(count) */
 #define COORDINATOR_LOG_SIZES 13u        /* log: count over 1,024, or does not fit the length */
 #define COORDINATOR_BEGIN_EMITS 14u      /* a rule of the table begins a transaction and emits (serialize only) */
 
@@ -82,6 +90,12 @@ typedef struct coordinator_answer {
     uint32_t place;  /* COORDINATOR_MOVE_REFUSED: the move's place in the log, from 0; else 0 */
     uint32_t own;    /* COORDINATOR_MOVE_REFUSED: the move's own number, 5 or 7 to 12; else 0 */
 } coordinator_answer;
+
+typedef struct coordinator_page {
+    uint32_t number; /* one of the numbers above */
+    uint32_t words;  /* accepted: the words written, 5 for each move of the page; else 0 */
+    uint64_t length; /* accepted: the moves of the whole list; else 0 */
+} coordinator_page;
 
 /* Whether a table is well formed.
  * Refusals: 1, 2. Stack: 1.0 KB. */
@@ -112,6 +126,17 @@ coordinator_answer coordinator_serialize(const uint32_t *table, size_t table_len
                                          const uint32_t *state, size_t state_len,
                                          const uint32_t *log, size_t log_len,
                                          uint32_t *target, size_t target_len);
+
+/* A page of the list of all enabled moves: those that coordinator_move would accept, each once, by
+ * head and then by picks. Its first move has the place first in the list, from 0; it has count moves,
+ * at most COORDINATOR_MAX_PAGE_MOVES, or what the list has from there on. The target wants
+ * COORDINATOR_PAGE_TARGET_WORDS(count) words in any case; with count 0 that is none, and the length
+ * is the answer.
+ * Refusals: 1, 2, 3, 4, 6. Stack: 30.0 KB. */
+coordinator_page coordinator_list_moves(const uint32_t *table, size_t table_len,
+                                        const uint32_t *state, size_t state_len,
+                                        uint64_t first, uint32_t count,
+                                        uint32_t *target, size_t target_len);
 
 #ifdef __cplusplus
 }

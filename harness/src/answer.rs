@@ -1,4 +1,5 @@
 //! What a public call answers: one type for the model, the plain code and the library.
+use crate::words::page_target;
 
 #[derive(Clone, Copy, Debug, PartialEq, Eq)]
 pub enum Answer {
@@ -38,13 +39,46 @@ impl Answer {
 /// A call on a table, a state, a move or log, and a target.
 pub type OnTarget = fn(&[u32], &[u32], &[u32], &mut [u32]) -> Answer;
 
-/// 01's order of faults for each call: the first one that an input has counts. 15 comes twice, for
-/// the log's start and its end.
+/// What the list of enabled moves answers: the words of a page, and how many moves the whole list has,
+/// 0 if it is refused.
+#[derive(Clone, Copy, Debug, PartialEq, Eq)]
+pub struct Page {
+    pub answer: Answer,
+    pub length: u64,
+}
+
+impl Page {
+    /// A list that is refused.
+    pub fn refused(number: u32) -> Page {
+        Page { answer: Answer::Refused(number), length: 0 }
+    }
+}
+
+/// The list on a table and a state: a first place, a count, and a target.
+pub type OnPage = fn(&[u32], &[u32], u64, u32, &mut [u32]) -> Page;
+
+/// A first place and a count as words, for what measures all calls alike.
+pub fn page_words(first: u64, count: u32) -> Vec<u32> {
+    vec![first as u32, (first >> 32) as u32, count]
+}
+
+/// The list in the shape of the other calls. The length goes behind the longest page, so that a target
+/// has all that is answered.
+pub fn page_on_target(call: OnPage, table: &[u32], state: &[u32], asked: &[u32], target: &mut [u32]) -> Answer {
+    let (page, behind) = target.split_at_mut(page_target(u32::MAX));
+    let Page { answer, length } = call(table, state, u64::from(asked[1]) << 32 | u64::from(asked[0]), asked[2], page);
+    behind[..2].copy_from_slice(&[length as u32, (length >> 32) as u32]);
+    answer
+}
+
+/// The order of faults for each call, by 01 and 02: the first one that an input has counts. 15 comes
+/// twice, for the log's start and its end.
 pub mod order {
     pub const CHECK_TABLE: [u32; 2] = [1, 2];
     pub const CHECK_STATE: [u32; 4] = [1, 2, 3, 4];
     pub const MOVE: [u32; 12] = [1, 2, 3, 4, 5, 6, 7, 8, 9, 10, 11, 12];
     pub const RUN: [u32; 7] = [1, 2, 3, 4, 13, 6, 16];
     pub const SERIALIZE: [u32; 11] = [1, 2, 3, 4, 13, 6, 14, 15, 16, 15, 17];
+    pub const LIST_MOVES: [u32; 5] = [1, 2, 3, 4, 6];
     pub const PROGRAM: [u32; 5] = [1, 2, 3, 4, 13];
 }

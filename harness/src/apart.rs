@@ -108,6 +108,16 @@ pub fn one_move(mv: Move) -> String {
     format!("move: {:#010x} {}  {}\n", mv.head(), picks(mv), does(mv))
 }
 
+/// The columns of `moves`.
+pub const MOVES_HEAD: &str = "place  head        picks\n";
+
+/// Moves of a list, the first of which has this place in it.
+pub fn moves(first: usize, moves: &[Move]) -> String {
+    let line =
+        |(place, mv): (usize, &Move)| format!("{place:>5}  {:#010x}  {}  {}\n", mv.head(), picks(*mv), does(*mv));
+    (first..).zip(moves).map(line).collect()
+}
+
 /// A log: each move's head and picks. The words follow its layout; `was` gives each move's place in
 /// the log that this is the serial log of.
 pub fn log(words: &[u32], was: Option<&[usize]>) -> String {

@@ -20,6 +20,7 @@ macro_rules! faults {
     };
 }
 
+pub mod lists;
 pub mod logs;
 pub mod moves;
 pub mod state_faults;

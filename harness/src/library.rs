@@ -1,7 +1,7 @@
 //! The proved archive, through the safe crate that buyers use.
 use coordinator::{Log, Move, Refusal, State, Table};
 
-use crate::answer::Answer;
+use crate::answer::{Answer, Page};
 
 fn refused(refusal: Refusal) -> Answer {
     match refusal {
@@ -33,4 +33,11 @@ pub fn run(table: &[u32], state: &[u32], log: &[u32], target: &mut [u32]) -> Ans
 
 pub fn serialize(table: &[u32], state: &[u32], log: &[u32], target: &mut [u32]) -> Answer {
     answer(coordinator::serialize(Table::new(table), State::new(state), Log::new(log), target).map(Log::words))
+}
+
+pub fn list_moves(table: &[u32], state: &[u32], first: u64, count: u32, target: &mut [u32]) -> Page {
+    match coordinator::list_moves(Table::new(table), State::new(state), first, count, target) {
+        Ok(page) => Page { answer: answer(Ok(page.words())), length: page.length() },
+        Err(refusal) => Page { answer: refused(refusal), length: 0 },
+    }
 }

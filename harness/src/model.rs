@@ -6,6 +6,7 @@
 pub mod calls;
 pub mod colours;
 pub mod definitions;
+pub mod list;
 pub mod ordered;
 pub mod solution;
 

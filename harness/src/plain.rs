@@ -1,12 +1,14 @@
-//! The five public calls as ordinary fast Rust straight from document 01: a second opinion, and
+//! The public calls as ordinary fast Rust straight from documents 01 and 02: a second opinion, and
 //! the baseline of the benchmark.
+mod list;
 mod serial;
 mod state;
 mod step;
 mod table;
 
-use crate::answer::Answer;
-use crate::words::{MAX_ENTRIES, MAX_MOVES, STATE_TARGET};
+use crate::answer::{Answer, Page};
+use crate::words::{page_target, MAX_ENTRIES, MAX_MOVES, STATE_TARGET};
+use list::List;
 use state::State;
 use step::Call;
 use table::Table;
@@ -101,4 +103,17 @@ pub fn serialize(table: &[u32], state: &[u32], log: &[u32], target: &mut [u32]) 
         Ok(words) => Answer::write(&words, target),
         Err(answer) => answer,
     }
+}
+
+pub fn list_moves(table: &[u32], state: &[u32], first: u64, count: u32, target: &mut [u32]) -> Page {
+    let room = page_target(count);
+    let mut listed = || {
+        let table = Table::read(table)?;
+        let state = State::read(&table, state)?;
+        let page = target.get_mut(..room).ok_or(6u32)?;
+        let list = List::new(&table, &state);
+        let words = list.page(first, page) as u32;
+        Ok(Page { answer: Answer::Accepted(words), length: list.length })
+    };
+    listed().unwrap_or_else(Page::refused)
 }

@@ -28,6 +28,19 @@ pub fn case_a() -> Vec<Move> {
 
 pub const END_A: [u32; 6] = [2, 3, 0, 0, 0x0001_0007, 0x0001_0009];
 
+/// The enabled moves at the start of (a) and after each of its moves, as the definitions list them.
+pub fn lists_a() -> [Vec<Move>; 7] {
+    [
+        vec![Move::react(0, &[0]), Move::react(0, &[1])],
+        vec![Move::react(0, &[0]), Move::react(1, &[2]), Move::react(3, &[2])],
+        vec![Move::react(1, &[1]), Move::react(1, &[4]), Move::react(3, &[1]), Move::react(3, &[4])],
+        vec![Move::react(1, &[3]), Move::react(3, &[3])],
+        vec![Move::react(2, &[4, 5]), Move::react(2, &[5, 4])],
+        vec![Move::commit(1)],
+        vec![],
+    ]
+}
+
 /// What the program prints for case (a), whole.
 pub const LINES_A: &str = "\
 moves 6 entries 2 next 1

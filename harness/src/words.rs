@@ -10,6 +10,13 @@ pub const MAX_NEXT: u32 = 65_536;
 pub const MAX_MOVES: usize = 1024;
 /// A target for a state must hold the largest one.
 pub const STATE_TARGET: usize = 2 + 2 * MAX_ENTRIES;
+/// A page of the list of enabled moves has no more, whatever the count.
+pub const MAX_PAGE_MOVES: usize = 256;
+
+/// The words that a target for a page of this count must have.
+pub fn page_target(count: u32) -> usize {
+    5 * (count as usize).min(MAX_PAGE_MOVES)
+}
 
 /// Roles of atoms.
 pub mod role {

@@ -8,7 +8,7 @@ fn the_benchmark_runs() {
     let run = Command::new(env!("CARGO_BIN_EXE_bench")).arg("--smoke").output().unwrap();
     let printed = String::from_utf8(run.stdout).unwrap();
     assert!(run.status.success(), "{printed}{}", String::from_utf8_lossy(&run.stderr));
-    for name in ["check_table", "check_state", "move", "run", "serialize"] {
+    for name in ["check_table", "check_state", "move", "run", "serialize", "list_moves"] {
         assert!(printed.contains(&format!("| {name} ")), "{name} in\n{printed}");
     }
 }

@@ -82,15 +82,16 @@ fn upper(name: &str) -> String {
     name.char_indices().map(|(at, letter)| word(at, letter)).collect::<String>().to_uppercase()
 }
 
-// Catches an order of refusals in the header that is not 01's.
+// Catches an order of refusals in the header that is not 01's or 02's.
 #[test]
 fn the_header_gives_the_order_of_refusals() {
-    let calls: [(&str, &[u32]); 5] = [
+    let calls: [(&str, &[u32]); 6] = [
         ("check_table", &order::CHECK_TABLE),
         ("check_state", &order::CHECK_STATE),
         ("move", &order::MOVE),
         ("run", &order::RUN),
         ("serialize", &order::SERIALIZE),
+        ("list_moves", &order::LIST_MOVES),
     ];
     for (name, order) in calls {
         let comment = header_comment(name);
@@ -111,9 +112,11 @@ fn header_and_crate_agree() {
         ("MAX_ENTRIES", coordinator::MAX_ENTRIES),
         ("MAX_NEXT", coordinator::MAX_NEXT as usize),
         ("MAX_MOVES", coordinator::MAX_MOVES),
+        ("MAX_PAGE_MOVES", coordinator::MAX_PAGE_MOVES),
         ("MOVE_WORDS", coordinator::MOVE_WORDS),
         ("STATE_TARGET_WORDS", coordinator::STATE_TARGET_WORDS),
         ("STACK_BYTES", 256 << 10),
+        ("ABI", 1),
         ("ACCEPTED", 0),
         ("MOVE_REFUSED", Refusal::MoveRefused { place: 0, own: 5 }.number() as usize),
     ];

@@ -14,10 +14,10 @@ use std::path::Path;
 use std::process::Command;
 
 use common::demand3::Demand3;
-use common::{check_state, check_table, gives, make_move, on_target, run, serialize, shrinking, MAKE_MOVE};
+use common::{check_state, check_table, gives, make_move, on_target, run, serialize, shrinking, Asked, MAKE_MOVE};
 use harness::answer::{order, Answer};
 use harness::markdown::{blocks, links, prose, rows, Block};
-use harness::two_lot::{self, case_a, case_c, case_d, serial_d};
+use harness::two_lot::{self, case_a, case_c, case_d, lists_a, serial_d};
 use harness::words::{log_words, role, Atom, Entry, Move, State, Table};
 use harness::{apart, ROOT};
 
@@ -143,6 +143,8 @@ fn generated() -> BTreeMap<String, String> {
         ("start".into(), apart::state(&start)),
         ("log a".into(), apart::log(&log_words(&case_a()), None)),
         ("log d".into(), apart::log(&log_words(&case_d()), None)),
+        ("lists a".into(), lists()),
+        ("page".into(), page()),
         ("refusals".into(), refusals()),
         ("order".into(), orders()),
     ]);
@@ -170,13 +172,41 @@ fn generated() -> BTreeMap<String, String> {
     all
 }
 
+/// The state after so many moves of (a).
+fn after(moves: usize) -> Vec<u32> {
+    run(&two_lot::table(), &two_lot::start(), &log_words(&case_a()[..moves])).1
+}
+
+/// The enabled moves at the start of (a) and after each of its moves.
+fn lists() -> String {
+    let list = |(moves, list): (usize, Vec<Move>)| {
+        let (page, words) = Asked::new(0, 256).of(&two_lot::table(), &after(moves));
+        assert_eq!(words, list.iter().flat_map(|mv| mv.words()).collect::<Vec<_>>());
+        let when = moves.checked_sub(1).map_or("at the start".into(), |last| format!("after move {last}"));
+        format!("{when}: length {}\n{}", page.length, apart::moves(0, &list))
+    };
+    apart::MOVES_HEAD.to_string() + &lists_a().into_iter().enumerate().map(list).collect::<String>()
+}
+
+/// A page from the middle of a list.
+fn page() -> String {
+    let (first, count) = (1, 2);
+    let (page, words) = Asked::new(first, count).of(&two_lot::table(), &after(2));
+    let (written, length) = (words.len(), page.length);
+    assert_eq!(page.answer, Answer::Accepted(written as u32));
+    let moves: Vec<Move> = words.chunks_exact(5).map(|mv| Move::from_words(mv).unwrap()).collect();
+    let asked = format!("after move 1, first {first}, count {count}: number 0, words {written}, length {length}\n");
+    asked + apart::MOVES_HEAD + &apart::moves(first as usize, &moves)
+}
+
 fn orders() -> String {
-    let calls: [(&str, &[u32]); 6] = [
+    let calls: [(&str, &[u32]); 7] = [
         ("check_table", &order::CHECK_TABLE),
         ("check_state", &order::CHECK_STATE),
         ("move", &order::MOVE),
         ("run", &order::RUN),
         ("serialize", &order::SERIALIZE),
+        ("list_moves", &order::LIST_MOVES),
         ("program", &order::PROGRAM),
     ];
     calls.map(|(name, order)| format!("{name:<11}  {}\n", common::listed(order))).concat()
@@ -185,7 +215,6 @@ fn orders() -> String {
 /// A call of each number, made and answered so. They are on the two-lot plant but for 14 and 17.
 fn refusals() -> String {
     let (table, start) = (two_lot::table(), two_lot::start());
-    let after = |moves: usize| run(&table, &start, &log_words(&case_a()[..moves])).1;
     let with = |words: &[u32], at: usize, word: u32| {
         let mut words = words.to_vec();
         words[at] = word;

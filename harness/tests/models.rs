@@ -3,16 +3,19 @@ mod common;
 
 use std::collections::BTreeMap;
 
+use harness::answer::Answer;
+use harness::generate::lists::{listed, Tally};
 use harness::generate::logs::{accepted, closed};
+use harness::generate::moves::open;
 use harness::generate::states::{messages, state};
 use harness::generate::tables::{table, Shape};
 use harness::model::colours;
 use harness::model::definitions::{Channel, Definitions};
 use harness::model::ordered::{Made, Ordered};
 use harness::model::solution::{Message, Origin, Solution};
-use harness::plain;
 use harness::random::Random;
-use harness::words::{act, kind, log_words, role, Atom, Entry, Move, State, Table};
+use harness::words::{act, kind, log_words, page_target, role, Atom, Entry, Move, State, Table};
+use harness::{model, plain};
 
 const C1: u32 = 0;
 const C2: u32 = 1;
@@ -137,7 +140,7 @@ fn molecules_are_the_entries() {
         }
         let mut target = vec![0; 2_050];
         let words = match plain::run(&table.words(), &start.words(), &log_words(&log), &mut target) {
-            harness::answer::Answer::Accepted(words) => words as usize,
+            Answer::Accepted(words) => words as usize,
             other => panic!("{other:?}"),
         };
         let end = State::from_words(&target[..words]).unwrap();
@@ -173,4 +176,72 @@ fn both_orders_end_in_the_same_named_molecules() {
         moves += log.len();
     }
     assert!(moves > 5_000, "{moves}");
+}
+
+/// Every choice of `count` places below `n`, in order.
+fn tuples(n: u32, count: usize) -> Vec<Vec<u32>> {
+    (0..count).fold(vec![Vec::new()], |shorter, _| {
+        let longer = |picks: &Vec<u32>| (0..n).map(|place| [&picks[..], &[place]].concat()).collect::<Vec<_>>();
+        shorter.iter().flat_map(longer).collect()
+    })
+}
+
+// Catches a list that leaves out a candidate: the model tries only messages on the right channel, here
+// all places are tried, each on the state as it was.
+#[test]
+fn the_model_lists_what_it_makes() {
+    let mut random = Random::new(603);
+    let mut listed = [0; 3];
+    for _ in 0..300 {
+        let table = table(&mut random, Shape::Small);
+        let start = state(&mut random, &table, 7, true);
+        let definitions = Definitions::read(&table.words()).unwrap();
+        let ordered = Ordered::read(&definitions, &start.words()).unwrap();
+        let reactions = definitions.rules.iter().enumerate().flat_map(|(rule, definition)| {
+            let picks = tuples(start.entries.len() as u32, definition.pattern.len());
+            picks.into_iter().map(move |picks| Move::react(rule as u32, &picks))
+        });
+        // Ids that are not below the next one name nothing.
+        let ids = (1..start.next.min(300)).chain(open(&start).into_iter().filter(|&id| id >= 300));
+        let candidates = reactions.chain(ids.clone().map(Move::commit)).chain(ids.map(Move::abort));
+        let made = |mv: &Move| ordered.clone().make_words(&definitions, &mv.words(), 0, 1_024).is_ok();
+        let expected: Vec<Move> = candidates.filter(made).collect();
+        expected.iter().for_each(|mv| listed[mv.kind as usize] += 1);
+        assert_eq!(model::enabled_moves(&table.words(), &start.words(), u64::MAX), Ok(Some(expected)));
+    }
+    assert!(listed.iter().all(|&count| count > 15), "{listed:?}");
+}
+
+/// The whole list of the plain code, page after page of this count.
+fn plain_list(table: &[u32], state: &[u32], count: u32) -> Vec<Move> {
+    let mut list = Vec::new();
+    loop {
+        let mut target = vec![0; page_target(count)];
+        let page = plain::list_moves(table, state, list.len() as u64, count, &mut target);
+        let Answer::Accepted(words) = page.answer else { panic!("{page:?}") };
+        list.extend(target[..words as usize].chunks_exact(5).map(|mv| Move::from_words(mv).unwrap()));
+        if words == 0 {
+            assert_eq!(page.length, list.len() as u64);
+            return list;
+        }
+    }
+}
+
+// Catches a count that is not the list's length, a page that skips too much or too little, and a rule
+// that is left out or not, beside the model, which counts and skips nothing.
+#[test]
+fn the_plain_code_lists_the_models_moves() {
+    let mut random = Random::new(604);
+    let mut tally = Tally::default();
+    for round in 0..4_000 {
+        let (table, state) = listed(&mut random, round);
+        let (table_words, state_words) = (table.words(), state.words());
+        // The model copies the state for each move that it makes.
+        let most = 200_000 / (20 + state.entries.len() as u64);
+        let Some(expected) = model::enabled_moves(&table_words, &state_words, most).unwrap() else { continue };
+        let count = random.pick(&[1, 7, 255, 256, u32::MAX]);
+        assert_eq!(plain_list(&table_words, &state_words, count), expected, "{table:?} {state:?}");
+        tally.add(&mut random, &table, &state, &expected);
+    }
+    tally.has_all(40);
 }

@@ -5,32 +5,41 @@ use std::fs;
 use std::path::Path;
 use std::thread;
 
-use common::header_comment;
-use harness::answer::OnTarget;
-use harness::generate::workloads::{global_log, members, merge_log, mixed, single_moves, table};
+use common::{header_comment, Asked};
+use harness::answer::{page_on_target, page_words, Answer, OnTarget, Page};
+use harness::generate::workloads::{fours, global_log, members, merge_log, mixed, single_moves, spread, table};
 use harness::markdown::{prose, rows};
 use harness::random::Random;
-use harness::words::{log_words, State, Table, STATE_TARGET};
+use harness::words::{log_words, State, STATE_TARGET};
 use harness::{library, plain, stack, ROOT};
 
 /// What README and the header promise to be enough.
 const STACK: usize = 256 << 10;
 
-/// A call of the library, its plain counterpart, and accepted input of full size: a state, and a
-/// move or log. The checks ignore what they do not take.
+/// A call of the library, its plain counterpart, and accepted input of full size: a table, a state, and
+/// a move, log or page. The checks ignore what they do not take.
 struct Call {
     name: &'static str,
     library: OnTarget,
     plain: OnTarget,
-    inputs: Vec<(State, Vec<u32>)>,
+    inputs: Vec<[Vec<u32>; 3]>,
 }
 
-fn calls(table: &Table) -> [Call; 5] {
+fn calls() -> [Call; 6] {
     let mut random = Random::new(802);
-    let states = vec![(mixed(&[], 1_024), vec![]), (members(1_024), vec![])];
-    let moves = single_moves(table, 1_022).into_iter().map(|(_, state, mv)| (state, mv.words())).collect();
-    let logs = [merge_log(&mut random, table, 1_024, 1_024), global_log(&mut random, table, 1_024, 1_024)];
-    let logs: Vec<_> = logs.into_iter().map(|(start, log)| (start, log_words(&log))).collect();
+    let full = table(64, 512);
+    let input = |state: State, third: Vec<u32>| [full.words(), state.words(), third];
+    let states = vec![input(mixed(&[], 1_024), vec![]), input(members(1_024), vec![])];
+    let moves = single_moves(&full, 1_022).into_iter().map(|(_, state, mv)| input(state, mv.words())).collect();
+    let logs = [merge_log(&mut random, &full, 1_024, 1_024), global_log(&mut random, &full, 1_024, 1_024)];
+    let logs: Vec<_> = logs.into_iter().map(|(start, log)| input(start, log_words(&log))).collect();
+    let lists = [(0, 0), (1, 300), (2, 300)].map(|(class, open)| {
+        let table = fours(&mut random, [8, 4, 4], class);
+        let state = spread(&mut random, &table, class, 1_024, open);
+        let (table, state) = (table.words(), state.words());
+        let middle = plain::list_moves(&table, &state, 0, 0, &mut []).length / 2;
+        [table, state, page_words(middle, 256)]
+    });
     [
         Call {
             name: "check_table",
@@ -47,6 +56,12 @@ fn calls(table: &Table) -> [Call; 5] {
         Call { name: "move", library: library::make_move, plain: plain::make_move, inputs: moves },
         Call { name: "run", library: library::run, plain: plain::run, inputs: logs.clone() },
         Call { name: "serialize", library: library::serialize, plain: plain::serialize, inputs: logs },
+        Call {
+            name: "list_moves",
+            library: |table, state, asked, target| page_on_target(library::list_moves, table, state, asked, target),
+            plain: |table, state, asked, target| page_on_target(plain::list_moves, table, state, asked, target),
+            inputs: lists.to_vec(),
+        },
     ]
 }
 
@@ -58,11 +73,9 @@ fn on_small_stack<T: Send>(call: impl FnOnce() -> T + Send) -> T {
 // Catches a call that needs more stack than is promised: each at full size, accepted.
 #[test]
 fn every_call_runs_in_256_kilobytes() {
-    let full = table(64, 512);
-    let table = full.words();
-    for Call { name, library, plain, inputs } in calls(&full) {
-        for (state, third) in inputs {
-            let (state, room) = (state.words(), STATE_TARGET.max(third.len()));
+    for Call { name, library, plain, inputs } in calls() {
+        for [table, state, third] in inputs {
+            let room = STATE_TARGET.max(third.len());
             let (mut expected, mut target) = (vec![0; room], vec![0; room]);
             let answer = plain(&table, &state, &third, &mut expected);
             assert_eq!(answer.number(), 0, "{name}");
@@ -78,12 +91,10 @@ fn every_call_runs_in_256_kilobytes() {
 fn the_stated_figures_are_the_measured_ones() {
     let readme = fs::read_to_string(Path::new(ROOT).join("README.md")).unwrap();
     let rows = rows(&prose(&readme), "| call | stack |");
-    assert_eq!(rows.len(), 5);
-    let full = table(64, 512);
-    let table = full.words();
-    for (Call { name, library, inputs, .. }, row) in calls(&full).into_iter().zip(rows) {
-        let used = |(state, third): (State, Vec<u32>)| {
-            let (state, mut target) = (state.words(), vec![0; STATE_TARGET.max(third.len())]);
+    assert_eq!(rows.len(), calls().len());
+    for (Call { name, library, inputs, .. }, row) in calls().into_iter().zip(rows) {
+        let used = |[table, state, third]: [Vec<u32>; 3]| {
+            let mut target = vec![0; STATE_TARGET.max(third.len())];
             stack::used(|| {
                 library(&table, &state, &third, &mut target);
             })
@@ -118,6 +129,21 @@ fn workloads_are_accepted() {
                     assert_eq!(common::serialize(&words, &start, &log).0.number(), 0);
                 }
             }
+        }
+    }
+}
+
+// Catches states for the list that are refused or whose lists are too short for a page.
+#[test]
+fn lists_are_long() {
+    let mut random = Random::new(805);
+    for (class, open) in [(0, 0), (1, 300), (2, 300)] {
+        for n in [512, 1_024] {
+            let table = fours(&mut random, [8, 4, 4], class);
+            let state = spread(&mut random, &table, class, n, open * n as u32 / 1_024);
+            let page = Asked::new(0, 256).of_long(&table.words(), &state.words()).0;
+            assert_eq!(page, Page { answer: Answer::Accepted(1_280), length: page.length });
+            assert_eq!((table.atoms(), state.entries.len()), (512, n));
         }
     }
 }

@@ -24,7 +24,27 @@ impl Answer {
     }
 }
 
-/// The calls that write to a target have one shape: table, state, move or log, target.
+/// Number 0: accepted, with the words written and the length of the whole list; else both are 0.
+#[repr(C)]
+pub struct Page {
+    number: u32,
+    words: u32,
+    length: u64,
+}
+
+impl Page {
+    /// The words written and the list's length, or why the call was refused.
+    pub fn result(self) -> Result<(usize, u64), Refusal> {
+        let Page { number, words, length } = self;
+        debug_assert!(number == 0 || (words, length) == (0, 0), "a refusal has figures");
+        match number {
+            0 => Ok((words as usize, length)),
+            number => Err(Refusal::from_number(number)),
+        }
+    }
+}
+
+/// The calls that write a state or a log have one shape: table, state, move or log, target.
 type OnTarget = unsafe extern "C" fn(
     table: *const u32,
     table_len: usize,
@@ -37,7 +57,7 @@ type OnTarget = unsafe extern "C" fn(
 ) -> Answer;
 
 mod c {
-    use super::Answer;
+    use super::{Answer, Page};
 
     extern "C" {
         pub fn coordinator_check_table(table: *const u32, table_len: usize) -> Answer;
@@ -77,6 +97,16 @@ mod c {
             target: *mut u32,
             target_len: usize,
         ) -> Answer;
+        pub fn coordinator_list_moves(
+            table: *const u32,
+            table_len: usize,
+            state: *const u32,
+            state_len: usize,
+            first: u64,
+            count: u32,
+            target: *mut u32,
+            target_len: usize,
+        ) -> Page;
     }
 }
 
@@ -116,4 +146,19 @@ pub fn run(table: &[u32], state: &[u32], log: &[u32], target: &mut [u32]) -> Ans
 
 pub fn serialize(table: &[u32], state: &[u32], log: &[u32], target: &mut [u32]) -> Answer {
     on_target(c::coordinator_serialize, table, state, log, target)
+}
+
+pub fn list_moves(table: &[u32], state: &[u32], first: u64, count: u32, target: &mut [u32]) -> Page {
+    unsafe {
+        c::coordinator_list_moves(
+            table.as_ptr(),
+            table.len(),
+            state.as_ptr(),
+            state.len(),
+            first,
+            count,
+            target.as_mut_ptr(),
+            target.len(),
+        )
+    }
 }

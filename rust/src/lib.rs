@@ -28,16 +28,21 @@
 //! let mv = react(0, &[0]);
 //! let after = make_move(Table::new(&table), State::new(&start), Move::new(&mv), &mut target)?;
 //! assert_eq!(after.next(), Some(2));
+//!
+//! // What can be done next: nothing takes the message inside, so the transaction cannot end either.
+//! assert_eq!(enabled_moves(Table::new(&table), after)?.count(), 0);
 //! # Ok::<(), Refusal>(())
 //! ```
 #![warn(missing_docs)]
 mod boundary;
 mod log;
+mod page;
 mod refusal;
 mod state;
 mod table;
 
 pub use log::{abort, commit, react, Log, LogBuilder, Move};
+pub use page::{enabled_moves, EnabledMoves, Page};
 pub use refusal::Refusal;
 pub use state::{Entry, Item, State, StateBuilder};
 pub use table::{Atom, Table, TableBuilder, Value};
@@ -63,9 +68,18 @@ pub const MOVE_WORDS: usize = 1 + MAX_CONSUMES;
 /// The words that a target for a state must have, however small the state.
 pub const STATE_TARGET_WORDS: usize = 2 + 2 * MAX_ENTRIES;
 
+/// Moves of a page of the list of enabled moves, whatever the count.
+pub const MAX_PAGE_MOVES: usize = 256;
+
 /// The words that a target for the serial log of `moves` moves must have.
 pub const fn log_target_words(moves: usize) -> usize {
     1 + MOVE_WORDS * moves
+}
+
+/// The words that a target for a page of `count` moves must have, even if the list has fewer.
+pub const fn page_target_words(count: u32) -> usize {
+    let moves = count as usize;
+    MOVE_WORDS * if moves < MAX_PAGE_MOVES { moves } else { MAX_PAGE_MOVES }
 }
 
 /// Whether a table is well formed. Refusals: 1, 2.
@@ -106,4 +120,23 @@ pub fn serialize<'t>(
 ) -> Result<Log<'t>, Refusal> {
     let words = boundary::serialize(table.words(), state.words(), log.words(), target).result()?;
     Ok(Log::new(&target[..words]))
+}
+
+/// A page of the list of enabled moves (02: open moves), written to the front of the target, and the
+/// length of the whole list.
+///
+/// The list has every move that [`make_move`] would accept, once: reactions by rule and then by their
+/// picks, then commits by id, then aborts by id. The page's first move has the place `first` in it, from
+/// 0. It has `count` moves, at most [`MAX_PAGE_MOVES`], or what the list has from there on, which may be
+/// nothing. The target wants [`page_target_words`] in any case; with a count of 0 that is none, and the
+/// length is the answer. [`enabled_moves`] goes through all pages. Refusals: 1 to 4, 6.
+pub fn list_moves<'t>(
+    table: Table<'_>,
+    state: State<'_>,
+    first: u64,
+    count: u32,
+    target: &'t mut [u32],
+) -> Result<Page<'t>, Refusal> {
+    let (words, length) = boundary::list_moves(table.words(), state.words(), first, count, target).result()?;
+    Ok(Page::new(&target[..words], length))
 }

@@ -16,7 +16,8 @@ pub enum Refusal {
     StateContents,
     /// 5: the move's length is not 5, its kind, rule or id is not valid, or a spare pick is not 0.
     MoveForm,
-    /// 6: the target is too short: a state wants 2,050 words, a serial log of k moves 1 + 5k.
+    /// 6: the target is too short: a state wants 2,050 words, a serial log of k moves 1 + 5k, a page of
+    /// k moves 5k.
     TargetTooShort,
     /// 7: a picked entry is missing, picked twice, no message, or on the wrong port.
     WrongPick,
@@ -59,7 +60,7 @@ const MEANINGS: [(u32, Refusal, &str); 16] = [
     (5, Refusal::MoveForm,
         "the move's length is not 5, its kind, rule or id is not valid, or a spare pick is not 0"),
     (6, Refusal::TargetTooShort,
-        "the target is too short: a state wants 2,050 words, a serial log of k moves 1 + 5k"),
+        "the target is too short: a state wants 2,050 words, a serial log of k moves 1 + 5k, a page of k moves 5k"),
     (7, Refusal::WrongPick, "a picked entry is missing, picked twice, no message, or on the wrong port"),
     (8, Refusal::WrongOwner, "the rule may not consume from the owners of the picked messages"),
     (9, Refusal::NoTransaction, "no transaction is open under this id"),

@@ -128,3 +128,80 @@ fn a_serial_log() {
     let empty = serialize(Table::new(&table), State::new(&start), Log::new(&[0]), &mut target).unwrap();
     assert_eq!(empty.words(), [0]);
 }
+
+/// The state after the first two moves of (a): both transactions have begun.
+fn both_begun() -> Vec<u32> {
+    let mut target = [0; STATE_TARGET_WORDS];
+    let log = log(&[react(0, &[0]), react(0, &[0])]);
+    run(Table::new(&table()), State::new(&start()), Log::new(&log), &mut target).unwrap().words().to_vec()
+}
+
+// Catches a page whose moves or length are lost on the way, and a target that is asked for too much.
+#[test]
+fn a_page() {
+    let (table, state) = (table(), both_begun());
+    let (table, state) = (Table::new(&table), State::new(&state));
+    let all = [react(1, &[1]), react(1, &[4]), react(3, &[1]), react(3, &[4])];
+    let mut target = [u32::MAX; page_target_words(9)];
+    let page = list_moves(table, state, 1, 2, &mut target).unwrap();
+    assert_eq!((page.words(), page.length()), (&all[1..3].concat()[..], 4));
+    assert_eq!(page.moves().collect::<Vec<_>>(), all[1..3]);
+    let page = list_moves(table, state, 2, 9, &mut target).unwrap();
+    assert_eq!((page.moves().len(), page.length()), (2, 4));
+    let behind = list_moves(table, state, u64::MAX, 9, &mut target).unwrap();
+    assert_eq!((behind.moves().len(), behind.length()), (0, 4));
+    assert_eq!(list_moves(table, state, 0, 0, &mut []).map(Page::length), Ok(4));
+    assert_eq!(list_moves(table, state, 0, 10, &mut target), Err(Refusal::TargetTooShort));
+    assert_eq!([page_target_words(0), page_target_words(255), page_target_words(256)], [0, 1_275, 1_280]);
+    assert_eq!([page_target_words(257), page_target_words(u32::MAX)], [1_280; 2]);
+}
+
+// Catches an iterator that loses or repeats moves, or that starts on a list that is refused.
+#[test]
+fn all_enabled_moves() {
+    let (table, start, begun) = (table(), start(), both_begun());
+    let moves = |state: &[u32]| enabled_moves(Table::new(&table), State::new(state)).map(Iterator::collect::<Vec<_>>);
+    assert_eq!(moves(&start), Ok(vec![react(0, &[0]), react(0, &[1])]));
+    assert_eq!(moves(&begun), Ok(vec![react(1, &[1]), react(1, &[4]), react(3, &[1]), react(3, &[4])]));
+    // Transaction 2 is ready for its commit, transaction 1 for its abort.
+    let ends = StateBuilder::new(3)
+        .entry(2, Item::MemberMark { id: 2 })
+        .entry(1, Item::AbortMark)
+        .entry(1, Item::MemberMark { id: 1 });
+    assert_eq!(moves(&ends.words()), Ok(vec![commit(2), abort(1)]));
+    assert_eq!(moves(&[0, 1]), Ok(vec![]));
+    assert_eq!(moves(&[0, 0]), Err(Refusal::StateSizes));
+    assert_eq!(enabled_moves(Table::new(&[]), State::new(&start)).err(), Some(Refusal::TableSizes));
+}
+
+// Catches a seam between two pages, and a place that is off by one after a skip: merges of any two out
+// of 40 messages, which are 40 times 39.
+#[test]
+fn enabled_moves_over_several_pages() {
+    let table = table();
+    let state = (0..40)
+        .fold(StateBuilder::new(2).entry(1, Item::MemberMark { id: 1 }), |state, value| state.message(1, 3, value));
+    let state = state.words();
+    let expected: Vec<[u32; MOVE_WORDS]> = (1..=40)
+        .flat_map(|first| (1..=40).filter(move |&second| second != first).map(move |second| react(2, &[first, second])))
+        .collect();
+    let moves = || enabled_moves(Table::new(&table), State::new(&state)).unwrap();
+    assert_eq!((moves().length(), expected.len()), (1_560, 1_560));
+    assert_eq!(moves().collect::<Vec<_>>(), expected);
+    for skipped in [0, 1, 255, 256, 257, 511, 512, 1_000, 1_559, 1_560, 1_561, usize::MAX] {
+        assert_eq!(moves().nth(skipped), expected.get(skipped).copied(), "{skipped}");
+        assert!(moves().skip(skipped).eq(expected.iter().copied().skip(skipped)), "{skipped}");
+        assert!(moves().take(skipped).eq(expected.iter().copied().take(skipped)), "{skipped}");
+    }
+    assert!(moves().step_by(100).eq(expected.iter().copied().step_by(100)));
+    assert_eq!((moves().count(), moves().last()), (1_560, expected.last().copied()));
+    let mut some = moves();
+    some.nth(299);
+    assert_eq!((some.len(), some.size_hint(), some.length()), (1_260, (1_260, Some(1_260)), 1_560));
+    assert_eq!(some.clone().next(), Some(expected[300]));
+    assert_eq!(format!("{some:?}"), "EnabledMoves { place: 300, length: 1560, .. }");
+    assert_eq!((some.clone().count(), some.clone().last()), (1_260, Some(expected[1_559])));
+    assert_eq!(some.nth(1_259), Some(expected[1_559]));
+    assert_eq!((some.next(), some.next(), some.len()), (None, None, 0));
+    assert_eq!((some.clone().count(), some.last()), (0, None));
+}

@@ -6,17 +6,20 @@ use std::env::args;
 use std::hint::black_box;
 use std::time::Instant;
 
-use harness::answer::OnTarget;
-use harness::generate::workloads::{global_log, members, merge_log, messages, mixed, single_moves, table};
+use harness::answer::{page_on_target, page_words, OnTarget};
+use harness::generate::workloads::{
+    fours, global_log, members, merge_log, messages, mixed, single_moves, spread, table,
+};
 use harness::random::Random;
 use harness::stack;
 use harness::words::{log_words, Move, State, Table, STATE_TARGET};
 use harness::{library, plain};
 
-/// So many logs are taken in turn: the times of one log again and again do not grow steadily with its moves.
-const LOGS: usize = 16;
+/// So many logs are taken in turn: the times of one log again and again do not grow steadily with its moves. For the
+/// list so many states.
+const TURNS: usize = 16;
 
-/// A state, and the move or log that goes with it; none for a check.
+/// A state, and the move, log or page that goes with it; none for a check.
 type Input = (State, Vec<u32>);
 
 /// A call and its plain counterpart, in one shape: the checks ignore what they do not take.
@@ -39,6 +42,11 @@ const CHECK_STATE: Pair = Pair {
 const MAKE_MOVE: Pair = Pair { name: "move", ours: library::make_move, rust: plain::make_move };
 const RUN: Pair = Pair { name: "run", ours: library::run, rust: plain::run };
 const SERIALIZE: Pair = Pair { name: "serialize", ours: library::serialize, rust: plain::serialize };
+const LIST_MOVES: Pair = Pair {
+    name: "list_moves",
+    ours: |table, state, asked, target| page_on_target(library::list_moves, table, state, asked, target),
+    rust: |table, state, asked, target| page_on_target(plain::list_moves, table, state, asked, target),
+};
 
 /// How long to measure.
 #[derive(Clone, Copy)]
@@ -72,6 +80,8 @@ struct Bench {
     full: Named,
     entries: &'static [usize],
     moves: &'static [usize],
+    /// Entries of the states whose moves are listed.
+    listed: &'static [usize],
     /// The time of a copy by its words, each measured once.
     copies: Vec<(usize, f64)>,
     growth: Vec<Growth>,
@@ -121,6 +131,7 @@ impl Bench {
             full: Named("64 rules", table(64, 512)),
             entries: if smoke { &[16, 128] } else { &[16, 128, 1_024] },
             moves: if smoke { &[16] } else { &[16, 128, 512, 1_024] },
+            listed: if smoke { &[64, 128] } else { &[512, 1_024] },
             copies: Vec::new(),
             growth: Vec::new(),
             ratios: Vec::new(),
@@ -275,7 +286,7 @@ impl Bench {
                     let (start, log) = make(&mut random, table, n, k);
                     (start, log_words(&log))
                 };
-                let inputs: Vec<Input> = (0..LOGS).map(|_| input()).collect();
+                let inputs: Vec<Input> = (0..TURNS).map(|_| input()).collect();
                 let what = format!("{name}, {n} entries, {k} moves, {kind}");
                 bench.row(pair, &what, table, &inputs)
             };
@@ -292,6 +303,34 @@ impl Bench {
     }
 }
 
+/// The list of a state of 64 rules with four consumes each: its length, and at the largest size a page from its middle.
+impl Bench {
+    fn list_moves(&mut self) {
+        let mut random = Random::new(804);
+        // All global, or local in 300 transactions to 1,024 entries.
+        for (kind, class, open) in [("all global", 0, 0), ("local", 1, 300)] {
+            let table = fours(&mut random, [8, 4, 0], class);
+            let mut line = Growth::new(format!("list_moves, {kind}, length"));
+            for &n in self.listed {
+                let open = open * n as u32 / 1_024;
+                let states: Vec<State> = (0..TURNS).map(|_| spread(&mut random, &table, class, n, open)).collect();
+                let row = |bench: &mut Bench, part: &str, asked: &dyn Fn(&State) -> Vec<u32>| {
+                    let inputs: Vec<Input> = states.iter().map(|state| (state.clone(), asked(state))).collect();
+                    bench.row(&LIST_MOVES, &format!("64 rules, {n} entries, {kind}, {part}"), &table, &inputs)
+                };
+                line.push(n, row(self, "length", &|_| page_words(0, 0)));
+                let middle = |state: &State| {
+                    page_words(plain::list_moves(&table.words(), &state.words(), 0, 0, &mut []).length / 2, 256)
+                };
+                if self.listed.last() == Some(&n) {
+                    row(self, "page", &middle);
+                }
+            }
+            self.growth.push(line);
+        }
+    }
+}
+
 type Measure = fn(&mut Bench);
 
 const CALLS: &[(&str, Measure)] = &[
@@ -300,6 +339,7 @@ const CALLS: &[(&str, Measure)] = &[
     (MAKE_MOVE.name, Bench::make_move),
     (RUN.name, |bench| bench.logs(&RUN)),
     (SERIALIZE.name, |bench| bench.logs(&SERIALIZE)),
+    (LIST_MOVES.name, Bench::list_moves),
 ];
 
 fn main() {
@@ -310,7 +350,7 @@ fn main() {
         "Ratio: ours / plain Rust, best of {} interleaved rounds, same inputs, same answers.",
         bench.effort.rounds
     );
-    println!("A row of `run` or `serialize` takes {LOGS} logs in turn.");
+    println!("A row of `run` or `serialize` takes {TURNS} logs in turn, one of `list_moves` so many states.");
     println!("Copies: ours / one memcpy of the state's words.\n");
     println!("| {:<11} | {:<46} | ratio | ours in µs | Rust in µs |  copies |", "call", "input");
     println!("|{:-<13}|{:-<48}|-------|------------|------------|---------|", "", "");

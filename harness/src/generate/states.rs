@@ -19,8 +19,7 @@ pub fn state(random: &mut Random, table: &Table, most: usize, open: bool) -> Sta
     while entries.len() < wanted && table.global > 0 {
         entries.push(Entry::message(0, random.below(table.global), value(random)));
     }
-    let highest =
-        entries.iter().filter(|entry| entry.kind == kind::MEMBER_MARK).map(|entry| entry.value).max().unwrap_or(0);
+    let highest = highest_member(&entries);
     let next = match random.below(4) {
         0 => MAX_NEXT,
         1 => random.between(highest + 1, MAX_NEXT),
@@ -30,6 +29,28 @@ pub fn state(random: &mut Random, table: &Table, most: usize, open: bool) -> Sta
         random.shuffle(&mut entries);
     }
     State { next, entries }
+}
+
+/// The highest id that has been given out for sure; 0 for none.
+pub fn highest_member(entries: &[Entry]) -> u32 {
+    entries.iter().filter(|entry| entry.kind == kind::MEMBER_MARK).map(|entry| entry.value).max().unwrap_or(0)
+}
+
+/// Fills a state up to `n` entries with what no rule takes, in a transaction of its own; only if no id
+/// is left for it, the state stays as it is.
+pub fn fill(random: &mut Random, table: &Table, state: &mut State, n: usize) {
+    let id = highest_member(&state.entries) + 1;
+    if id == MAX_NEXT || state.entries.len() >= n {
+        return;
+    }
+    state.next = state.next.max(id + 1);
+    let filler = match table.global {
+        0 => Entry::abort_mark(id),
+        global => Entry::compensation(id, random.below(global), value(random)),
+    };
+    state.entries.resize(n, filler);
+    state.entries[n - 1] = Entry::member_mark(id, id);
+    random.shuffle(&mut state.entries);
 }
 
 /// Ids in falling order, so that the last is the smallest left; few gaps or many.

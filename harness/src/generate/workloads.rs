@@ -201,3 +201,32 @@ pub fn single_moves(table: &Table, n: usize) -> Vec<(&'static str, State, Move)>
         ("abort", mixed(&[Entry::abort_mark(1)], n), Move::abort(1)),
     ]
 }
+
+/// The ports of a class, global, local or merge: the first and their number.
+fn ports(table: &Table, class: usize) -> (u32, u32) {
+    let counts = [table.global, table.local, table.merge];
+    (counts[..class].iter().sum(), counts[class])
+}
+
+/// A table of 64 rules, each of which takes four messages on ports of a class and makes four there.
+pub fn fours(random: &mut Random, [global, local, merge]: [u32; 3], class: usize) -> Table {
+    let mut table = Table { global, local, merge, rules: Vec::new() };
+    let (first, count) = ports(&table, class);
+    let mut four = |atom: fn(u32) -> Atom| [(); 4].map(|()| atom(first + random.below(count)));
+    let mut rule = || [four(Atom::consume), four(|port| Atom::received(role::EMIT, port, 3))].concat();
+    table.rules = (0..64).map(|_| rule()).collect();
+    table
+}
+
+/// `n` entries in random order: messages on ports of a class, global ones if nothing is open, and the
+/// marks of the open transactions that they are in.
+pub fn spread(random: &mut Random, table: &Table, class: usize, n: usize, open: u32) -> State {
+    let (first, count) = ports(table, class);
+    let mut entries: Vec<Entry> = (1..=open).map(|id| Entry::member_mark(id, id)).collect();
+    entries.resize_with(n, || {
+        let owner = if open == 0 { 0 } else { random.between(1, open) };
+        Entry::message(owner, first + random.below(count), random.below(65_536))
+    });
+    random.shuffle(&mut entries);
+    State { next: open + 1, entries }
+}

@@ -1,9 +1,12 @@
-//! The five public calls, on words and a target.
+//! The public calls, on words and a target.
 use super::colours;
 use super::definitions::{Definitions, Product};
+use super::list::Tried;
 use super::ordered::{Made, Ordered};
-use crate::answer::Answer;
-use crate::words::{log_from_words, log_words, Move, MAX_ENTRIES, MAX_MOVES, STATE_TARGET};
+use crate::answer::{Answer, Page};
+use crate::words::{
+    log_from_words, log_words, page_target, Move, MAX_ENTRIES, MAX_MOVES, MAX_PAGE_MOVES, STATE_TARGET,
+};
 
 pub fn check_table(table: &[u32]) -> Answer {
     Answer::of_check(Definitions::read(table))
@@ -90,5 +93,33 @@ pub fn serialize(table: &[u32], state: &[u32], log: &[u32], target: &mut [u32]) 
     match serial() {
         Ok(serial) => Answer::write(&log_words(&serial), target),
         Err(answer) => answer,
+    }
+}
+
+/// All enabled moves of a state, or the number of the first fault of table and state. `None` if more
+/// than `most` reactions would have to be tried, so that a test can ask for short lists only.
+pub fn enabled_moves(table: &[u32], state: &[u32], most: u64) -> Result<Option<Vec<Move>>, u32> {
+    let definitions = Definitions::read(table)?;
+    let ordered = Ordered::read(&definitions, state)?;
+    let tried = Tried::new(&definitions, &ordered);
+    Ok((tried.candidates() <= most).then(|| tried.enabled()))
+}
+
+pub fn list_moves(table: &[u32], state: &[u32], first: u64, count: u32, target: &mut [u32]) -> Page {
+    let listed = || {
+        let definitions = Definitions::read(table)?;
+        let ordered = Ordered::read(&definitions, state)?;
+        if target.len() < page_target(count) {
+            return Err(6);
+        }
+        Ok(Tried::new(&definitions, &ordered).enabled())
+    };
+    match listed() {
+        Ok(all) => {
+            let rest = all.iter().skip(usize::try_from(first).unwrap_or(usize::MAX));
+            let page: Vec<u32> = rest.take((count as usize).min(MAX_PAGE_MOVES)).flat_map(|mv| mv.words()).collect();
+            Page { answer: Answer::write(&page, target), length: all.len() as u64 }
+        }
+        Err(number) => Page::refused(number),
     }
 }

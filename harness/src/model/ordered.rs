@@ -66,7 +66,7 @@ impl Ordered {
     }
 
     /// A move in words, made as the log's move `by`, with at most `ceiling` entries afterwards.
-    /// After a refusal the solution is no longer of use.
+    /// After 12 the solution is no longer of use; any other refusal leaves it as it was.
     pub fn make_words(
         &mut self,
         definitions: &Definitions,

@@ -11,10 +11,10 @@ pub struct State {
 }
 
 /// A set of 16-bit numbers.
-struct Marks(Box<[u64; 1024]>);
+pub struct Marks(Box<[u64; 1024]>);
 
 impl Marks {
-    fn new() -> Marks {
+    pub fn new() -> Marks {
         Marks(Box::new([0; 1024]))
     }
 
@@ -22,8 +22,29 @@ impl Marks {
         self.0[value as usize / 64] >> (value % 64) & 1 != 0
     }
 
-    fn add(&mut self, value: u32) {
+    pub fn add(&mut self, value: u32) {
         self.0[value as usize / 64] |= 1 << (value % 64);
+    }
+
+    pub fn without(mut self, others: &Marks) -> Marks {
+        for (word, other) in self.0.iter_mut().zip(others.0.iter()) {
+            *word &= !other;
+        }
+        self
+    }
+
+    pub fn size(&self) -> u64 {
+        self.0.iter().map(|word| u64::from(word.count_ones())).sum()
+    }
+
+    /// The numbers in rising order; all are below `end`.
+    pub fn numbers(&self, end: u32) -> impl Iterator<Item = u32> + '_ {
+        let words = self.0[..end.div_ceil(64) as usize].iter();
+        words.enumerate().flat_map(|(at, &word)| {
+            let rest = |left: &u64| Some(left & (left - 1)).filter(|&left| left != 0);
+            std::iter::successors(Some(word).filter(|&word| word != 0), rest)
+                .map(move |left| 64 * at as u32 + left.trailing_zeros())
+        })
     }
 }
 

@@ -1,5 +1,6 @@
 /*
- * 01's cases (a) to (h) on the two-lot plant, through the header. Prints what fails, and how many.
+ * 01's cases (a) to (h) on the two-lot plant and the lists of its moves, through the header. Prints what
+ * fails, and how many.
  */
 #include "coordinator.h"
 
@@ -221,12 +222,90 @@ static void by_serial_logs(void)
            COORDINATOR_TRANSACTION_OPEN, 0, 0, 0);
 }
 
+static void expect_page(const char *what, coordinator_page got, uint32_t number, uint32_t words, uint64_t length)
+{
+    if (got.number != number || got.words != words || got.length != length) {
+        printf("%s: %u %u %llu, not %u %u %llu\n", what, (unsigned)got.number, (unsigned)got.words,
+               (unsigned long long)got.length, (unsigned)number, (unsigned)words, (unsigned long long)length);
+        failures++;
+    }
+}
+
+/* The list after some moves of (a), or a page of it. */
+static coordinator_page list(size_t after, uint64_t first, uint32_t count, size_t room)
+{
+    uint32_t state[COORDINATOR_STATE_TARGET_WORDS];
+    size_t len = moves("before a list", case_a, after, state);
+    clear();
+    return coordinator_list_moves(table, LENGTH(table), state, len, first, count, target, room);
+}
+
+static void by_lists(void)
+{
+    static const mv after_0[] = {{0, 0}, {0, 1}};
+    static const mv after_1[] = {{0, 0}, {1, 2}, {3, 2}};
+    static const mv after_2[] = {{1, 1}, {1, 4}, {3, 1}, {3, 4}};
+    static const mv after_3[] = {{1, 3}, {3, 3}};
+    static const mv after_4[] = {{2, 4, 5}, {2, 5, 4}};
+    static const mv after_5[] = {{COMMIT(1)}};
+    static const struct {
+        const mv *moves;
+        uint32_t count;
+    } lists[] = {
+        {after_0, 2}, {after_1, 3}, {after_2, 4}, {after_3, 2}, {after_4, 2}, {after_5, 1}, {NULL, 0},
+    };
+    const uint32_t page_words = COORDINATOR_PAGE_TARGET_WORDS(8u);
+    size_t after;
+    for (after = 0; after < LENGTH(lists); after++) {
+        const uint32_t words = COORDINATOR_MOVE_WORDS * lists[after].count;
+        expect_page("a list", list(after, 0, 8, page_words), COORDINATOR_ACCEPTED, words, lists[after].count);
+        expect_target("a list", (const uint32_t *)lists[after].moves, words);
+    }
+    expect_page("two from the middle", list(2, 1, 2, 10), COORDINATOR_ACCEPTED, 10, 4);
+    expect_target("two from the middle", after_2[1], 10);
+    expect_page("the last", list(2, 3, 8, page_words), COORDINATOR_ACCEPTED, 5, 4);
+    expect_target("the last", after_2[3], 5);
+    expect_page("behind the end", list(2, 4, 8, page_words), COORDINATOR_ACCEPTED, 0, 4);
+    expect_page("the largest first place", list(2, UINT64_MAX, 8, page_words), COORDINATOR_ACCEPTED, 0, 4);
+    expect_page("a first place over 32 bits", list(2, (uint64_t)1 << 32, 8, page_words), COORDINATOR_ACCEPTED, 0, 4);
+    expect_target("an empty page", NULL, 0);
+    expect_page("the length alone", list(2, 0, 0, 0), COORDINATOR_ACCEPTED, 0, 4);
+    expect_page("the largest count", list(2, 0, UINT32_MAX, COORDINATOR_PAGE_TARGET_WORDS(UINT32_MAX)),
+                COORDINATOR_ACCEPTED, 20, 4);
+    expect_page("a short target", list(2, 0, UINT32_MAX, 5 * COORDINATOR_MAX_PAGE_MOVES - 1),
+                COORDINATOR_TARGET_TOO_SHORT, 0, 0);
+    expect_target("a short target", NULL, 0);
+    expect_page("no state", coordinator_list_moves(table, LENGTH(table), NULL, 0, 0, 1, target, LENGTH(target)),
+                COORDINATOR_STATE_SIZES, 0, 0);
+    {
+        /* Longer than 32 bits can count: 64 rules that each take any four of 1,024 messages. */
+        static uint32_t fours[COORDINATOR_TABLE_WORDS(4 * 64)], full[COORDINATOR_STATE_TARGET_WORDS];
+        const uint64_t length = (uint64_t)64 * 1024 * 1023 * 1022 * 1021;
+        const mv last[] = {{63, 1023, 1022, 1021, 1020}};
+        size_t at;
+        fours[0] = 1;
+        fours[3] = 64;
+        fours[4] = 4 * 64;
+        for (at = 0; at < 4 * 64; at++) {
+            fours[5 + at] = (uint32_t)at / 4;
+        }
+        full[0] = 1024;
+        full[1] = 1;
+        clear();
+        expect_page("the longest list",
+                    coordinator_list_moves(fours, LENGTH(fours), full, LENGTH(full), length - 1, 1, target, 5),
+                    COORDINATOR_ACCEPTED, 5, length);
+        expect_target("the longest list", last[0], 5);
+    }
+}
+
 int main(void)
 {
     checks();
     by_moves();
     by_runs();
     by_serial_logs();
+    by_lists();
     printf("%u failed\n", failures);
     return failures != 0;
 }

@@ -3,11 +3,12 @@
 #![allow(dead_code)]
 pub mod demand3;
 
+use std::fmt::Debug;
 use std::fs;
 use std::path::Path;
 
-use harness::answer::{Answer, OnTarget};
-use harness::words::{role, Atom, Entry, Move, State, Table};
+use harness::answer::{Answer, OnPage, OnTarget, Page};
+use harness::words::{page_target, role, Atom, Entry, Move, State, Table};
 use harness::{library, model, plain, ROOT};
 
 const NAMES: [&str; 3] = ["model", "plain", "library"];
@@ -18,6 +19,7 @@ pub type Calls = [OnTarget; 3];
 pub const MAKE_MOVE: Calls = [model::make_move, plain::make_move, library::make_move];
 pub const RUN: Calls = [model::run, plain::run, library::run];
 pub const SERIALIZE: Calls = [model::serialize, plain::serialize, library::serialize];
+pub const LIST_MOVES: [OnPage; 3] = [model::list_moves, plain::list_moves, library::list_moves];
 
 /// The one answer of all implementations.
 pub fn check_table(table: &[u32]) -> Answer {
@@ -47,35 +49,75 @@ pub fn shown(input: &[(&str, &[u32])]) -> String {
     input.iter().map(part).collect::<Vec<_>>().join("; ")
 }
 
-/// What every implementation answers and writes: the answer, and the words it counts.
+/// What the implementations of these names answer and write: the answer, and the words it counts.
 /// Fails if they differ, if a refusal writes, or if a word beyond those counted is changed.
-pub fn on_target(calls: Calls, input: [&[u32]; 3], room: usize) -> (Answer, Vec<u32>) {
-    let [table, state, third] = input;
-    let parts = [("table", table), ("state", state), ("move or log", third)];
+fn on_room<T: Copy + PartialEq + Debug>(
+    names: &[&str],
+    call: impl Fn(usize, &mut [u32]) -> T,
+    answer: impl Fn(T) -> Answer,
+    room: usize,
+    input: impl Fn() -> String,
+) -> (T, Vec<u32>) {
     let before: Vec<u32> = (0..room as u32).map(|place| 0xA5A5_0000 ^ place.wrapping_mul(0x9E37_79B9)).collect();
-    let mut all: Vec<(&str, Answer, Vec<u32>)> = Vec::new();
-    for (name, call) in NAMES.into_iter().zip(calls) {
+    let mut all: Vec<(&str, T, Vec<u32>)> = Vec::new();
+    for (which, name) in names.iter().enumerate() {
         let mut target = before.clone();
-        let answer = call(table, state, third, &mut target);
-        let written = match answer {
+        let given = call(which, &mut target);
+        let written = match answer(given) {
             Answer::Accepted(words) => words as usize,
             _ => 0,
         };
         assert!(written <= room, "{name} counts {written} words of {room}");
-        assert!(target[written..] == before[written..], "{name} wrote beyond its words, {}", shown(&parts));
+        assert!(target[written..] == before[written..], "{name} wrote beyond its words, {}", input());
         target.truncate(written);
-        all.push((name, answer, target));
+        all.push((name, given, target));
     }
-    let (_, answer, words) = &all[0];
+    let (first, given, words) = &all[0];
     for (name, other, others) in &all[1..] {
-        assert!(
-            answer == other && words == others,
-            "{} {answer:?}, {name} {other:?}; {words:x?}, {others:x?}; {}",
-            all[0].0,
-            shown(&parts)
-        );
+        let same = given == other && words == others;
+        assert!(same, "{first} {given:?}, {name} {other:?}; {words:x?}, {others:x?}; {}", input());
     }
-    (*answer, words.clone())
+    (*given, words.clone())
+}
+
+pub fn on_target(calls: Calls, [table, state, third]: [&[u32]; 3], room: usize) -> (Answer, Vec<u32>) {
+    let call = |which: usize, target: &mut [u32]| calls[which](table, state, third, target);
+    let input = || shown(&[("table", table), ("state", state), ("move or log", third)]);
+    on_room(&NAMES, call, |answer| answer, room, input)
+}
+
+/// A page of the list of enabled moves: a first place, a count, and the words of the target.
+#[derive(Clone, Copy, Debug)]
+pub struct Asked {
+    pub first: u64,
+    pub count: u32,
+    pub room: usize,
+}
+
+impl Asked {
+    /// A target that is just long enough.
+    pub fn new(first: u64, count: u32) -> Asked {
+        Asked { first, count, room: page_target(count) }
+    }
+
+    /// Of all implementations; the model goes through the whole list.
+    pub fn of(self, table: &[u32], state: &[u32]) -> (Page, Vec<u32>) {
+        self.of_some(0, table, state)
+    }
+
+    /// Of the plain code and the library, for lists that are too long for the model.
+    pub fn of_long(self, table: &[u32], state: &[u32]) -> (Page, Vec<u32>) {
+        self.of_some(1, table, state)
+    }
+
+    fn of_some(self, from: usize, table: &[u32], state: &[u32]) -> (Page, Vec<u32>) {
+        let Asked { first, count, room } = self;
+        let call = |which: usize, target: &mut [u32]| LIST_MOVES[from + which](table, state, first, count, target);
+        let input = || format!("{self:?}; {}", shown(&[("table", table), ("state", state)]));
+        let (page, words) = on_room(&NAMES[from..], call, |page| page.answer, room, input);
+        assert!(page.answer.number() == 0 || page.length == 0, "a refused list has a length: {}", input());
+        (page, words)
+    }
 }
 
 pub fn make_move(table: &[u32], state: &[u32], mv: &[u32]) -> (Answer, Vec<u32>) {
@@ -119,8 +161,8 @@ pub fn shrinking(n: usize) -> (Table, State, Vec<Move>) {
 /// What the header says above a call, on one line.
 pub fn header_comment(call: &str) -> String {
     let header = fs::read_to_string(Path::new(ROOT).join("include/coordinator.h")).unwrap();
-    let (before, _) = header.split_once(&format!("*/\ncoordinator_answer coordinator_{call}(")).expect(call);
-    let (_, comment) = before.rsplit_once("/* ").unwrap();
+    let (before, _) = header.split_once(&format!(" coordinator_{call}(")).expect(call);
+    let (comment, _) = before.rsplit_once("/* ").and_then(|(_, comment)| comment.split_once("*/")).unwrap();
     comment.lines().map(|line| line.trim_start_matches(" * ").trim()).collect::<Vec<_>>().join(" ")
 }
 
