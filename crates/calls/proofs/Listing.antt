@@ -2,36 +2,31 @@
 use Prim.Native.Nat.{ℕ, _+_, _*_, _≤_, _<_, min}
 use mathlib.Core.List.{List, _++_}
 use mathlib.Core.Logic.{inl, inr}
-use mathlib.Core.Path.{_≡_, refl, sym, ap, _∙_}
+use mathlib.Core.Path.{_≡_, refl, ap, _∙_}
 use native.Mathlib.Nat.{zero-add}
 use native.Mathlib.Omega.{arith}
-use lib.ListN.{length, length-take, drop}
-use lib.Seq.{sets, sets-eq}
-use Rattle.lists.specs.Lists.{each, over}
-use Rattle.lists.specs.Pages.{page, Paged, page-le, each-length}
-use Rattle.semantics.specs.Move.{Move, firstFault}
+use lib.ListN.{length, drop}
+use lib.Seq.{sets-eq}
+use Rattle.lists.specs.Pages.{page, page-le, each-length}
+use Rattle.semantics.specs.Move.{Move}
 use Rattle.semantics.specs.Enabled.{moveWords, pageCount}
-use Rattle.semantics.specs.Answers.{pageAnswer, write, stateVerdict, listFaults, listResult, listLength, listMoves, listMovesTarget, hasWords}
+use Rattle.semantics.specs.Answers.{pageAnswer, stateVerdict, listFaults, listResult, listLength, listMoves, listMovesTarget}
 use Rattle.semantics.specs.declared.Listed.{Listed}
 use Rattle.semantics.specs.declared.Refusal.{Refusal}
 use Rattle.semantics.specs.declared.Refusal.the-variants.{TargetTooShort}
 use Rattle.semantics.specs.declared.Verdict.the-variants.{Allowed}
 use Rattle.semantics.specs.declared.Outcome.the-variants.{Refused, Written}
-use Rattle.wellformed.specs.MoveWords.{fourPicks-length}
+use Rattle.wellformed.specs.MoveWords.{moveWords-length}
 use Rattle.wellformed.specs.Verdicts.{FaultAt, first-fault, no-fault}
 use Rattle.choices.specs.declared.Part.{Part}
 use Rattle.choices.specs.Parts.{PartAs}
-use Rattle.calls.specs.Results.{ComesTo}
 use Rattle.calls.specs.Lists.{allOpen, pageWords, ListComesTo}
 use Rattle.calls.proofs.Results.{too-short, long-enough}
-
-five : (m : Move) → length (moveWords m) ≡ 5
-five m = let e = fourPicks-length m in omega arith
 
 -- a page written from the target's beginning
 module _ (ms : List Move) (first count : ℕ) (before : List ℕ) (room : 5 * count ≤ length before) where
   long : length (pageWords ms first count) ≡ 5 * length (page first count ms)
-  long = each-length moveWords 5 five (page first count ms)
+  long = each-length moveWords 5 moveWords-length (page first count ms)
 
   pub page-written : {after : List ℕ} {p : Part} {words : ℕ} → PartAs moveWords ms first count 0 before after p → words ≡ 5 * p .written
       → ListComesTo ms first count before after (record { outcome = Written words; length = p .length })

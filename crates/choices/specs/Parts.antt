@@ -25,7 +25,8 @@ part-map f words {xs} {first} {count} {at} {before} {after} {r} h = record {
 }
 
 -- one part behind another
-pub part-append : {A : Type 0} (words : A → List ℕ) → ((x : A) → length (words x) ≡ 5) → (xs ys : List A) {first count at : ℕ} {before middle after : List ℕ} (p q : Part)
+pub part-append : {A : Type 0} (words : A → List ℕ) → ((x : A) → length (words x) ≡ 5) → (xs ys : List A)
+    → {first count at : ℕ} {before middle after : List ℕ} (p q : Part)
     → PartAs words xs first count at before middle p → PartAs words ys (first - p .length) (count - p .written) (at + 5 * p .written) middle after q
     → PartAs words (xs ++ ys) first count at before after (record { length = p .length + q .length; written = p .written + q .written })
 part-append words five xs ys {first} {count} {at} {before} {middle} {after} p q h k = record {

@@ -1,14 +1,14 @@
 -- How many choices are below a pick: the figures that the code computes, and what they are.
 use Prim.Native.Nat.{ℕ, zero, suc, _+_, _-_, _*_, _≤_, _<_}
-use mathlib.Core.Path.{_≡_, refl, sym, ap, _∙_}
+use mathlib.Core.Path.{_≡_, refl, ap}
 use mathlib.Core.Bool.{Bool, true, false, cond}
 use mathlib.Core.List.{List, [], _∷_}
-use native.Mathlib.Nat.{mul-one, mul-le-mul, sub-zero}
+use native.Mathlib.Nat.{mul-one, mul-le-mul}
 use native.Mathlib.Omega.{arith}
 use lib.Dec.{eqb, ltb}
 use lib.ListN.{length, getD, take, drop}
 use Rattle.lists.specs.Lists.{oneIf}
-use Rattle.lists.specs.Keys.{timesIn, times-none}
+use Rattle.lists.specs.Keys.{timesIn}
 use Rattle.lists.specs.Ways.{ways}
 
 -- the ways at each number behind the first, 1 where fewer than so many are wanted

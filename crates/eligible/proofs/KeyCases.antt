@@ -1,12 +1,12 @@
 -- The key of an entry, case by case, as the code tells them apart.
-use Prim.Native.Nat.{ℕ, _+_, _*_, _/_, _%_, _≤_, _<_}
-use mathlib.Core.Bool.{Bool, true, false, not, _&&_, _||_, cond}
-use mathlib.Core.Path.{_≡_, refl, sym, ap, _∙_}
+use Prim.Native.Nat.{ℕ, _+_, _*_, _/_, _≤_, _<_}
+use mathlib.Core.Bool.{true, false}
+use mathlib.Core.Path.{_≡_, sym, _∙_}
 use mathlib.Core.List.{List}
 use native.Mathlib.Omega.{arith}
 use borrow.Author.Tests.{eqb-true, eqb-false, eq-eqb, ne-eqb, lt-ltb, le-ltb}
 use lib.Dec.{eqb, ltb}
-use lib.ListN.{length, getD, set, length-set}
+use lib.ListN.{getD, set, length-set}
 use lib.Seq.{getD-set-same, getD-set-other}
 use Rattle.lists.specs.Lists.{given}
 use Rattle.lists.specs.Choices.{by-bool, clash, cond-true, cond-false, and-intro}
@@ -14,7 +14,7 @@ use Rattle.lists.specs.Tests.{and-right-false, false-and}
 use Rattle.semantics.specs.Table.{classOf}
 use Rattle.semantics.specs.State.{Entry, isMessage, owned}
 use Rattle.semantics.specs.declared.Sizes.{Sizes}
-use Rattle.enabled.specs.Keys.{takeable, isLocal, portKey}
+use Rattle.enabled.specs.Keys.{takeable, isLocal}
 use Rattle.eligible.specs.KeyColumn.{KeyAs, KeyColumn}
 
 module _ (z : Sizes) (ids : List ℕ) (m : ℕ) (e : Entry) where

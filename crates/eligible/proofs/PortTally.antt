@@ -2,15 +2,15 @@
 use Prim.Native.Nat.{ℕ, _+_, min, _≤_, _<_}
 use native.Mathlib.Nat.{min-le-right}
 use mathlib.Core.Bool.{true, false}
-use mathlib.Core.Path.{_≡_, refl, sym, ap, _∙_}
+use mathlib.Core.Path.{_≡_, sym, _∙_}
 use mathlib.Core.List.{List}
 use native.Mathlib.Omega.{arith}
 use borrow.Author.Tests.{eqb-true, eqb-false}
 use lib.Dec.{eqb}
 use lib.ListN.{length, getD, take, set, length-set}
-use lib.Seq.{length-take-le, getD-set-same, getD-set-other, take-all}
+use lib.Seq.{getD-set-same, getD-set-other, take-all}
 use Rattle.lists.specs.Choices.{by-bool}
-use Rattle.lists.specs.Keys.{timesIn, times-none, times-le, times-same, times-other}
+use Rattle.lists.specs.Keys.{timesIn, times-none, times-same, times-other}
 use Rattle.eligible.specs.Ports.{PortCounts}
 
 -- the first i keys are counted, and no place has more than i

@@ -8,7 +8,8 @@ use native.Mathlib.Omega.{arith}
 use lib.ListN.{length}
 use Rattle.lists.specs.Lists.{upFrom, each, tuples}
 use Rattle.lists.specs.Members.{Among, among-left, among-right, among-append, among-map, map-among}
-use Rattle.lists.specs.TupleMembers.{among-each, each-among, among-up, up-among, among-tuples, tuples-among}
+use Rattle.lists.specs.UpFrom.{up-among}
+use Rattle.lists.specs.TupleMembers.{among-each, each-among, among-up, among-tuples, tuples-among}
 use Rattle.semantics.specs.Table.{Table, tableOf, ruleAt, consumed}
 use Rattle.semantics.specs.State.{State, stateOf}
 use Rattle.semantics.specs.Move.{Move, react, commit, abort, isOpen, mayCommit, mayAbort, endFaults, firstFault, allowed}

@@ -77,5 +77,7 @@ module _ {p : ℕ → Bool} {kind : ℕ} {ids : List ℕ} {m first count at : �
     pub ends-done : m ≤ i → m ≤ 1024
         → PartAs (endWords kind) (keep p (take m ids)) first count at before after (record { length = len; written = written }) × (len ≤ 1024)
     ends-done h small =
-        let none : keep p (drop i (take m ids)) ≡ [] = ap (keep p) (prefix-tails 0 ids m enough .none i h) in
-        (record { total = omega (arith, l .counted, ap length none); paged = paging-end (endWords kind) 5 (λ v. refl) (l .paging) none }, omega (arith, l .few, l .within))
+        let none : keep p (drop i (take m ids)) ≡ [] = ap (keep p) (prefix-tails 0 ids m enough .none i h) in (
+          record { total = omega (arith, l .counted, ap length none); paged = paging-end (endWords kind) 5 (λ v. refl) (l .paging) none },
+          omega (arith, l .few, l .within),
+        )

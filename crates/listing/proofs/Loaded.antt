@@ -2,7 +2,7 @@
 use Prim.Native.Nat.{ℕ, _-_, _≤_, _<_}
 use mathlib.Core.Bool.{true}
 use mathlib.Core.List.{List, _++_}
-use mathlib.Core.Path.{_≡_, refl, sym, ap, _∙_, subst}
+use mathlib.Core.Path.{_≡_, sym, ap, _∙_}
 use native.Mathlib.Nat.{zero-add}
 use native.Mathlib.Omega.{arith}
 use lib.ListN.{length, getD, take}
@@ -10,8 +10,8 @@ use Rattle.lists.specs.Lists.{upFrom, countIf}
 use Rattle.lists.specs.Members.{Among, getD-among}
 use Rattle.lists.specs.Rows.{rows, length-rows, getD-rows}
 use Rattle.lists.specs.Ascending.{PlaceIn}
-use Rattle.semantics.specs.Table.{sizesOf, portCount}
-use Rattle.semantics.specs.State.{Entry, State, stateOf, nextOf}
+use Rattle.semantics.specs.Table.{sizesOf}
+use Rattle.semantics.specs.State.{Entry, State, stateOf}
 use Rattle.semantics.specs.Move.{Move, nothing}
 use Rattle.semantics.specs.Answers.{stateVerdict, enabledIn}
 use Rattle.semantics.specs.Enabled.{moveWords}
@@ -79,8 +79,8 @@ module _ (t s os ws gs : List ℕ) (at : Extent) (ok : stateVerdict t s ≡ Allo
           local-place t s ok of-state ids-of-state (row p) a i
 
       module _ {keys : List ℕ} (keyed : (hs : List ℕ) → KeyColumn (sizesOf t) ids m (rowOf os ws hs) (at .len) keys) where
-        pub keys-below : KeysBelow (at .len) keys
-        keys-below = record { few = loaded .holds .fits; size = keyed gs .size; below = λ i l. keyed gs .each i l .below }
+        pub keys-within : KeysBelow (at .len) keys
+        keys-within = record { few = loaded .holds .fits; size = keyed gs .size; below = λ i l. keyed gs .each i l .below }
 
         pub all-listed : {first count : ℕ} {before after : List ℕ} {p : Part}
             → PartAs moveWords (reactionsBy 1024 t (at .len) (at .next) (take (at .len) keys) ++ endsBy ids m blocked aborting) first count 0 before after p

@@ -1,21 +1,19 @@
 -- The list of open moves is what the code goes through, and what it asks of an accepted state.
 use Prim.Native.Nat.{ℕ, _-_, _≤_, _<_}
-use mathlib.Core.Bool.{Bool, true, false, _&&_}
-use mathlib.Core.List.{List, [], _∷_, _++_, map, append-assoc}
-use mathlib.Core.Path.{_≡_, refl, sym, ap, _∙_, subst}
+use mathlib.Core.Bool.{Bool, true, false}
+use mathlib.Core.List.{List, _++_, map, append-assoc}
+use mathlib.Core.Path.{_≡_, refl, sym, ap, _∙_}
 use native.Mathlib.Omega.{arith}
-use borrow.Author.Tests.{eqb-true, eq-eqb, lt-ltb}
-use lib.Dec.{eqb, ltb}
-use lib.ListN.{length, getD, take}
-use lib.Seq.{length-take-le}
-use Rattle.lists.specs.Lists.{any, keep, upFrom, each}
+use borrow.Author.Tests.{eq-eqb, lt-ltb}
+use lib.Dec.{eqb}
+use lib.ListN.{length, take}
+use Rattle.lists.specs.Lists.{keep, upFrom, each}
 use Rattle.lists.specs.Choices.{clash, and-right}
-use Rattle.lists.specs.Members.{Among, any-intro, getD-among}
+use Rattle.lists.specs.Members.{Among, any-intro}
 use Rattle.lists.specs.Parts.{keep-append}
-use Rattle.lists.specs.Rows.{rows, length-rows, getD-rows}
 use Rattle.lists.specs.Ascending.{PlaceIn}
 use Rattle.lists.specs.Tuples.{keep-each, each-up}
-use Rattle.semantics.specs.Table.{sizesOf, tableOf, ruleAt, classOf, portCount}
+use Rattle.semantics.specs.Table.{sizesOf, tableOf, ruleAt, classOf}
 use Rattle.semantics.specs.State.{Entry, State, owned, stateOf}
 use Rattle.semantics.specs.Move.{Move, commit, abort, moveVerdict}
 use Rattle.semantics.specs.Enabled.{reactionsOf, isAllowed, enabled}
@@ -68,7 +66,9 @@ module _ (t s : List ℕ) (ok : stateVerdict t s ≡ Allowed) where
         keep-append open? (all ++ end commit) (end abort)
         ∙ ap (λ (l : List Move). l ++ keep open? (end abort)) (keep-append open? all (end commit))
         ∙ ap (λ (l : List Move). (l ++ keep open? (end commit)) ++ keep open? (end abort)) by-rules
-        ∙ rw (commits-kept ceiling (tableOf t) S room globals sets listed, aborts-kept ceiling (tableOf t) S room globals sets listed) (append-assoc (reactionsBy ceiling t n (S .next) ks) (map commit (keep (agrees false blocked) (take m ids))) (map abort (keep (agrees true aborting) (take m ids))))
+        ∙ rw (commits-kept ceiling (tableOf t) S room globals sets listed, aborts-kept ceiling (tableOf t) S room globals sets listed)
+        (append-assoc (reactionsBy ceiling t n (S .next) ks) (map commit (keep (agrees false blocked) (take m ids)))
+        (map abort (keep (agrees true aborting) (take m ids))))
 
   -- what is on a local port belongs to a transaction, whose id has been given out
   right : StateRight (sizesOf t) S

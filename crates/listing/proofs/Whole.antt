@@ -1,6 +1,6 @@
 -- What the loop over the rules and the whole list use.
 use Prim.Native.Nat.{ℕ, _+_, _*_, _<_}
-use mathlib.Core.Path.{_≡_, sym, ap, _∙_, subst}
+use mathlib.Core.Path.{_≡_, sym, ap, subst}
 use mathlib.Core.List.{List, _++_}
 use native.Mathlib.Nat.{zero-add}
 use native.Mathlib.Omega.{arith}
@@ -10,16 +10,12 @@ use Rattle.lists.specs.Pages.{Paged}
 use Rattle.semantics.specs.Table.{Rule, consumed}
 use Rattle.semantics.specs.Move.{Move}
 use Rattle.semantics.specs.Enabled.{moveWords}
-use Rattle.wellformed.specs.MoveWords.{fourPicks-length}
 use Rattle.rules.specs.declared.decode.Rule as rules
 use Rattle.rules.specs.Decode.{Decodes}
 use Rattle.reaction.specs.Decoded.{ruleIn, rule-in}
 use Rattle.choices.specs.declared.Part.{Part}
 use Rattle.choices.specs.Parts.{PartAs}
 use Rattle.rule_moves.specs.Takes.{movesBy}
-
-pub five : (m : Move) → length (moveWords m) ≡ 5
-five m = let e = fourPicks-length m in omega arith
 
 -- a part more is told
 pub more-length : (all rest a b : List Move) (n p : ℕ) → n + length rest ≡ length all → rest ≡ a ++ b → p ≡ length a → n + p + length b ≡ length all

@@ -1,7 +1,7 @@
 // The whole list.
 ghost use mathlib.Core.Path.{_≡_};
 ghost use mathlib.Core.List.{_++_};
-ghost use Prim.Native.Nat.{ℕ, _+_, _*_, _≤_, _<_};
+ghost use Prim.Native.Nat.{_+_, _*_, _≤_};
 ghost use lib.ListN.{length, take};
 ghost use Rattle.semantics.specs.Table.{sizesOf, numbersOf};
 ghost use Rattle.semantics.specs.Answers.{tableVerdict, enabledIn};

@@ -1,8 +1,8 @@
 // The reactions of all rules, one rule after another.
 ghost use mathlib.Core.Path.{_≡_};
-ghost use Prim.Native.Nat.{ℕ, _+_, _-_, _*_, _≤_, _<_};
+ghost use Prim.Native.Nat.{_-_, _*_, _≤_, _<_};
 ghost use lib.ListN.{length, take};
-ghost use Rattle.semantics.specs.Table.{sizesOf, numbersOf, tableOf};
+ghost use Rattle.semantics.specs.Table.{sizesOf, numbersOf};
 ghost use Rattle.semantics.specs.Answers.{tableVerdict};
 ghost use Rattle.semantics.specs.Enabled.{moveWords};
 ghost use Rattle.semantics.specs.declared.Verdict.the-variants.{Allowed};

@@ -6,19 +6,15 @@ use mathlib.Core.Path.{_≡_, refl, sym, ap, _∙_}
 use native.Mathlib.Omega.{arith}
 use lib.Dec.{eqb}
 use lib.ListN.{length, getD, length-map}
-use Rattle.lists.specs.Lists.{keep, isIn, distinct, upFrom, each, tuples}
+use Rattle.lists.specs.Lists.{keep, isIn, distinct, upFrom, tuples}
 use Rattle.lists.specs.Each.{All}
 use Rattle.lists.specs.Parts.{keep-map}
 use Rattle.lists.specs.Seen.{unseen, unseen-ext, unseen-distinct}
 use Rattle.lists.specs.Beside.{allBeside, beside-map}
-use Rattle.lists.specs.Tuples.{each-same, keep-each, reads, chosen, keep-tuples}
+use Rattle.lists.specs.Tuples.{each-same, each-up, keep-each, reads, chosen, keep-tuples}
 use Rattle.lists.specs.Choosing.{fits, choicesFrom, groupBase, choicesIn, choicesByGroup}
 
 -- ---- tests that agree on tuples
-
-each-up : {B : Type 0} (f g : ℕ → List B) (n i : ℕ) → ((x : ℕ) → x < i + n → f x ≡ g x) → each f (upFrom i n) ≡ each g (upFrom i n)
-each-up f g zero i h = refl
-each-up f g (suc n) i h = rw (h i (omega arith), each-up f g n (suc i) (λ x l. h x (omega arith)))
 
 -- k numbers below n
 abbrev pub IsTuple : ℕ → ℕ → List ℕ → Type 0
@@ -28,7 +24,7 @@ pub tuples-same : (p q : List ℕ → Bool) (n k : ℕ) → ((ps : List ℕ) →
 tuples-same p q n zero f = rw (f [] (refl, tt))
 tuples-same p q n (suc k) f =
     keep-each p (λ x. map (λ ps. x ∷ ps) (tuples n k)) (upFrom 0 n)
-    ∙ each-up (λ x. keep p (map (λ ps. x ∷ ps) (tuples n k))) (λ x. keep q (map (λ ps. x ∷ ps) (tuples n k))) n 0 (λ x l.
+    ∙ each-up (λ x. keep p (map (λ ps. x ∷ ps) (tuples n k))) (λ x. keep q (map (λ ps. x ∷ ps) (tuples n k))) 0 n (λ x l.
     keep-map (λ ps. x ∷ ps) p (tuples n k)
     ∙ ap (map (λ ps. x ∷ ps)) (tuples-same (λ ps. p (x ∷ ps)) (λ ps. q (x ∷ ps)) n k (λ ps (e, h). f (x ∷ ps) (ap suc e, (omega arith, h))))
     ∙ sym (keep-map (λ ps. x ∷ ps) q (tuples n k)))

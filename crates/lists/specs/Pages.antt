@@ -125,7 +125,8 @@ module _ {A : Type 0} (words : A → List ℕ) (w : ℕ) where
           number = omega (arith, p .number, q .number, ap length e, length-append (page first count xs) (page (first - length xs) (count - m) ys));
           contents = q .contents
               ∙ ap (λ (x : ℕ). sets middle (at + x) (each words (page (first - length xs) (count - m) ys))) k
-              ∙ ap (λ (l : List ℕ). sets l (at + length (each words (page first count xs))) (each words (page (first - length xs) (count - m) ys))) (p .contents)
+              ∙ ap (λ (l : List ℕ). sets l (at + length (each words (page first count xs))) (each words (page (first - length xs) (count - m) ys)))
+              (p .contents)
               ∙ sets-sets before at (each words (page first count xs)) (each words (page (first - length xs) (count - m) ys))
               ∙ ap (sets before at) (sym (each-append words (page first count xs) (page (first - length xs) (count - m) ys)) ∙ ap (each words) (sym e));
         }
@@ -167,4 +168,7 @@ pub paged-map : {A B : Type 0} (f : A → B) (words : B → List ℕ) (w : ℕ) 
     → Paged (λ x. words (f x)) w xs first count at before after n → Paged words w (map f xs) first count at before after n
 paged-map f words w xs first count at before after n p =
     let e : page first count (map f xs) ≡ map f (page first count xs) = page-map f first count xs in
-    record { number = p .number ∙ sym (ap length e ∙ length-map (page first count xs) f); contents = p .contents ∙ ap (sets before at) (sym (ap (each words) e ∙ each-map words f (page first count xs))) }
+    record {
+      number = p .number ∙ sym (ap length e ∙ length-map (page first count xs) f);
+      contents = p .contents ∙ ap (sets before at) (sym (ap (each words) e ∙ each-map words f (page first count xs)));
+    }

@@ -4,12 +4,10 @@ use mathlib.Core.List.{List, [], _∷_, map}
 use mathlib.Core.Logic.{_⊎_, inl, inr, ⊎-elim}
 use mathlib.Core.Path.{_≡_, refl, ap, subst}
 use native.Mathlib.Omega.{arith}
-use lib.Dec.{eqb}
 use lib.ListN.{length}
-use borrow.Author.Tests.{eqb-true, eqb-false}
 use Rattle.lists.specs.Lists.{upFrom, each, tuples}
-use Rattle.lists.specs.Choices.{by-bool}
 use Rattle.lists.specs.Members.{Among, among-left, among-right, among-append, among-map, map-among}
+use Rattle.lists.specs.UpFrom.{up-among}
 
 module _ {A B : Type 0} (f : A → List B) where
   pub among-each : (xs : List A) (y : B) → Among y (each f xs) → (x : A) × Among x xs × Among y (f x)
@@ -29,11 +27,6 @@ pub among-up : (i n x : ℕ) → Among x (upFrom i n) → (i ≤ x) × (x < i + 
 among-up i zero x m = absurd m
 among-up i (suc n) x (inl e) = (omega arith, omega arith)
 among-up i (suc n) x (inr m) = let (a, b) = among-up (suc i) n x m in (omega arith, omega arith)
-
-pub up-among : (i n x : ℕ) → i ≤ x → x < i + n → Among x (upFrom i n)
-up-among i zero x a b = absurd (omega arith)
-up-among i (suc n) x a b =
-    by-bool (eqb x i) (λ e. inl (eqb-true x i e)) (λ e. let h = eqb-false x i e in inr (up-among (suc i) n x (omega arith) (omega arith)))
 
 -- ---- tuples
 

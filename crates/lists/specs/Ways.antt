@@ -1,20 +1,20 @@
 -- How many choices of places there are: for each number wanted as many as there are places with it, less those that the same number has used before.
-use Prim.Native.Nat.{ℕ, zero, suc, _+_, _-_, _*_, _≤_, _<_, _^_}
+use Prim.Native.Nat.{ℕ, zero, suc, _+_, _-_, _*_, _≤_, _<_}
 use mathlib.Core.Bool.{Bool, true, false, not, _&&_, _||_, and-true, or-false}
 use mathlib.Core.List.{List, [], _∷_, _++_, map}
 use mathlib.Core.Path.{_≡_, refl, sym, ap, _∙_, subst, fun-ext}
-use native.Mathlib.Nat.{zero-mul, suc-mul, add-comm, pow-succ', mul-le-mul}
+use native.Mathlib.Nat.{zero-mul, suc-mul, add-comm}
 use native.Mathlib.Omega.{arith}
 use borrow.Author.Tests.{eqb-true, eq-eqb, ne-eqb, not-true}
 use lib.Dec.{eqb}
-use lib.ListN.{length, getD, length-append, length-map, take, drop}
-use Rattle.lists.specs.Lists.{keep, keepIf, isIn, upFrom, oneIf, countIf, each}
+use lib.ListN.{length, getD, length-append, length-map}
+use Rattle.lists.specs.Lists.{keep, isIn, upFrom, oneIf, countIf, each}
 use Rattle.lists.specs.Choices.{by-bool, and-left, and-right}
 use Rattle.lists.specs.Tests.{and-right-false}
 use Rattle.lists.specs.Each.{All, All-keep, All-map}
 use Rattle.lists.specs.Counting.{length-keep}
 use Rattle.lists.specs.Totals.{count-sum}
-use Rattle.lists.specs.Keys.{timesIn, times-none, times-append, times-one, times-le}
+use Rattle.lists.specs.Keys.{timesIn, times-append, times-one}
 use Rattle.lists.specs.Choosing.{fits, choicesFrom}
 
 -- `count` says how many places a number has
@@ -120,15 +120,10 @@ places-below i (suc n) = (omega arith, subst (λ (k : ℕ). All (λ p. p < k) (u
 pub choices-ways : (ks : List ℕ) (ts earlier used : List ℕ) → Used ks earlier used → length (choicesFrom ks used ts) ≡ ways (λ t. timesIn t ks) earlier ts
 choices-ways ks [] earlier used h = refl
 choices-ways ks (t ∷ ts) earlier used h =
-    each-const (λ p. map (λ c. p ∷ c) (choicesFrom ks (used ++ p ∷ []) ts)) (ways (λ t. timesIn t ks) (earlier ++ t ∷ []) ts) (keep (fits ks used t) (upFrom 0 (length ks)))
+    each-const (λ p. map (λ c. p ∷ c) (choicesFrom ks (used ++ p ∷ []) ts)) (ways (λ t. timesIn t ks) (earlier ++ t ∷ []) ts)
+    (keep (fits ks used t) (upFrom 0 (length ks)))
     (All-keep _ (fits ks used t) (upFrom 0 (length ks))
     (All-map {P = λ p. p < 0 + length ks} (λ p l f. length-map (choicesFrom ks (used ++ p ∷ []) ts) (λ c. p ∷ c)
-    ∙ choices-ways ks ts (earlier ++ t ∷ []) (used ++ p ∷ []) (used-next ks earlier used t p (omega arith) f h)) (upFrom 0 (length ks)) (places-below 0 (length ks))))
+    ∙ choices-ways ks ts (earlier ++ t ∷ []) (used ++ p ∷ []) (used-next ks earlier used t p (omega arith) f h))
+    (upFrom 0 (length ks)) (places-below 0 (length ks))))
     ∙ ap (λ (k : ℕ). k * ways (λ t. timesIn t ks) (earlier ++ t ∷ []) ts) (length-keep (fits ks used t) (upFrom 0 (length ks)) ∙ omega (arith, h .free t))
-
--- ---- a bound
-
-pub ways-le : (count : ℕ → ℕ) → ((t : ℕ) → count t ≤ 1024) → (earlier ts : List ℕ) → ways count earlier ts ≤ 1024 ^ length ts
-ways-le count h earlier [] = omega arith
-ways-le count h earlier (t ∷ ts) =
-    rw pow-succ' (mul-le-mul (let b = h t in omega arith) (ways-le count h (earlier ++ t ∷ []) ts))

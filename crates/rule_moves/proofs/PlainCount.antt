@@ -1,8 +1,8 @@
 -- A rule without groups: how many choices it has.
 use Prim.Native.Nat.{ℕ, zero, suc, _*_, _-_, _≤_, _<_}
-use mathlib.Core.Path.{_≡_, refl, sym, ap, _∙_}
+use mathlib.Core.Path.{_≡_, sym, ap, _∙_}
 use mathlib.Core.List.{List, [], _∷_}
-use native.Mathlib.Nat.{sub-zero, mul-le-mul, le-trans}
+use native.Mathlib.Nat.{sub-zero, mul-le-mul}
 use native.Mathlib.Omega.{arith}
 use lib.ListN.{length, getD, take, drop}
 use lib.Seq.{length-take-le}
@@ -59,7 +59,8 @@ module _ (ks counts takes : List ℕ) (few : length ks ≤ 1024) (h : PortCounts
         ∙ ap (ways (λ t. timesIn t ks) []) (front takes four)
         ∙ ap (λ (x : ℕ). (timesIn t ks - x) * ways (λ t. timesIn t ks) (t ∷ []) (drop 1 (take k takes))) (times-none t)
         ∙ ap (λ (x : ℕ). x * ways (λ t. timesIn t ks) (t ∷ []) (drop 1 (take k takes))) (sub-zero (timesIn t ks) ∙ sym (is 0))
-        ∙ ap (λ (x : ℕ). getD counts t 0 * x) (sym (plain-widths .below 0 within ∙ ap (λ (l : List ℕ). ways (λ t. timesIn t ks) l (drop 1 (take k takes))) first)))
+        ∙ ap (λ (x : ℕ). getD counts t 0 * x)
+        (sym (plain-widths .below 0 within ∙ ap (λ (l : List ℕ). ways (λ t. timesIn t ks) l (drop 1 (take k takes))) first)))
 
     pub length-small : getD counts (getD takes 0 0) 0 * getD ws 0 0 ≤ 1099511627776
     length-small = mul-le-mul (at 0) (widths-small takes (countsAt counts takes) k left-few)

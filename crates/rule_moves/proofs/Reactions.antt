@@ -1,7 +1,7 @@
 -- A rule's choices as reactions.
-use Prim.Native.Nat.{ℕ, zero, suc, _+_, _*_, _≤_, _<_}
-use mathlib.Core.Path.{_≡_, refl, sym, ap, _∙_, fun-ext, subst}
-use mathlib.Core.Bool.{Bool, true, false, cond, _&&_, _||_, not}
+use Prim.Native.Nat.{ℕ, zero, suc, _≤_, _<_}
+use mathlib.Core.Path.{_≡_, refl, ap, _∙_, fun-ext, subst}
+use mathlib.Core.Bool.{Bool, true, false, cond}
 use mathlib.Core.List.{List, [], _∷_, _++_, map}
 use native.Mathlib.Omega.{arith}
 use borrow.Author.Tests.{ltb-true, eq-eqb, ne-eqb}
@@ -12,6 +12,7 @@ use Rattle.lists.specs.Each.{All, All-getD}
 use Rattle.lists.specs.Choices.{by-bool}
 use Rattle.lists.specs.Pages.{paged-none}
 use Rattle.lists.specs.Choosing.{choicesFrom, choicesByGroup}
+use Rattle.semantics.specs.Words.{headWord}
 use Rattle.semantics.specs.Table.{Rule, consumed}
 use Rattle.semantics.specs.Move.{react}
 use Rattle.semantics.specs.Enabled.{moveWords}
@@ -45,7 +46,7 @@ over-blank (a ∷ b ∷ c ∷ []) = refl
 over-blank (a ∷ b ∷ c ∷ d ∷ xs) = sets-past (a ∷ b ∷ c ∷ d ∷ []) 4 xs (omega arith)
 
 react-words : (r : ℕ) (c : List ℕ) → choiceWords r blank 0 c ≡ moveWords (react r c)
-react-words r c = let e : r ≡ 0 * 16777216 + r = omega arith in ap (λ (l : List ℕ). r ∷ l) (over-blank c) ∙ ap (λ (h : ℕ). h ∷ take 4 (c ++ replicate 4 0)) e
+react-words r c = let e : r ≡ headWord 0 r = omega arith in ap (λ (l : List ℕ). r ∷ l) (over-blank c) ∙ ap (λ (h : ℕ). h ∷ take 4 (c ++ replicate 4 0)) e
 
 as-reactions : {r : ℕ} {cs : List (List ℕ)} {first count at : ℕ} {before after : List ℕ} {p : Part}
     → PartAs (choiceWords r blank 0) cs first count at before after p → PartAs moveWords (map (react r) cs) first count at before after p
@@ -60,7 +61,8 @@ open-moves r cs e h = rw e (as-reactions h)
 
 pub no-moves : (r : ℕ) {b : Bool} (cs : List (List ℕ)) {first count at : ℕ} {before : List ℕ} → b ≡ false
     → PartAs moveWords (map (react r) (cond b cs [])) first count at before before (record { length = 0; written = 0 })
-no-moves r cs {first = first} {count = count} {at = at} {before = before} e = rw e (record { total = refl; paged = paged-none moveWords 5 first count at before })
+no-moves r cs {first = first} {count = count} {at = at} {before = before} e =
+    rw e (record { total = refl; paged = paged-none moveWords 5 first count at before })
 
 -- ---- the ports
 

@@ -21,9 +21,9 @@ frontOf ports k =
     cond (ltb 0 k) (getD ports 0 0) 0 ∷ cond (ltb 1 k) (getD ports 1 0) 0 ∷ cond (ltb 2 k) (getD ports 2 0) 0 ∷ cond (ltb 3 k) (getD ports 3 0) 0 ∷ []
 
 -- 11 and 12, of a state of n entries and the next id
-abbrev pub isOpen : ℕ → Rule → ℕ → ℕ → Bool
-isOpen ceiling R n next = (not (begins R) || ltb next 65536) && leb (n + length (R .atoms)) (ceiling + 2 * length (consumed R))
+abbrev pub hasRoomFor : ℕ → Rule → ℕ → ℕ → Bool
+hasRoomFor ceiling R n next = (not (begins R) || ltb next 65536) && leb (n + length (R .atoms)) (ceiling + 2 * length (consumed R))
 
 -- the reactions by rule r, by the keys of the entries
 abbrev pub movesBy : ℕ → Rule → ℕ → ℕ → ℕ → List ℕ → List Move
-movesBy ceiling R r n next ks = map (react r) (cond (isOpen ceiling R n next) (choicesOf R ks) [])
+movesBy ceiling R r n next ks = map (react r) (cond (hasRoomFor ceiling R n next) (choicesOf R ks) [])

@@ -1,8 +1,8 @@
 // A rule of any class. Whether ids and room are left for it (11, 12) does not depend on the picks, so it has all its choices or none.
 ghost use mathlib.Core.Path.{_≡_};
 ghost use mathlib.Core.Bool.{cond};
-ghost use Prim.Native.Nat.{ℕ, _+_, _*_, _≤_, _<_};
-ghost use lib.ListN.{length, getD, take};
+ghost use Prim.Native.Nat.{_+_, _*_, _≤_, _<_};
+ghost use lib.ListN.{length, take};
 ghost use Rattle.lists.specs.Each.{All};
 ghost use Rattle.semantics.specs.Table.{consumed};
 ghost use Rattle.semantics.specs.Enabled.{moveWords};
@@ -11,7 +11,7 @@ ghost use Rattle.reaction.specs.Decoded.{ruleIn};
 ghost use Rattle.choices.specs.Parts.{PartAs};
 ghost use Rattle.groups.specs.Groups.{KeysBelow};
 ghost use Rattle.eligible.specs.Ports.{PortCounts};
-ghost use Rattle.rule_moves.specs.Takes.{frontOf, isOpen, movesBy};
+ghost use Rattle.rule_moves.specs.Takes.{frontOf, hasRoomFor, movesBy};
 use crate::grouped::grouped_moves;
 use crate::plain::plain_moves;
 use choices::Part;
@@ -39,7 +39,7 @@ fn front_of(ports: [u16; 4], k: usize) -> [u32; 4]
 
 fn is_open(rule: Rule, at: Extent, ceiling: usize) -> bool
     requires { ⌜ Decodes rule (ruleIn rule) × (at .len ≤ 1024) × (ceiling ≤ 1024) ⌝ }
-    ensures { λ r. ⌜ r ≡ isOpen ceiling (ruleIn rule) (at .len) (at .next) ⌝ }
+    ensures { λ r. ⌜ r ≡ hasRoomFor ceiling (ruleIn rule) (at .len) (at .next) ⌝ }
 {
     let n = at.len;
     let k = rule.consumes;

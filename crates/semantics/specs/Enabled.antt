@@ -1,7 +1,7 @@
 -- 02, M-100: every move that is open in a state, in order, and a page of them.
 use Prim.Native.Nat.{ℕ, _-_, min}
 use mathlib.Core.Bool.{Bool, true, false}
-use mathlib.Core.List.{List, [], _∷_, _++_, map}
+use mathlib.Core.List.{List, _∷_, _++_, map}
 use lib.ListN.{length, take, drop}
 use Rattle.lists.specs.Lists.{keep, upFrom, each, tuples}
 use Rattle.semantics.specs.Table.{Table, ruleAt, consumed}

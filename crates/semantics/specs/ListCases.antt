@@ -96,8 +96,13 @@ page-cases-hold = refl
 -- Where one entry more would be too many (12), a rule that leaves three for one is not open at all; nor is one that begins where N is 65,536 (11). The
 -- reactions alone, since with that N the candidates are too many to be run here.
 abbrev reactionsOpen : ℕ → List ℕ → ℕ
-reactionsOpen ceiling s = length (keep (λ m. isAllowed (moveVerdict ceiling (tableOf twoLot) (stateOf s) m)) (each (reactionsOf (tableOf twoLot) 2) (0 ∷ 1 ∷ 2 ∷ 3 ∷ [])))
+reactionsOpen ceiling s =
+    length (keep (λ m. isAllowed (moveVerdict ceiling (tableOf twoLot) (stateOf s) m)) (each (reactionsOf (tableOf twoLot) 2) (0 ∷ 1 ∷ 2 ∷ 3 ∷ [])))
 
-pub none-open : reactionsOpen 3 start ∷ reactionsOpen 4 start ∷ reactionsOpen 4 (2 ∷ 65536 ∷ 0 ∷ 0 ∷ 7 ∷ 9 ∷ []) ∷ reactionsOpen 4 (2 ∷ 65535 ∷ 0 ∷ 0 ∷ 7 ∷ 9 ∷ []) ∷ [] ≡ 0 ∷ 2 ∷ 0 ∷ 2 ∷ []
+-- the same two messages, with another next id
+abbrev startWith : ℕ → List ℕ
+startWith next = 2 ∷ next ∷ 0 ∷ 0 ∷ 7 ∷ 9 ∷ []
+
+pub none-open : reactionsOpen 3 start ∷ reactionsOpen 4 start ∷ reactionsOpen 4 (startWith 65536) ∷ reactionsOpen 4 (startWith 65535) ∷ [] ≡ 0 ∷ 2 ∷ 0 ∷ 2 ∷ []
 unfolding twoLot start ruleOf tableOf stateOf reacted Move.ended allowed applied moveVerdict
 none-open = refl

@@ -49,6 +49,9 @@ fourPicks-length (react r ps) = four-length ps
 fourPicks-length (commit b) = refl
 fourPicks-length (abort b) = refl
 
+pub moveWords-length : (m : Move) → length (moveWords m) ≡ 5
+moveWords-length m = let e = fourPicks-length m in omega arith
+
 zeros-take : (k j : ℕ) → all isZero (take k (replicate j 0)) ≡ true
 zeros-take zero j = refl
 zeros-take (suc k) zero = refl

@@ -1,9 +1,7 @@
 -- `list_moves` meets its contract: each return is a fault at a place of `listFaults`, or the page (`Listing`).
 use mathlib.Core.Logic.{inl}
-use mathlib.Core.Path.{_≡_, sym, ap, _∙_}
+use mathlib.Core.Path.{sym, _∙_}
 use native.Mathlib.Omega.{arith}
-use native.Mathlib.Nat.{min-le-right}
-use lib.ListN.{length}
 use Rattle.calls.proofs.Listing.{list-fault, list-short, list-done}
 use borrow.Author.Needs.{needs}
 use Rattle.calls.proofs.pages.list_moves.Statement.{statement}
@@ -28,7 +26,8 @@ list-page-requires c κs =
 returns-3 : tie.Need-returns-3
 returns-3 c =
     let told = c .before .before .before .before .before .before .before in
-    list-done _ _ _ _ _ (sym (told .before .before .ready .ensures .verdict) ∙ told .enum-told .given .1) (c .before .before .before .before .before .before .page-count .ensures)
+    list-done _ _ _ _ _ (sym (told .before .before .ready .ensures .verdict) ∙ told .enum-told .given .1)
+    (c .before .before .before .before .before .before .page-count .ensures)
     (c .before .before .before .before .before .if1 .left) (c .before .before .list-page .ensures)
 
 pub list-moves-spec : {M : Type 1} → statement M

@@ -1,11 +1,10 @@
 -- `list_page` meets its contract: the open moves' page, counted in words.
 use Prim.Native.Nat.{_≤_}
-use mathlib.Core.Path.{_≡_, refl}
+use mathlib.Core.Path.{refl}
 use native.Mathlib.Omega.{arith}
 use Rattle.lists.specs.Pages.{paged-le, paged-length}
 use Rattle.calls.specs.Lists.{allOpen}
 use Rattle.calls.proofs.Listing.{page-written}
-use borrow.Author.Needs.{needs}
 use Rattle.calls.proofs.pages.list_page.Statement.{statement}
 use Rattle.calls.proofs.pages.list_page.Tie as tie
 
@@ -16,7 +15,8 @@ returns : tie.Need-returns
 returns c =
     let o = c .before .before .before in
     let s = o .before .before .before .before .before in
-    page-written (allOpen (s .args .table .now) (s .args .state .now)) (s .args .first) (s .args .count) (s .args .target .now) (s .pre .2) (o .open-moves .ensures) refl
+    page-written (allOpen (s .args .table .now) (s .args .state .now)) (s .args .first) (s .args .count) (s .args .target .now) (s .pre .2)
+    (o .open-moves .ensures) refl
 
 pub list-page-spec : {M : Type 1} → statement M
 list-page-spec =

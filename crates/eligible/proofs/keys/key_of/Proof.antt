@@ -1,6 +1,6 @@
 -- `key_of` meets its contract: each of its returns is a case of `KeyCases`.
 use Prim.Native.Nat.{ℕ, _<_}
-use mathlib.Core.Path.{_≡_, sym, _∙_}
+use mathlib.Core.Path.{sym, _∙_}
 use native.Mathlib.Omega.{arith}
 use borrow.Author.Tests.{ne-eqb}
 use Rattle.semantics.specs.Words.{portOf}
@@ -42,8 +42,8 @@ local-key-requires c κs =
     let a = s .args in
     let port = c .before .before .before .before .port-of .ensures in
     let l = is-local (a .z) (a .ids .now) (a .m) (entryFrom (a .owner) (a .item) 0)
-    (sym (c .before .before .before .before .before .before .kind-of .ensures) ∙ omega (arith, c .before .before .before .before .before .if1 .left)) (port-small (a .item))
-    (omega (arith, port, c .before .before .if2 .left)) (omega (arith, port, c .if4 .taken)) in
+    (sym (c .before .before .before .before .before .before .kind-of .ensures) ∙ omega (arith, c .before .before .before .before .before .if1 .left))
+    (port-small (a .item)) (omega (arith, port, c .before .before .if2 .left)) (omega (arith, port, c .if4 .taken)) in
     (s .pre .1, s .pre .2, s .pre .3 0 l, omega (arith, port, port-small (a .item)))
 
 returns-4 : tie.Need-returns-4
@@ -52,8 +52,10 @@ returns-4 c origin =
     let a = s .args in
     let port = c .before .before .before .before .before .port-of .ensures in
     key-local (a .z) (a .ids .now) (a .m) (entryFrom (a .owner) (a .item) origin)
-    (sym (c .before .before .before .before .before .before .before .kind-of .ensures) ∙ omega (arith, c .before .before .before .before .before .before .if1 .left)) (port-small (a .item))
-    (omega (arith, port, c .before .before .before .if2 .left)) (omega (arith, port, c .before .if4 .taken)) (s .pre .1) (rw port at (c .local-key .ensures))
+    (sym (c .before .before .before .before .before .before .before .kind-of .ensures)
+    ∙ omega (arith, c .before .before .before .before .before .before .if1 .left))
+    (port-small (a .item)) (omega (arith, port, c .before .before .before .if2 .left)) (omega (arith, port, c .before .if4 .taken))
+    (s .pre .1) (rw port at (c .local-key .ensures))
 
 returns-5 : tie.Need-returns-5
 returns-5 c origin =
@@ -61,8 +63,8 @@ returns-5 c origin =
     let a = s .args in
     let port = c .before .before .before .before .port-of .ensures in
     rw port (key-merge (a .z) (a .ids .now) (a .m) (entryFrom (a .owner) (a .item) origin)
-    (sym (c .before .before .before .before .before .before .kind-of .ensures) ∙ omega (arith, c .before .before .before .before .before .if1 .left)) (port-small (a .item))
-    (omega (arith, port, c .before .before .if2 .left)) (omega (arith, port, c .if4 .left)))
+    (sym (c .before .before .before .before .before .before .kind-of .ensures) ∙ omega (arith, c .before .before .before .before .before .if1 .left))
+    (port-small (a .item)) (omega (arith, port, c .before .before .if2 .left)) (omega (arith, port, c .if4 .left)))
 
 pub key-of-spec : {M : Type 1} → statement M
 key-of-spec =

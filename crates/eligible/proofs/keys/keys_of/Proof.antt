@@ -5,9 +5,8 @@ use mathlib.Core.List.{List, []}
 use native.Mathlib.Omega.{arith}
 use lib.ListN.{length, getD, length-set}
 use Rattle.state.specs.Working.{rowOf}
-use Rattle.eligible.specs.KeyColumn.{KeyAs, KeyColumn}
+use Rattle.eligible.specs.KeyColumn.{KeyColumn}
 use Rattle.eligible.proofs.KeyCases.{column-more}
-use borrow.Author.Needs.{needs}
 use Rattle.eligible.proofs.keys.keys_of.Statement.{statement}
 use Rattle.eligible.proofs.keys.keys_of.Tie as tie
 

@@ -1,12 +1,13 @@
 -- `listed` meets its contract: the reactions, and behind them the ends.
-use Prim.Native.Nat.{ℕ, _≤_}
-use mathlib.Core.Path.{_≡_, _∙_}
+use Prim.Native.Nat.{_≤_}
+use mathlib.Core.Path.{_∙_}
 use native.Mathlib.Omega.{arith}
 use Rattle.lists.specs.Padded.{getD-replicate-any}
 use Rattle.lists.specs.Pages.{paged-le, paged-length}
 use Rattle.semantics.specs.Enabled.{moveWords}
 use Rattle.choices.specs.Parts.{part-append}
-use Rattle.listing.proofs.Whole.{five, part-from-zero}
+use Rattle.wellformed.specs.MoveWords.{moveWords-length}
+use Rattle.listing.proofs.Whole.{part-from-zero}
 use borrow.Author.Needs.{needs}
 use Rattle.listing.proofs.list.listed.Statement.{statement}
 use Rattle.listing.proofs.list.listed.Tie as tie
@@ -34,13 +35,14 @@ tail-requires c κs =
 add-t27 : tie.Need-add-t27
 add-t27 c =
     let e = c .before .before .before .before .before .before .before .before .before .before .before .before .before in
-    omega (arith, few e, paged-le _ 5 (c .before .before .before .before .before .before .tail .ensures .0 .paged), e .before .before .before .before .before .before .before .pre .1 .0)
+    let start = e .before .before .before .before .before .before .before in
+    omega (arith, few e, paged-le _ 5 (c .before .before .before .before .before .before .tail .ensures .0 .paged), start .pre .1 .0)
 
 returns : tie.Need-returns
 returns c =
     let e = c .before .before .before .before .before .before .before .before .before .before .before .before .before in
     let f = c .before .before .before .before .before .before in
-    part-append moveWords five _ _ (e .reactions .result) (f .tail .result) (e .reactions .ensures .0)
+    part-append moveWords moveWords-length _ _ (e .reactions .result) (f .tail .result) (e .reactions .ensures .0)
     (part-from-zero (e .reactions .result .written) (rw (f .before .before .before .before .less .ensures) at (f .tail .ensures .0)))
 
 pub listed-spec : {M : Type 1} → statement M
@@ -53,9 +55,11 @@ listed-spec =
     (λ c. omega (arith, few (c .before .before .before .before)))
     (λ c. let e = c .before .before .before .before .before in omega (arith, few e, e .before .before .before .before .before .before .before .pre .1 .0))
     tail-requires
-    (λ c. omega (arith, c .before .before .before .before .tail .ensures .1, c .before .before .before .before .before .before .before .before .before .before .before .reactions .ensures .1))
+    (λ c.
+    let made = c .before .before .before .before .before .before .before .before .before .before .before in
+    omega (arith, c .before .before .before .before .tail .ensures .1, made .reactions .ensures .1))
     add-t27
     (λ c.
-    paged-length _ 5 (c .before .before .before .before .before .before .tail .ensures .0 .paged)
-    ∙ paged-length _ 5 (c .before .before .before .before .before .before .before .before .before .before .before .before .before .reactions .ensures .0 .paged))
+    let made = c .before .before .before .before .before .before .before .before .before .before .before .before .before in
+    paged-length _ 5 (c .before .before .before .before .before .before .tail .ensures .0 .paged) ∙ paged-length _ 5 (made .reactions .ensures .0 .paged))
     returns)

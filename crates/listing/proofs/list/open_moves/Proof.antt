@@ -1,9 +1,6 @@
 -- `open_moves` meets its contract: the state's columns, its transactions and its keys, and what is listed by them (`Loaded`).
-use Prim.Native.Nat.{ℕ, _≤_, _<_}
-use mathlib.Core.Path.{_≡_, sym, ap}
-use mathlib.Core.List.{List}
+use mathlib.Core.Path.{_≡_, ap}
 use native.Mathlib.Omega.{arith}
-use lib.ListN.{length}
 use Rattle.lists.specs.Pages.{paged-length}
 use Rattle.semantics.specs.Table.{sizesOf}
 use Rattle.wellformed.specs.Tables.{well-formed}
@@ -11,7 +8,7 @@ use Rattle.idset.specs.IdSet.{zeros-empty}
 use Rattle.ready.specs.Ready.{ready-table}
 use Rattle.state.specs.Parts.{loadable}
 use Rattle.transactions.specs.Ids.{ids-ascend}
-use Rattle.listing.proofs.Loaded.{columns, next-within, ids-few, places, keys-below, all-listed}
+use Rattle.listing.proofs.Loaded.{columns, next-within, ids-few, places, keys-within, all-listed}
 use borrow.Author.Needs.{needs}
 use Rattle.listing.proofs.list.open_moves.Statement.{statement}
 use Rattle.listing.proofs.list.open_moves.Tie as tie
@@ -24,7 +21,8 @@ survey-requires : tie.Need-survey-requires
 survey-requires c κs =
     let l = c .before .before .before .before .before .before in
     let s = start l in
-    (columns (s .args .table .now) (s .args .state .now) _ _ _ (l .load .result) (s .pre .0 .accepted) (l .load .ensures), zeros-empty, zeros-empty, zeros-empty)
+    let c = columns (s .args .table .now) (s .args .state .now) _ _ _ (l .load .result) (s .pre .0 .accepted) (l .load .ensures) in
+    (c, zeros-empty, zeros-empty, zeros-empty)
 
 -- the globals handed on are the table's
 globals : (c : tie.After-sizes-of) → c .sizes-of .result .globals ≡ sizesOf (start (c .before) .args .table .now) .globals
@@ -39,8 +37,8 @@ ids-of-requires c κs =
       low,
       high,
       search needs,
-      ids-few (s .args .table .now) (s .args .state .now) _ _ _ (l .load .result) (s .pre .0 .accepted) (l .load .ensures) (z .sizes-of .result .globals) (globals z)
-          (c .before .before .survey .ensures),
+      ids-few (s .args .table .now) (s .args .state .now) _ _ _ (l .load .result) (s .pre .0 .accepted) (l .load .ensures)
+          (z .sizes-of .result .globals) (globals z) (c .before .before .survey .ensures),
     )
 
 keys-of-requires : tie.Need-keys-of-requires
@@ -73,7 +71,7 @@ listed-requires c κs =
       (
         ready-table (s .pre .0),
         s .pre .0 .starts,
-        keys-below (s .args .table .now) (s .args .state .now) _ _ _ (l .load .result) (s .pre .0 .accepted) (l .load .ensures)
+        keys-within (s .args .table .now) (s .args .state .now) _ _ _ (l .load .result) (s .pre .0 .accepted) (l .load .ensures)
             (z .sizes-of .result .globals) (globals z) (v .survey .ensures) ids (rw (z .sizes-of .ensures) at (k .keys-of .ensures)),
         omega arith,
         ids .fits,

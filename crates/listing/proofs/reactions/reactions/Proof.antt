@@ -1,21 +1,21 @@
 -- `reactions` meets its contract: the list is paged rule by rule.
 use Prim.Native.Nat.{ℕ, _+_, _-_, _*_, _≤_, _<_}
-use mathlib.Core.Path.{_≡_, refl, sym, ap, _∙_}
+use mathlib.Core.Path.{_≡_, sym, ap}
 use mathlib.Core.List.{List}
 use native.Mathlib.Omega.{arith}
 use lib.ListN.{length, take}
-use Rattle.lists.specs.Lists.{upFrom, each}
 use Rattle.lists.specs.Tuples.{eachUp, up-start, up-end, up-here}
 use Rattle.lists.specs.Pages.{Paging, paging-start, paging-pass, paging-more, paging-end, paged-le, paged-length}
 use Rattle.semantics.specs.Table.{sizesOf, tableOf, ruleAt}
 use Rattle.semantics.specs.Move.{Move}
 use Rattle.semantics.specs.Enabled.{moveWords}
 use Rattle.wellformed.specs.Tables.{well-formed}
+use Rattle.wellformed.specs.MoveWords.{moveWords-length}
 use Rattle.enabled.specs.Reactions.{consumed-below}
 use Rattle.reaction.specs.Decoded.{decodes-itself}
 use Rattle.rule_moves.specs.Takes.{movesBy}
 use Rattle.listing.specs.Listing.{reactionsBy}
-use Rattle.listing.proofs.Whole.{five, more-length, small-ports, part-of-rule, from-zero}
+use Rattle.listing.proofs.Whole.{more-length, small-ports, part-of-rule, from-zero}
 use borrow.Author.Needs.{needs}
 use Rattle.listing.proofs.reactions.reactions.Statement.{statement}
 use Rattle.listing.proofs.reactions.reactions.Tie as tie
@@ -38,8 +38,10 @@ abbrev μ : tie.MeasureT-loop
 loop-holds : tie.Need-loop-holds Inv μ
 loop-holds c =
     let a = c .before .before .before .args in
-    let e = up-start (λ r. movesBy (a .ceiling) (ruleAt (tableOf (a .table .now)) r) r (a .at .len) (a .at .next) (take (a .at .len) (a .keys .now))) (sizesOf (a .table .now) .rules) in
-    (omega arith, omega arith, paging-pass moveWords 5 five (paging-start moveWords 5 _ (a .first) (a .count) 0 (a .target .now)) (sym e), omega (arith, ap length e))
+    let e = up-start (λ r. movesBy (a .ceiling) (ruleAt (tableOf (a .table .now)) r) r (a .at .len) (a .at .next) (take (a .at .len) (a .keys .now)))
+    (sizesOf (a .table .now) .rules) in
+    let none = paging-start moveWords 5 _ (a .first) (a .count) 0 (a .target .now) in
+    (omega arith, omega arith, paging-pass moveWords 5 moveWords-length none (sym e), omega (arith, ap length e))
 
 below : (c : tie.In-loop Inv μ) → c .before .loop .r < sizesOf (c .before .before .before .before .before .args .table .now) .rules
 below c = rw (← ap (λ z. z .rules) (c .before .before .sizes-of .ensures)) (c .loop-test .taken)
@@ -53,8 +55,9 @@ moves-by-requires c κs =
     let turn = c .before .before in
     let s = turn .before .before .before .before .before in
     let d = c .before .rule-at .ensures in
-    let same = paged-length moveWords 5 (turn .before .loop .inv .2 .paged) in (
-      (decodes-itself _ _ d, small-ports d (consumed-below (s .args .table .now) (s .pre .0 .0) (turn .before .loop .r) (below turn)), s .pre .0 .2, s .pre .0 .3, s .pre .0 .4),
+    let same = paged-length moveWords 5 (turn .before .loop .inv .2 .paged) in
+    let ports = small-ports d (consumed-below (s .args .table .now) (s .pre .0 .0) (turn .before .loop .r) (below turn)) in (
+      (decodes-itself _ _ d, ports, s .pre .0 .2, s .pre .0 .3, s .pre .0 .4),
       (omega (arith, s .pre .1 .0), omega (arith, s .pre .1 .1, same, done-le turn)),
     )
 
@@ -78,10 +81,11 @@ loop-again c =
     let s = turn .before .before .before .before .before in
     let a = s .args in
     let l = turn .before .loop in
-    let part = part-of-rule (made .before .before .rule-at .ensures) (a .ceiling) (l .r) (a .at .len) (a .at .next) (take (a .at .len) (a .keys .now)) (made .moves-by .ensures .0) in
+    let part = part-of-rule (made .before .before .rule-at .ensures) (a .ceiling) (l .r) (a .at .len) (a .at .next) (take (a .at .len) (a .keys .now))
+    (made .moves-by .ensures .0) in
     let next = up-here (λ r. movesBy (a .ceiling) (ruleAt (tableOf (a .table .now)) r) r (a .at .len) (a .at .next) (take (a .at .len) (a .keys .now)))
     (sizesOf (a .table .now) .rules) (l .r) (below turn) in
-    let more = paging-more moveWords 5 five (l .inv .2) _ _ _ _ next (from-zero (l .done) (part .paged)) in (
+    let more = paging-more moveWords 5 moveWords-length (l .inv .2) _ _ _ _ next (from-zero (l .done) (part .paged)) in (
       omega (arith, below turn),
       omega (arith, l .inv .1, made .moves-by .ensures .1),
       rw (c .before .less .ensures, part .total) more,
@@ -101,7 +105,7 @@ returns c =
     let few = well-formed (a .table .now) (s .pre .0 .0) .sizes .rules in
     let none = up-end (λ r. movesBy (a .ceiling) (ruleAt (tableOf (a .table .now)) r) r (a .at .len) (a .at .next) (take (a .at .len) (a .keys .now)))
     (sizesOf (a .table .now) .rules) (l .r) (rw (← z) (c .loop-test .left)) in (
-      record { total = omega (arith, l .inv .3, ap length none); paged = paging-end moveWords 5 five (l .inv .2) none },
+      record { total = omega (arith, l .inv .3, ap length none); paged = paging-end moveWords 5 moveWords-length (l .inv .2) none },
       omega (arith, l .inv .1, l .inv .0, few),
     )
 

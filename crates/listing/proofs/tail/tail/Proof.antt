@@ -1,12 +1,11 @@
 -- `tail` meets its contract: the commits, and behind them the aborts.
-use Prim.Native.Nat.{ℕ, _≤_}
-use mathlib.Core.Path.{_≡_}
+use Prim.Native.Nat.{_≤_}
 use native.Mathlib.Omega.{arith}
 use Rattle.lists.specs.Pages.{paged-le, paged-length}
 use Rattle.semantics.specs.Move.{commit, abort}
 use Rattle.semantics.specs.Enabled.{moveWords}
 use Rattle.choices.specs.Parts.{part-map, part-append}
-use Rattle.listing.proofs.Whole.{five}
+use Rattle.wellformed.specs.MoveWords.{moveWords-length}
 use borrow.Author.Needs.{needs}
 use Rattle.listing.proofs.tail.tail.Statement.{statement}
 use Rattle.listing.proofs.tail.tail.Tie as tie
@@ -31,8 +30,9 @@ returns : tie.Need-returns
 returns c =
     let e = c .before .before .before .before .before .before .before .before .before .before .before .before .before in
     let f = c .before .before .before .before .before .before in
+    let first = part-map commit moveWords (e .ends .ensures .0) in
     let second = rw (f .before .before .before .before .less .ensures) at (f .ends2 .ensures .0) in (
-      part-append moveWords five _ _ (e .ends .result) (f .ends2 .result) (part-map commit moveWords (e .ends .ensures .0)) (part-map abort moveWords second),
+      part-append moveWords moveWords-length _ _ (e .ends .result) (f .ends2 .result) first (part-map abort moveWords second),
       omega (arith, e .ends .ensures .1, f .ends2 .ensures .1),
     )
 

@@ -1,7 +1,7 @@
 -- `plain_moves` meets its contract: the count is a product (`PlainCount`), and the page is `fill`'s.
-use Prim.Native.Nat.{ℕ, _*_, _≤_}
-use mathlib.Core.Path.{_≡_, refl, sym, ap, _∙_}
-use mathlib.Core.List.{List, []}
+use Prim.Native.Nat.{_*_, _≤_}
+use mathlib.Core.Path.{_≡_}
+use mathlib.Core.List.{[]}
 use native.Mathlib.Nat.{lt-of-le-of-lt}
 use native.Mathlib.Omega.{arith}
 use lib.Dec.{lit<}
@@ -66,7 +66,8 @@ fill-requires c κs =
         s .pre .1,
         (
           rw (a .widths .ensures, a .before .counts-at .ensures)
-              (plain-widths (take (s .args .n) (s .args .keys .now)) (s .args .counts .now) (s .args .takes) (few s) (p .2) (p .3) four (s .args .k) (p .4) (p .5)),
+              (plain-widths (take (s .args .n) (s .args .keys .now)) (s .args .counts .now) (s .args .takes) (few s) (p .2) (p .3) four (s .args .k)
+              (p .4) (p .5)),
           used-none (take (s .args .n) (s .args .keys .now)),
         ),
       ),

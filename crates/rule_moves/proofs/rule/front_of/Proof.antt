@@ -2,9 +2,6 @@
 use borrow.Author.Needs.{needs}
 use Rattle.rule_moves.proofs.rule.front_of.Statement.{statement}
 use Rattle.rule_moves.proofs.rule.front_of.Tie as tie
-use Rattle.rule_moves.proofs.rule.front_of.Reads as reads
-use Rattle.rule_moves.proofs.rule.front_of.Lts as lts
-use Rattle.rule_moves.proofs.rule.port_if.Reads as port-if-reads
 
 array-read-port-if : tie.Need-array-read-port-if
 array-read-port-if c = search needs

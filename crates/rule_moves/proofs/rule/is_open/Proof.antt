@@ -1,4 +1,4 @@
--- `is_open` computes the two tests of `isOpen`.
+-- `is_open` computes the two tests of `hasRoomFor`.
 use native.Mathlib.Omega.{arith}
 use Rattle.reaction.specs.Decoded.{count-atoms}
 use borrow.Author.Needs.{needs}

@@ -1,11 +1,8 @@
 -- `moves_by` meets its contract: no choices where the rule is not open, and else those of its class (`Reactions`).
-use Prim.Native.Nat.{ℕ, _≤_, _<_}
-use mathlib.Core.Path.{_≡_, sym, ap, _∙_}
-use mathlib.Core.List.{List}
+use mathlib.Core.Path.{_≡_, sym, _∙_}
 use native.Mathlib.Omega.{arith}
 use borrow.Author.Tests.{not-true, not-false}
-use lib.ListN.{length, take}
-use Rattle.lists.specs.Each.{All}
+use lib.ListN.{take}
 use Rattle.lists.specs.Pages.{paged-length}
 use Rattle.semantics.specs.Table.{consumed}
 use Rattle.reaction.specs.Decoded.{ruleIn}
