@@ -61,13 +61,13 @@ module _ {ks : List ℕ} {b c d : ℕ} {counts : List ℕ} (h : Grouped ks b c d
     abbrev z : ℕ
     z = timesIn (g * 512 + d) ks
 
-    second-left : getD counts g 0 % 65536 ≡ x
+    second-left : getD counts g 0 % 1048576 ≡ x
     second-left = omega (arith, h .each g low, times-few (g * 512 + b), times-few (g * 512 + c), times-few (g * 512 + d))
 
-    third-left : getD counts g 0 / 65536 % 65536 ≡ y
+    third-left : getD counts g 0 / 1048576 % 1048576 ≡ y
     third-left = omega (arith, h .each g low, times-few (g * 512 + b), times-few (g * 512 + c), times-few (g * 512 + d))
 
-    fourth-left : getD counts g 0 / 4294967296 ≡ z
+    fourth-left : getD counts g 0 / 1099511627776 ≡ z
     fourth-left = omega (arith, h .each g low, times-few (g * 512 + b), times-few (g * 512 + c), times-few (g * 512 + d))
 
     left-few : (j : ℕ) → getD (leftIn counts g) j 0 ≤ 1024

@@ -13,7 +13,7 @@ pub record KeysBelow (n : ℕ) (keys : List ℕ) : Type 0 where
 
 -- three counts in one word, so that an entry costs one store
 abbrev pub packed : ℕ → ℕ → ℕ → ℕ
-packed x y z = x + 65536 * y + 4294967296 * z
+packed x y z = x + 1048576 * y + 1099511627776 * z
 
 -- how many of the keys ks each group has on ports b, c and d; a count has its place in the word, for there are at most 1,024 keys
 pub record Grouped (ks : List ℕ) (b c d : ℕ) (counts : List ℕ) : Type 0 where
@@ -27,7 +27,7 @@ CountedFor ks takes counts = Grouped ks (getD takes 1 0) (getD takes 2 0) (getD 
 
 -- how many of each number there are in a group; of the first nothing is said
 abbrev pub leftIn : List ℕ → ℕ → List ℕ
-leftIn counts g = 0 ∷ (getD counts g 0 % 65536) ∷ (getD counts g 0 / 65536 % 65536) ∷ (getD counts g 0 / 4294967296) ∷ []
+leftIn counts g = 0 ∷ (getD counts g 0 % 1048576) ∷ (getD counts g 0 / 1048576 % 1048576) ∷ (getD counts g 0 / 1099511627776) ∷ []
 
 pub record Sized (counts : List ℕ) : Type 0 where
   pub size : length counts ≡ 1024

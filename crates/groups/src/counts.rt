@@ -14,9 +14,9 @@ fn one_if(b: bool) -> u64
 
 // What an entry on this port adds to its group's word.
 fn ones(port: u32, b: u32, c: u32, d: u32) -> u64
-    ensures { λ r. ⌜ (r ≡ packed (oneIf (eqb port b)) (oneIf (eqb port c)) (oneIf (eqb port d))) × (r ≤ 4295032833) ⌝ }
+    ensures { λ r. ⌜ (r ≡ packed (oneIf (eqb port b)) (oneIf (eqb port c)) (oneIf (eqb port d))) × (r ≤ 1099512676353) ⌝ }
 {
-    one_if(port == b) + 65536 * one_if(port == c) + 4294967296 * one_if(port == d)
+    one_if(port == b) + 1048576 * one_if(port == c) + 1099511627776 * one_if(port == d)
 }
 
 // In one pass over the keys, without a branch; one word for a group, so that an entry costs one store.

@@ -20,7 +20,7 @@ fn widths_in<'a>(takes: [u32; 4], k: usize, counts: &'a [u64; 1024], key: u32) -
 {
     let g = (key / 512) as usize;
     let x = counts[g];
-    let left = [0, x % 65536, x / 65536 % 65536, x / 4294967296];
+    let left = [0, x % 1048576, x / 1048576 % 1048576, x / 1099511627776];
     widths(takes, left, k)
 }
 
