@@ -15,8 +15,10 @@ fn the_benchmark_runs() {
 
 #[test]
 fn the_count_runs() {
-    for call in ["run", "serialize"] {
-        for kind in ["merges", "global"] {
+    for (call, kinds) in
+        [("run", ["merges", "global"]), ("serialize", ["merges", "global"]), ("list_moves", ["local", "global"])]
+    {
+        for kind in kinds {
             let run = Command::new(env!("CARGO_BIN_EXE_count")).args([call, kind, "16", "16"]).output().unwrap();
             assert!(run.status.success(), "{call} {kind}: {}", String::from_utf8_lossy(&run.stderr));
         }

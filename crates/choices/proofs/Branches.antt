@@ -1,14 +1,16 @@
 -- The choices of one level: branch by branch, one for each place that can be picked.
 use Prim.Native.Nat.{ℕ, zero, suc, _+_, _-_, _*_, _≤_, _<_}
 use mathlib.Core.Path.{_≡_, refl, sym, ap, _∙_, subst}
-use mathlib.Core.Bool.{Bool, true, false}
+use mathlib.Core.Bool.{Bool, true, false, not}
 use mathlib.Core.List.{List, [], _∷_, _++_, map}
 use native.Mathlib.Nat.{min-le-left}
 use native.Mathlib.Numerals.{add-one}
 use native.Mathlib.Omega.{arith}
+use borrow.Author.Tests.{eq-eqb, ne-eqb}
 use lib.ListN.{length, getD, take, drop, set, length-map, length-take, drop-of-length-le}
 use lib.Seq.{sets, length-take-le, getD-take, take-suc-set, take-suc, take-take, drop-cons}
-use Rattle.lists.specs.Tuples.{eachFrom, from-start}
+use Rattle.lists.specs.Tuples.{eachFrom, from-start, from-skip}
+use Rattle.lists.specs.Lists.{isIn}
 use Rattle.lists.specs.Prefix.{prefix-tails}
 use Rattle.lists.specs.Keys.{timesIn}
 use Rattle.lists.specs.Choosing.{fits, choicesFrom}
@@ -16,6 +18,7 @@ use Rattle.lists.specs.Pages.{Paged, paged-map, paged-past, paged-one, paged-sa
 use Rattle.lists.specs.Ways.{ways, Used, used-next, choices-ways}
 use Rattle.choices.specs.Widths.{Widths}
 use Rattle.choices.specs.Words.{choiceWords}
+use Rattle.choices.specs.Next.{NextKey}
 
 -- the choices that begin with place p, and those that begin with a place from p on
 abbrev pub branch : List ℕ → List ℕ → List ℕ → ℕ → List (List ℕ)
@@ -87,6 +90,14 @@ module _ (ks wanted used : List ℕ) (k i : ℕ) (e : i ≡ k) where
     leaf-one count z h w =
         paged-same (choiceWords head picks i) 5 (sym leaf) (rw (z, w) (paged-one (choiceWords head picks i) 5 [] count at before (omega arith)))
 
--- a place's test on the whole array is one on the part in use
-pub fits-in : (keys : List ℕ) (n : ℕ) (used : List ℕ) (t p : ℕ) {b : Bool} → p < n → b ≡ fits keys used t p → fits (take n keys) used t p ≡ b
-fits-in keys n used t p h e = rw (getD-take n keys p 0 h) (sym e)
+-- a place of the array that has the number wanted is free unless it is picked
+pub free-unless : (keys : List ℕ) (n : ℕ) (used : List ℕ) (t p : ℕ) {b : Bool} → p < n → getD keys p 0 ≡ t → b ≡ isIn p used → fits (take n keys) used t p ≡ not b
+free-unless keys n used t p h e i = rw (getD-take n keys p 0 h, e, eq-eqb t t refl, ← i)
+
+-- the places up to the next that has it have no branch
+pub branches-next : (keys : List ℕ) (n : ℕ) (used : List ℕ) (t : ℕ) (ts : List ℕ) {from r : ℕ} → n ≤ length keys → NextKey keys t from n r
+    → branchesFrom (take n keys) used t ts from ≡ branchesFrom (take n keys) used t ts r
+branches-next keys n used t ts {from} {r} l k =
+    let long = length-take-le n keys l in
+    from-skip (branch (take n keys) used ts) (fits (take n keys) used t) (length (take n keys)) from r (k .low) (rw long (k .high))
+    (λ j a b. rw (getD-take n keys j 0 (omega (arith, k .high)), ne-eqb (getD keys j 0) t (k .none j a b)))

@@ -1,2 +1,3 @@
 pub mod Branches
 pub mod Words
+pub mod Passed

@@ -1,4 +1,5 @@
 // Choices of places for the numbers that are wanted: how many there are, and a page of them.
+mod find;
 mod page;
 mod ways;
 

@@ -1,18 +1,17 @@
 // A page of the choices, which steps over all choices below a pick at once.
 ghost use mathlib.Core.Path.{_≡_};
-ghost use mathlib.Core.Bool.{not, _&&_};
 ghost use Prim.Native.Nat.{ℕ, _+_, _*_, _≤_, _<_};
-ghost use lib.Dec.{eqb};
 ghost use lib.ListN.{length, getD, take, drop};
 ghost use lib.Seq.{sets};
 ghost use mathlib.Core.List.{[], _∷_};
 ghost use Rattle.lists.specs.Lists.{isIn};
 ghost use Rattle.lists.specs.Keys.{timesIn};
-ghost use Rattle.lists.specs.Choosing.{fits, choicesFrom};
+ghost use Rattle.lists.specs.Choosing.{choicesFrom};
 ghost use Rattle.lists.specs.Pages.{Paged};
 ghost use Rattle.lists.specs.Ways.{Used};
 ghost use Rattle.choices.specs.Widths.{Widths};
 ghost use Rattle.choices.specs.Words.{choiceWords};
+use crate::find::next_with;
 
 // Whether x is one of the first i picks. Without a loop, since i is small.
 fn is_picked(picks: [u32; 4], i: usize, x: u32) -> bool
@@ -22,14 +21,6 @@ fn is_picked(picks: [u32; 4], i: usize, x: u32) -> bool
     ((0 < i) & (x == picks[0]))
         | (((1 < i) & (x == picks[1]))
             | (((2 < i) & (x == picks[2])) | ((3 < i) & (x == picks[3]))))
-}
-
-// Whether place p has the number t and is not picked yet.
-fn is_free(keys: &[u32; 1024], p: usize, t: u32, picks: [u32; 4], i: usize) -> bool
-    requires { ⌜ (p < 1024) × (length (now keys) ≡ 1024) × (i ≤ 4) ⌝ }
-    ensures { λ r. ⌜ r ≡ fits (now (keys .entry)) (take i picks) t p ⌝ }
-{
-    (keys[p] == t) & !is_picked(picks, i, p as u32)
 }
 
 // A head and its four picks, at a place of the target.
@@ -81,16 +72,16 @@ pub fn fill(
     let width = widths[i];
     let mut skip = first;
     let mut done = 0;
-    let mut p = 0;
+    let mut p = next_with(keys, n, 0, t);
     while p < n {
         if done == count {
             return done;
         }
-        if !is_free(keys, p, t, picks, i) {
-            p += 1;
+        if is_picked(picks, i, p as u32) {
+            p = next_with(keys, n, p + 1, t);
         } else if width <= skip {
             skip -= width;
-            p += 1;
+            p = next_with(keys, n, p + 1, t);
         } else {
             let mut next = picks;
             next[i] = p as u32;
@@ -109,7 +100,7 @@ pub fn fill(
                 at + 5 * done,
             );
             skip = 0;
-            p += 1;
+            p = next_with(keys, n, p + 1, t);
         }
     }
     done

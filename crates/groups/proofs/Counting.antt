@@ -1,56 +1,93 @@
 -- The loop that counts by group.
 use Prim.Native.Nat.{ℕ, _+_, _*_, _/_, _%_, _≤_, _<_}
-use mathlib.Core.Bool.{Bool, true, false}
-use mathlib.Core.Path.{_≡_, refl, sym, ap, _∙_}
-use mathlib.Core.List.{List, []}
+use mathlib.Core.Bool.{true, false}
+use mathlib.Core.Path.{_≡_, sym, ap, _∙_}
+use mathlib.Core.List.{List}
 use native.Mathlib.Omega.{arith}
-use borrow.Author.Tests.{eqb-true, eqb-false, eq-eqb, ne-eqb}
+use borrow.Author.Tests.{eqb-true, eqb-false, eq-eqb}
 use lib.Dec.{eqb}
 use lib.ListN.{length, getD, take, set, length-set}
-use lib.Seq.{length-take-le, getD-take, getD-set-same, getD-set-other, take-all}
+use lib.Seq.{length-take-le, getD-set-same, getD-set-other, take-all}
 use Rattle.lists.specs.Lists.{oneIf}
 use Rattle.lists.specs.Choices.{by-bool}
 use Rattle.lists.specs.Tests.{same-test}
 use Rattle.lists.specs.Keys.{timesIn, times-none, times-le, times-more, times-other}
-use Rattle.groups.specs.Groups.{KeysBelow, Grouped}
+use Rattle.groups.specs.Groups.{packed, Grouped}
 
 -- the first i keys are counted
-pub record Grouping (ks : List ℕ) (t i : ℕ) (counts : List ℕ) : Type 0 where
+pub record Grouping (ks : List ℕ) (b c d i : ℕ) (counts : List ℕ) : Type 0 where
   pub within : i ≤ length ks
-  pub counted : Grouped (take i ks) t counts
+  pub counted : Grouped (take i ks) b c d counts
 
-pub grouping-start : (ks : List ℕ) (t : ℕ) (counts : List ℕ) → length counts ≡ 1024 → ((g : ℕ) → getD counts g 0 ≡ 0) → Grouping ks t 0 counts
-grouping-start ks t counts h z = record { within = omega arith; counted = record { size = h; each = λ g l. z g ∙ sym (times-none (g * 512 + t)) } }
+pub grouping-start : (ks : List ℕ) (b c d : ℕ) (counts : List ℕ) → length counts ≡ 1024 → ((g : ℕ) → getD counts g 0 ≡ 0) → Grouping ks b c d 0 counts
+grouping-start ks b c d counts h z = record {
+  within = omega arith;
+  counted = record {
+    few = omega arith;
+    size = h;
+    each = λ g l. omega (arith, z g, times-none (g * 512 + b), times-none (g * 512 + c), times-none (g * 512 + d));
+  };
+}
 
-pub grouping-done : {ks : List ℕ} {t i : ℕ} {counts : List ℕ} → Grouping ks t i counts → length ks ≤ i → Grouped ks t counts
-grouping-done {ks} {t} {i} {counts} h l = rw (take-all i ks l) at (h .counted)
+pub grouping-done : {ks : List ℕ} {b c d i : ℕ} {counts : List ℕ} → Grouping ks b c d i counts → length ks ≤ i → Grouped ks b c d counts
+grouping-done {ks} {b} {c} {d} {i} {counts} h l = rw (take-all i ks l) at (h .counted)
 
-module _ {ks : List ℕ} {t i : ℕ} {counts : List ℕ} (h : Grouping ks t i counts) (low : i < length ks) (small : t < 512) (key : ℕ) (is : getD ks i 0 ≡ key) (below : key < 524288) where
-  pub count-fits : length ks ≤ 1024 → getD counts (key / 512) 0 ≤ 1024
-  count-fits few =
+-- one key more, for one port
+module _ (ks : List ℕ) (i : ℕ) (low : i < length ks) (key : ℕ) (is : getD ks i 0 ≡ key) (g t : ℕ) (small : t < 512) where
+  same-group : g ≡ key / 512 → timesIn (g * 512 + t) (take (i + 1) ks) ≡ timesIn (g * 512 + t) (take i ks) + oneIf (eqb (key % 512) t)
+  same-group j =
+      let b : eqb (getD ks i 0) (g * 512 + t) ≡ eqb (key % 512) t =
+      rw is (same-test (eqb key (g * 512 + t)) (eqb (key % 512) t)
+      (λ r. let r = eqb-true key (g * 512 + t) r in eq-eqb (key % 512) t (omega arith))
+      (λ r. let r = eqb-true (key % 512) t r in eq-eqb key (g * 512 + t) (omega arith))) in
+      omega (arith, ap oneIf b, times-more (g * 512 + t) i ks low)
+
+  other-group : (g ≡ key / 512 → ⊥) → timesIn (g * 512 + t) (take (i + 1) ks) ≡ timesIn (g * 512 + t) (take i ks)
+  other-group n = times-other (g * 512 + t) i ks low (λ r. let r = sym is ∙ r in n (omega arith))
+
+module _ {ks : List ℕ} {b c d i : ℕ} {counts : List ℕ} (h : Grouping ks b c d i counts) (low : i < length ks) (few : length ks ≤ 1024)
+    (key : ℕ) (is : getD ks i 0 ≡ key) (below : key < 524288) where
+  pub count-fits : getD counts (key / 512) 0 ≤ 1125900980585472
+  count-fits =
       let g : key / 512 < 1024 = omega arith in
-      omega (arith, h .counted .each (key / 512) g, times-le (key / 512 * 512 + t) (take i ks), length-take-le i ks (h .within))
+      let f = h .counted .few in
+      let at : (t : ℕ) → timesIn (key / 512 * 512 + t) (take i ks) ≤ 1024 = λ t. omega (arith, times-le (key / 512 * 512 + t) (take i ks)) in
+      omega (arith, h .counted .each (key / 512) g, at b, at c, at d)
 
-  pub grouping-next : {x : ℕ} → x ≡ oneIf (eqb (key % 512) t) → Grouping ks t (i + 1) (set counts (key / 512) (getD counts (key / 512) 0 + x))
-  grouping-next {x} e = record {
-    within = omega arith;
-    counted = record { size = length-set counts (key / 512) _ ∙ h .counted .size; each = each };
-  }
-    where
-      each : (g : ℕ) → g < 1024 → getD (set counts (key / 512) (getD counts (key / 512) 0 + x)) g 0 ≡ timesIn (g * 512 + t) (take (i + 1) ks)
-      each g l = by-bool (eqb g (key / 512)) same other
-        where
-          same : eqb g (key / 512) ≡ true → getD (set counts (key / 512) (getD counts (key / 512) 0 + x)) g 0 ≡ timesIn (g * 512 + t) (take (i + 1) ks)
-          same q =
-              let j = eqb-true g (key / 512) q in
-              let inside : g < length counts = omega (arith, h .counted .size) in
-              let b : eqb (key % 512) t ≡ eqb (getD ks i 0) (g * 512 + t) =
-              rw is (same-test (eqb (key % 512) t) (eqb key (g * 512 + t)) (λ r. let r = eqb-true (key % 512) t r in eq-eqb key (g * 512 + t) (omega arith)) (λ r. let r = eqb-true key (g * 512 + t) r in eq-eqb (key % 512) t (omega arith))) in
-              let here : getD (set counts g (getD counts g 0 + x)) g 0 ≡ getD counts g 0 + x = getD-set-same counts g _ 0 inside in
-              rw (← j) (here ∙ omega (arith, e, ap oneIf b, h .counted .each g l, times-more (g * 512 + t) i ks low))
+  module _ (b-small : b < 512) (c-small : c < 512) (d-small : d < 512) where
+    abbrev after : ℕ → ℕ
+    after g = packed (timesIn (g * 512 + b) (take (i + 1) ks)) (timesIn (g * 512 + c) (take (i + 1) ks)) (timesIn (g * 512 + d) (take (i + 1) ks))
 
-          other : eqb g (key / 512) ≡ false → getD (set counts (key / 512) (getD counts (key / 512) 0 + x)) g 0 ≡ timesIn (g * 512 + t) (take (i + 1) ks)
-          other q =
-              let n = eqb-false g (key / 512) q in
-              getD-set-other counts (key / 512) g _ 0 n
-              ∙ h .counted .each g l ∙ sym (times-other (g * 512 + t) i ks low (λ r. let r = sym is ∙ r in n (omega arith)))
+    pub grouping-next : {x : ℕ} → x ≡ packed (oneIf (eqb (key % 512) b)) (oneIf (eqb (key % 512) c)) (oneIf (eqb (key % 512) d))
+        → Grouping ks b c d (i + 1) (set counts (key / 512) (getD counts (key / 512) 0 + x))
+    grouping-next {x} e = record {
+      within = omega arith;
+      counted = record {
+        few = rw (length-take-le (i + 1) ks (omega arith)) (omega arith);
+        size = length-set counts (key / 512) _ ∙ h .counted .size;
+        each = each;
+      };
+    }
+      where
+        each : (g : ℕ) → g < 1024 → getD (set counts (key / 512) (getD counts (key / 512) 0 + x)) g 0 ≡ after g
+        each g l = by-bool (eqb g (key / 512)) same other
+          where
+            same : eqb g (key / 512) ≡ true → getD (set counts (key / 512) (getD counts (key / 512) 0 + x)) g 0 ≡ after g
+            same q =
+                let j = eqb-true g (key / 512) q in
+                let inside : g < length counts = omega (arith, h .counted .size) in
+                let here : getD (set counts g (getD counts g 0 + x)) g 0 ≡ getD counts g 0 + x = getD-set-same counts g _ 0 inside in
+                let was = h .counted .each g l in
+                let second = same-group ks i low key is g b b-small j in
+                let third = same-group ks i low key is g c c-small j in
+                let fourth = same-group ks i low key is g d d-small j in
+                rw (← j) (here ∙ omega (arith, e, was, second, third, fourth))
+
+            other : eqb g (key / 512) ≡ false → getD (set counts (key / 512) (getD counts (key / 512) 0 + x)) g 0 ≡ after g
+            other q =
+                let n = eqb-false g (key / 512) q in
+                let was = h .counted .each g l in
+                let second = other-group ks i low key is g b b-small n in
+                let third = other-group ks i low key is g c c-small n in
+                let fourth = other-group ks i low key is g d d-small n in
+                getD-set-other counts (key / 512) g _ 0 n ∙ omega (arith, was, second, third, fourth)

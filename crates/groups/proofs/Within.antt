@@ -1,25 +1,24 @@
 -- The choices of which the first place is p: they are within p's group, and so many.
-use Prim.Native.Nat.{ℕ, zero, suc, _+_, _-_, _*_, _/_, _%_, _≤_, _<_, _^_}
-use mathlib.Core.Bool.{Bool, true, false, not, _&&_, cond}
-use mathlib.Core.Path.{_≡_, refl, sym, ap, _∙_, subst}
-use mathlib.Core.List.{List, [], _∷_, _++_, map}
+use Prim.Native.Nat.{ℕ, zero, suc, _+_, _-_, _*_, _/_, _%_, _≤_, _<_}
+use mathlib.Core.Bool.{true, false, cond}
+use mathlib.Core.Path.{_≡_, refl, sym, ap, _∙_}
+use mathlib.Core.List.{List, [], _∷_, map}
 use native.Mathlib.Omega.{arith}
-use borrow.Author.Tests.{eqb-true, eq-eqb, lt-ltb}
-use lib.Dec.{eqb, ltb, lit<}
+use borrow.Author.Tests.{eqb-true, eq-eqb}
+use lib.Dec.{eqb}
 use lib.ListN.{length, getD, take, drop, length-map, length-append}
-use lib.Seq.{sets}
-use Rattle.lists.specs.Lists.{isIn, keep, upFrom, each, oneIf}
+use Rattle.lists.specs.Lists.{each}
 use Rattle.lists.specs.Choices.{and-intro, by-bool, cond-true, cond-false}
 use Rattle.lists.specs.Tests.{same-test}
-use Rattle.lists.specs.Keys.{timesIn}
-use Rattle.lists.specs.Choosing.{fits, choicesFrom, groupBase, choicesIn, choicesByGroup}
+use Rattle.lists.specs.Keys.{timesIn, times-le}
+use Rattle.lists.specs.Choosing.{choicesFrom, groupBase, choicesIn, choicesByGroup}
 use Rattle.lists.specs.Mapped.{map-take}
 use Rattle.lists.specs.Tuples.{eachFrom, from-start, from-end, from-pass, from-here}
 use Rattle.lists.specs.Pages.{Paged, paged-map}
-use Rattle.lists.specs.Ways.{ways, Used, used-none, used-next, choices-ways}
+use Rattle.lists.specs.Ways.{Used, used-none, used-next, choices-ways}
 use Rattle.choices.specs.Widths.{widthsOf, Widths, widths-are}
 use Rattle.choices.specs.Words.{choiceWords}
-use Rattle.groups.specs.Groups.{Sized, CountedIf, CountedFor, leftIn}
+use Rattle.groups.specs.Groups.{Sized, Grouped, CountedFor, leftIn}
 
 -- ---- numbers that are all shifted
 
@@ -46,6 +45,41 @@ getD-shift b [] j h = absurd (omega arith)
 getD-shift b (x ∷ xs) zero h = refl
 getD-shift b (x ∷ xs) (suc j) h = getD-shift b xs j (omega arith)
 
+-- ---- the numbers of one group, taken out of its word
+
+module _ {ks : List ℕ} {b c d : ℕ} {counts : List ℕ} (h : Grouped ks b c d counts) where
+  times-few : (u : ℕ) → timesIn u ks ≤ 1024
+  times-few u = omega (arith, times-le u ks, h .few)
+
+  module _ (g : ℕ) (low : g < 1024) where
+    abbrev x : ℕ
+    x = timesIn (g * 512 + b) ks
+
+    abbrev y : ℕ
+    y = timesIn (g * 512 + c) ks
+
+    abbrev z : ℕ
+    z = timesIn (g * 512 + d) ks
+
+    second-left : getD counts g 0 % 1048576 ≡ x
+    second-left = omega (arith, h .each g low, times-few (g * 512 + b), times-few (g * 512 + c), times-few (g * 512 + d))
+
+    third-left : getD counts g 0 / 1048576 % 1048576 ≡ y
+    third-left = omega (arith, h .each g low, times-few (g * 512 + b), times-few (g * 512 + c), times-few (g * 512 + d))
+
+    fourth-left : getD counts g 0 / 1099511627776 ≡ z
+    fourth-left = omega (arith, h .each g low, times-few (g * 512 + b), times-few (g * 512 + c), times-few (g * 512 + d))
+
+    left-few : (j : ℕ) → getD (leftIn counts g) j 0 ≤ 1024
+    left-few zero = omega arith
+    left-few (suc zero) = rw second-left (times-few (g * 512 + b))
+    left-few (suc (suc zero)) = rw third-left (times-few (g * 512 + c))
+    left-few (suc (suc (suc zero))) = rw fourth-left (times-few (g * 512 + d))
+    left-few (suc (suc (suc (suc j)))) = omega arith
+
+  pub grouped-sized : Sized counts
+  grouped-sized = record { size = h .size; few = left-few }
+
 -- ---- one first place
 
 -- the choices from place p on
@@ -65,7 +99,7 @@ module _ (ks : List ℕ) (t : ℕ) (ts : List ℕ) (k : ℕ) (four : length ts �
   pub groups-start : choicesByGroup ks (take k takes) ≡ groupsFrom ks t rest 0
   groups-start = rw (front ts t) (sym (from-start (choicesIn ks t rest) (λ p. eqb (getD ks p 0 % 512) t) (length ks)))
 
-  module _ {second third fourth : List ℕ} (counted : CountedFor ks takes k second third fourth) (p : ℕ) (low : p < length ks)
+  module _ {counts : List ℕ} (counted : CountedFor ks takes counts) (p : ℕ) (low : p < length ks)
       (below : getD ks p 0 < 524288) (on : getD ks p 0 % 512 ≡ t) where
     abbrev key : ℕ
     key = getD ks p 0
@@ -74,22 +108,25 @@ module _ (ks : List ℕ) (t : ℕ) (ts : List ℕ) (k : ℕ) (four : length ts �
     b = groupBase ks t p
 
     abbrev ls : List ℕ
-    ls = leftIn second third fourth (key / 512)
+    ls = leftIn counts (key / 512)
 
     base : t + b ≡ key
     base = omega arith
 
-    count-at : {wanted : Bool} {u : ℕ} {counts : List ℕ} → CountedIf wanted ks u counts → wanted ≡ true → getD counts (key / 512) 0 ≡ timesIn (u + b) ks
-    count-at {wanted} {u} {counts} c w =
-        let g : key / 512 < 1024 = omega arith in
-        let e : key / 512 * 512 + u ≡ u + b = omega arith in
-        c .each w .each (key / 512) g ∙ ap (λ (x : ℕ). timesIn x ks) e
+    group : key / 512 < 1024
+    group = omega arith
+
+    in-place : (u j : ℕ) → j < 3 → u ≡ getD ts j 0 → timesIn (key / 512 * 512 + u) ks ≡ timesIn (getD (shifted b ts) j 0) ks
+    in-place u j l e =
+        let s = getD-shift b ts j (omega arith) in
+        let q : key / 512 * 512 + u ≡ getD (shifted b ts) j 0 = omega arith in
+        ap (λ (x : ℕ). timesIn x ks) q
 
     lefts : (j : ℕ) → 1 ≤ j → j < k → getD ls j 0 ≡ timesIn (getD (shifted b takes) j 0) ks
     lefts zero l u = absurd (omega arith)
-    lefts (suc zero) l u = count-at (counted .second) (lt-ltb 1 k u) ∙ ap (λ (x : ℕ). timesIn x ks) (sym (getD-shift b ts 0 (omega arith)))
-    lefts (suc (suc zero)) l u = count-at (counted .third) (lt-ltb 2 k u) ∙ ap (λ (x : ℕ). timesIn x ks) (sym (getD-shift b ts 1 (omega arith)))
-    lefts (suc (suc (suc zero))) l u = count-at (counted .fourth) (lt-ltb 3 k u) ∙ ap (λ (x : ℕ). timesIn x ks) (sym (getD-shift b ts 2 (omega arith)))
+    lefts (suc zero) l u = second-left counted (key / 512) group ∙ in-place _ 0 (omega arith) refl
+    lefts (suc (suc zero)) l u = third-left counted (key / 512) group ∙ in-place _ 1 (omega arith) refl
+    lefts (suc (suc (suc zero))) l u = fourth-left counted (key / 512) group ∙ in-place _ 2 (omega arith) refl
     lefts (suc (suc (suc (suc j)))) l u = absurd (omega arith)
 
     abbrev ws : List ℕ
@@ -146,9 +183,9 @@ pub record InGroup (ks takes : List ℕ) (k p : ℕ) (ws : List ℕ) : Type 0 wh
       → Paged (choiceWords head blank 0) 5 (choicesIn ks (getD takes 0 0) (restOf takes k) p) first count at before after m
 
 module _ (ks : List ℕ) (k : ℕ) (some : 1 ≤ k) (most : k ≤ 4) where
-  pub in-group : (takes : List ℕ) → length takes ≡ 4 → {bs cs ds : List ℕ} → CountedFor ks takes k bs cs ds
+  pub in-group : (takes : List ℕ) → length takes ≡ 4 → {counts : List ℕ} → CountedFor ks takes counts
       → (p : ℕ) → p < length ks → getD ks p 0 < 524288 → getD ks p 0 % 512 ≡ getD takes 0 0
-      → InGroup ks takes k p (widthsOf takes (leftIn bs cs ds (getD ks p 0 / 512)) k)
+      → InGroup ks takes k p (widthsOf takes (leftIn counts (getD ks p 0 / 512)) k)
   in-group [] h c p l b o = absurd (omega arith)
   in-group (t ∷ ts) h c p l b o =
       let four : length ts ≡ 3 = omega arith in
@@ -163,14 +200,7 @@ module _ (ks : List ℕ) (k : ℕ) (some : 1 ≤ k) (most : k ≤ 4) where
   groups-start-of [] h = absurd (omega arith)
   groups-start-of (t ∷ ts) h = groups-start ks t ts k (omega arith) some most
 
--- ---- the numbers of one group
-
-pub left-small : (bs cs ds : List ℕ) (g : ℕ) → Sized bs → Sized cs → Sized ds → (j : ℕ) → getD (leftIn bs cs ds g) j 0 ≤ 1024
-left-small bs cs ds g x y z zero = omega arith
-left-small bs cs ds g x y z (suc zero) = x .few g
-left-small bs cs ds g x y z (suc (suc zero)) = y .few g
-left-small bs cs ds g x y z (suc (suc (suc zero))) = z .few g
-left-small bs cs ds g x y z (suc (suc (suc (suc j)))) = omega arith
+-- ---- what `shifted` computes
 
 pub shifted-as : (b : ℕ) (ts : List ℕ) → length ts ≡ 4 → (getD ts 0 0 + b) ∷ (getD ts 1 0 + b) ∷ (getD ts 2 0 + b) ∷ (getD ts 3 0 + b) ∷ [] ≡ shifted b ts
 shifted-as b [] h = absurd (omega arith)
@@ -193,17 +223,17 @@ module _ (ks : List ℕ) (k : ℕ) (some : 1 ≤ k) (most : k ≤ 4) (takes : Li
   goal p = length (groupsFrom ks t₀ (restOf takes k) p)
 
   -- one place more, with this key
-  pub total-next : {bs cs ds : List ℕ} → CountedFor ks takes k bs cs ds → (p : ℕ) → p < length ks → {key : ℕ} → getD ks p 0 ≡ key → key < 524288
-      → {w : ℕ} → w ≡ cond (eqb (key % 512) t₀) (getD (widthsOf takes (leftIn bs cs ds (key / 512)) k) 0 0) 0 → goal p ≡ w + goal (p + 1)
-  total-next {bs} {cs} {ds} counted p low {key} is below {w} e = by-bool (eqb (key % 512) t₀) on off
+  pub total-next : {counts : List ℕ} → CountedFor ks takes counts → (p : ℕ) → p < length ks → {key : ℕ} → getD ks p 0 ≡ key → key < 524288
+      → {w : ℕ} → w ≡ cond (eqb (key % 512) t₀) (getD (widthsOf takes (leftIn counts (key / 512)) k) 0 0) 0 → goal p ≡ w + goal (p + 1)
+  total-next {counts} counted p low {key} is below {w} e = by-bool (eqb (key % 512) t₀) on off
     where
       on : eqb (key % 512) t₀ ≡ true → goal p ≡ w + goal (p + 1)
       on q =
           let small : getD ks p 0 < 524288 = rw is below in
           let first : getD ks p 0 % 512 ≡ t₀ = rw is (eqb-true (key % 512) t₀ q) in
           let i = in-group ks k some most takes four counted p low small first in
-          let v : w ≡ getD (widthsOf takes (leftIn bs cs ds (key / 512)) k) 0 0 = e ∙ cond-true _ _ q in
-          let x : getD (widthsOf takes (leftIn bs cs ds (getD ks p 0 / 512)) k) 0 0 ≡ w = rw is (sym v) in
+          let v : w ≡ getD (widthsOf takes (leftIn counts (key / 512)) k) 0 0 = e ∙ cond-true _ _ q in
+          let x : getD (widthsOf takes (leftIn counts (getD ks p 0 / 512)) k) 0 0 ≡ w = rw is (sym v) in
           let here : eqb (getD ks p 0 % 512) t₀ ≡ true = rw is q in
           ap length (from-here (choicesIn ks t₀ (restOf takes k)) (λ p. eqb (getD ks p 0 % 512) t₀) (length ks) p low here)
           ∙ length-append (choicesIn ks t₀ (restOf takes k) p) (groupsFrom ks t₀ (restOf takes k) (p + 1))

@@ -1,9 +1,7 @@
 -- Entries counted by group and port.
 use Prim.Native.Nat.{ℕ, _+_, _*_, _/_, _%_, _≤_, _<_}
-use mathlib.Core.Bool.{Bool, true}
 use mathlib.Core.Path.{_≡_}
 use mathlib.Core.List.{List, [], _∷_}
-use lib.Dec.{ltb}
 use lib.ListN.{length, getD}
 use Rattle.lists.specs.Keys.{timesIn}
 
@@ -13,26 +11,24 @@ pub record KeysBelow (n : ℕ) (keys : List ℕ) : Type 0 where
   pub size : length keys ≡ 1024
   pub below : (i : ℕ) → i < n → getD keys i 0 < 524288
 
--- how many of the keys ks each group has on port t
-pub record Grouped (ks : List ℕ) (t : ℕ) (counts : List ℕ) : Type 0 where
+-- three counts in one word, so that an entry costs one store
+abbrev pub packed : ℕ → ℕ → ℕ → ℕ
+packed x y z = x + 1048576 * y + 1099511627776 * z
+
+-- how many of the keys ks each group has on ports b, c and d; a count has its place in the word, for there are at most 1,024 keys
+pub record Grouped (ks : List ℕ) (b c d : ℕ) (counts : List ℕ) : Type 0 where
+  pub few : length ks ≤ 1024
   pub size : length counts ≡ 1024
-  pub each : (g : ℕ) → g < 1024 → getD counts g 0 ≡ timesIn (g * 512 + t) ks
+  pub each : (g : ℕ) → g < 1024 → getD counts g 0 ≡ packed (timesIn (g * 512 + b) ks) (timesIn (g * 512 + c) ks) (timesIn (g * 512 + d) ks)
+
+-- what is counted for the second to the fourth of the numbers
+abbrev pub CountedFor : List ℕ → List ℕ → List ℕ → Type 0
+CountedFor ks takes counts = Grouped ks (getD takes 1 0) (getD takes 2 0) (getD takes 3 0) counts
+
+-- how many of each number there are in a group; of the first nothing is said
+abbrev pub leftIn : List ℕ → ℕ → List ℕ
+leftIn counts g = 0 ∷ (getD counts g 0 % 1048576) ∷ (getD counts g 0 / 1048576 % 1048576) ∷ (getD counts g 0 / 1099511627776) ∷ []
 
 pub record Sized (counts : List ℕ) : Type 0 where
   pub size : length counts ≡ 1024
-  pub few : (g : ℕ) → getD counts g 0 ≤ 1024
-
--- the same where it is wanted, and small numbers in any case
-pub record CountedIf (wanted : Bool) (ks : List ℕ) (t : ℕ) (counts : List ℕ) : Type 0 where
-  pub sized : Sized counts
-  pub each : wanted ≡ true → Grouped ks t counts
-
--- what is counted for the second to the fourth of k numbers
-pub record CountedFor (ks takes : List ℕ) (k : ℕ) (bs cs ds : List ℕ) : Type 0 where
-  pub second : CountedIf (ltb 1 k) ks (getD takes 1 0) bs
-  pub third : CountedIf (ltb 2 k) ks (getD takes 2 0) cs
-  pub fourth : CountedIf (ltb 3 k) ks (getD takes 3 0) ds
-
--- how many of each number there are in a group; of the first nothing is said
-abbrev pub leftIn : List ℕ → List ℕ → List ℕ → ℕ → List ℕ
-leftIn bs cs ds g = 0 ∷ getD bs g 0 ∷ getD cs g 0 ∷ getD ds g 0 ∷ []
+  pub few : (g : ℕ) → g < 1024 → (j : ℕ) → getD (leftIn counts g) j 0 ≤ 1024

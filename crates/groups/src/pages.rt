@@ -14,39 +14,26 @@ use choices::fill;
 use choices::widths;
 
 // The ways below a first pick with this key: those of its group.
-fn widths_in<'a>(
-    takes: [u32; 4],
-    k: usize,
-    second: &'a [u16; 1024],
-    third: &'a [u16; 1024],
-    fourth: &'a [u16; 1024],
-    key: u32,
-) -> [u64; 4]
-    requires { ⌜ Sized (now second) × Sized (now third) × Sized (now fourth) × (key < 524288) ⌝ }
-    ensures { λ r. ⌜ r ≡ widthsOf takes (leftIn (now (second .entry)) (now (third .entry)) (now (fourth .entry)) (key / 512)) k ⌝ }
+fn widths_in<'a>(takes: [u32; 4], k: usize, counts: &'a [u64; 1024], key: u32) -> [u64; 4]
+    requires { ⌜ Sized (now counts) × (key < 524288) ⌝ }
+    ensures { λ r. ⌜ r ≡ widthsOf takes (leftIn (now (counts .entry)) (key / 512)) k ⌝ }
 {
     let g = (key / 512) as usize;
-    let left = [0, second[g] as u64, third[g] as u64, fourth[g] as u64];
+    let x = counts[g];
+    let left = [0, x % 1048576, x / 1048576 % 1048576, x / 1099511627776];
     widths(takes, left, k)
 }
 
 // The same as one number, 0 where the key is not on the first port.
-fn width_at<'a>(
-    takes: [u32; 4],
-    k: usize,
-    second: &'a [u16; 1024],
-    third: &'a [u16; 1024],
-    fourth: &'a [u16; 1024],
-    key: u32,
-) -> u64
-    requires { ⌜ Sized (now second) × Sized (now third) × Sized (now fourth) × (key < 524288) ⌝ }
+fn width_at<'a>(takes: [u32; 4], k: usize, counts: &'a [u64; 1024], key: u32) -> u64
+    requires { ⌜ Sized (now counts) × (key < 524288) ⌝ }
     ensures { λ r. ⌜ (r ≤ 1073741824) × (r ≡ cond (eqb (key % 512) (getD takes 0 0))
-        (getD (widthsOf takes (leftIn (now (second .entry)) (now (third .entry)) (now (fourth .entry)) (key / 512)) k) 0 0) 0) ⌝ }
+        (getD (widthsOf takes (leftIn (now (counts .entry)) (key / 512)) k) 0 0) 0) ⌝ }
 {
     if key % 512 != takes[0] {
         return 0;
     }
-    let below = widths_in(takes, k, second, third, fourth, key);
+    let below = widths_in(takes, k, counts, key);
     below[0]
 }
 
@@ -56,17 +43,15 @@ pub fn group_total<'a>(
     n: usize,
     takes: [u32; 4],
     k: usize,
-    second: &'a [u16; 1024],
-    third: &'a [u16; 1024],
-    fourth: &'a [u16; 1024],
+    counts: &'a [u64; 1024],
 ) -> u64
-    requires { ⌜ KeysBelow n (now keys) × (1 ≤ k) × (k ≤ 4) × CountedFor (take n (now keys)) takes k (now second) (now third) (now fourth) ⌝ }
+    requires { ⌜ KeysBelow n (now keys) × (1 ≤ k) × (k ≤ 4) × CountedFor (take n (now keys)) takes (now counts) ⌝ }
     ensures { λ r. ⌜ (r ≡ length (choicesByGroup (take n (now (keys .entry))) (take k takes))) × (r ≤ 1099511627776) ⌝ }
 {
     let mut total = 0;
     let mut p = 0;
     while p < n {
-        total += width_at(takes, k, second, third, fourth, keys[p]);
+        total += width_at(takes, k, counts, keys[p]);
         p += 1;
     }
     total
@@ -90,16 +75,14 @@ pub fn group_page<'a>(
     n: usize,
     takes: [u32; 4],
     k: usize,
-    second: &'a [u16; 1024],
-    third: &'a [u16; 1024],
-    fourth: &'a [u16; 1024],
+    counts: &'a [u64; 1024],
     head: u32,
     first: u64,
     count: usize,
     target: &mut [u32],
     at: usize,
 ) -> usize
-    requires { ⌜ KeysBelow n (now keys) × (1 ≤ k) × (k ≤ 4) × CountedFor (take n (now keys)) takes k (now second) (now third) (now fourth) ⌝ }
+    requires { ⌜ KeysBelow n (now keys) × (1 ≤ k) × (k ≤ 4) × CountedFor (take n (now keys)) takes (now counts) ⌝ }
     requires { ⌜ (count ≤ 256) × (at + 5 * count ≤ length (now target)) × ((j : ℕ) → getD takes j 0 < 65536) ⌝ }
     ensures { λ r. ⌜ Paged (choiceWords head (0 ∷ 0 ∷ 0 ∷ 0 ∷ []) 0) 5 (choicesByGroup (take n (now (keys .entry))) (take k takes))
         first count at (now (target .entry)) (now (target .exit)) r ⌝ }
@@ -116,7 +99,7 @@ pub fn group_page<'a>(
         if key % 512 != t {
             p += 1;
         } else {
-            let below = widths_in(takes, k, second, third, fourth, key);
+            let below = widths_in(takes, k, counts, key);
             let width = below[0];
             if width <= skip {
                 skip -= width;

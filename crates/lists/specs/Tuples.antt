@@ -1,9 +1,9 @@
 -- Lists one after another, and tuples of numbers: those that a test keeps are chosen place by place.
 use Prim.Native.Nat.{ℕ, zero, suc, _+_, _-_, _≤_, _<_}
-use mathlib.Core.Path.{_≡_, refl, ap, _∙_}
+use mathlib.Core.Path.{_≡_, refl, sym, ap, _∙_}
 use mathlib.Core.Bool.{Bool, true, false, _&&_}
 use mathlib.Core.List.{List, [], _∷_, _++_, map}
-use native.Mathlib.Nat.{sub-zero}
+use native.Mathlib.Nat.{add-zero, sub-zero}
 use native.Mathlib.Numerals.{add-one}
 use native.Mathlib.Omega.{arith}
 use Rattle.lists.specs.Lists.{keep, keepIf, upFrom, each, tuples}
@@ -74,6 +74,18 @@ module _ {B : Type 0} (f : ℕ → List B) (q : ℕ → Bool) (n : ℕ) where
 
     pub from-here : q p ≡ true → eachFrom p ≡ f p ++ eachFrom (p + 1)
     from-here e = rw (step, e)
+
+  -- several that do not count
+  skip-some : (d p : ℕ) → p + d ≤ n → ((j : ℕ) → p ≤ j → j < p + d → q j ≡ false) → eachFrom p ≡ eachFrom (p + d)
+  skip-some zero p l h = ap eachFrom (sym (add-zero p))
+  skip-some (suc d) p l h =
+      let e : p + 1 + d ≡ p + suc d = omega arith in
+      from-pass p (omega arith) (h p (omega arith) (omega arith)) ∙ skip-some d (p + 1) (omega arith) (λ j a b. h j (omega arith) (omega arith)) ∙ ap eachFrom e
+
+  pub from-skip : (p r : ℕ) → p ≤ r → r ≤ n → ((j : ℕ) → p ≤ j → j < r → q j ≡ false) → eachFrom p ≡ eachFrom r
+  from-skip p r l u h =
+      let e : p + (r - p) ≡ r = omega arith in
+      skip-some (r - p) p (omega arith) (λ j a b. h j a (omega arith)) ∙ ap eachFrom e
 
 -- the same where every number counts
 module _ {B : Type 0} (f : ℕ → List B) (n : ℕ) where

@@ -1,3 +1,2 @@
 pub mod PlainCount
-pub mod GroupCount
 pub mod Reactions

@@ -1,35 +1,59 @@
-//! One log, ten times through a call and ten times through its plain counterpart: run it under
-//! `valgrind --tool=callgrind` to count the instructions of both.
+//! One log, or a page of one list, ten times through a call and ten times through its plain counterpart:
+//! run it under `valgrind --tool=callgrind` to count the instructions of both.
 use std::env::args;
 use std::hint::black_box;
 
-use harness::answer::OnTarget;
-use harness::generate::workloads::{global_log, merge_log, table};
+use harness::answer::{page_on_target, page_words, OnTarget};
+use harness::generate::workloads::{fours, global_log, merge_log, spread, table};
 use harness::random::Random;
 use harness::words::{log_words, STATE_TARGET};
 use harness::{library, plain};
 
 const CALLS: usize = 10;
 
+/// Table, state, and log or page.
+type Input = [Vec<u32>; 3];
+
+/// The log of a run, of this kind.
+fn log(kind: &str, entries: usize, moves: usize) -> Input {
+    let make = if kind == "merges" { merge_log } else { global_log };
+    let table = table(64, 512);
+    let (start, log) = make(&mut Random::new(801), &table, entries, moves);
+    [table.words(), start.words(), log_words(&log)]
+}
+
+/// A page from the middle of a list of this kind; no moves for its length alone.
+fn page(kind: &str, entries: usize, moves: usize) -> Input {
+    let (class, open) = if kind == "local" { (1, 300 * entries as u32 / 1_024) } else { (0, 0) };
+    let mut random = Random::new(804);
+    let table = fours(&mut random, [8, 4, 0], class);
+    let (state, table) = (spread(&mut random, &table, class, entries, open).words(), table.words());
+    let middle = plain::list_moves(&table, &state, 0, 0, &mut []).length / 2;
+    [table, state, page_words(middle, moves as u32)]
+}
+
 fn main() {
     let arguments: Vec<String> = args().skip(1).collect();
     let words: Vec<&str> = arguments.iter().map(String::as_str).collect();
     let &[call, kind, entries, moves] = words.as_slice() else {
-        panic!("usage: count run|serialize merges|global ENTRIES MOVES");
+        panic!("usage: count run|serialize merges|global ENTRIES MOVES, or list_moves local|global ENTRIES MOVES");
     };
-    let (ours, rust): (OnTarget, OnTarget) = match call {
-        "run" => (library::run, plain::run),
-        "serialize" => (library::serialize, plain::serialize),
-        other => panic!("{other} is no call that takes a log"),
+    let (entries, moves) = (entries.parse().unwrap(), moves.parse().unwrap());
+    let (ours, rust, input): (OnTarget, OnTarget, Input) = match call {
+        "run" => (library::run, plain::run, log(kind, entries, moves)),
+        "serialize" => (library::serialize, plain::serialize, log(kind, entries, moves)),
+        "list_moves" => (
+            |table, state, asked, target| page_on_target(library::list_moves, table, state, asked, target),
+            |table, state, asked, target| page_on_target(plain::list_moves, table, state, asked, target),
+            page(kind, entries, moves),
+        ),
+        other => panic!("{other} is no call that takes a log or lists moves"),
     };
-    let make = if kind == "merges" { merge_log } else { global_log };
-    let table = table(64, 512);
-    let (start, log) = make(&mut Random::new(801), &table, entries.parse().unwrap(), moves.parse().unwrap());
-    let (table, state, log) = (table.words(), start.words(), log_words(&log));
-    let mut target = vec![0; STATE_TARGET.max(log.len())];
+    let [table, state, third] = input;
+    let mut target = vec![0; STATE_TARGET.max(third.len())];
     for call in [ours, rust] {
         for _ in 0..CALLS {
-            let answer = black_box(call)(&table, &state, &log, &mut target);
+            let answer = black_box(call)(&table, &state, &third, &mut target);
             assert_eq!(answer.number(), 0, "{answer:?}");
         }
     }

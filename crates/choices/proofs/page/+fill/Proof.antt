@@ -1,24 +1,25 @@
 -- `fill` by the numbers still wanted: at each level the loop pages the choices branch by branch (`Branches`).
 use Prim.Native.Nat.{ℕ, _+_, _-_, _*_, _≤_, _<_}
+use mathlib.Core.Bool.{not}
 use mathlib.Core.Path.{_≡_, refl, sym, ap, _∙_}
 use mathlib.Core.List.{List, _++_}
 use native.Mathlib.Omega.{arith}
-use borrow.Author.Tests.{not-true, not-false}
 use lib.ListN.{length, getD, take, drop, set}
 use lib.Seq.{length-take-le}
 use Rattle.lists.specs.Choosing.{fits, choicesFrom}
 use Rattle.lists.specs.Tuples.{from-end, from-pass, from-here}
 use Rattle.lists.specs.Pages.{Paging, paging-start, paging-pass, paging-skip, paging-more, paging-end, paging-full, paged-empty, paged-le, paged-length}
 use Rattle.choices.specs.Words.{choiceWords, five-words}
-use Rattle.choices.proofs.Branches.{branch, branchesFrom, branches-start, level}
-use Rattle.choices.proofs.Branches.{used-below, branch-width, branch-paged, leaf-past, leaf-one, fits-in}
+use Rattle.choices.proofs.Branches.{branch, branchesFrom, branches-start, branches-next, level, free-unless}
+use Rattle.choices.proofs.Branches.{used-below, branch-width, branch-paged, leaf-past, leaf-one}
 use borrow.Author.Needs.{needs}
 use borrow.Fn.Kinds.{In}
 use borrow.Fn.PlainCycle.{Measures, is, falls, and}
 use Rattle.choices.proofs.page.fill.Reads as fill
 use Rattle.choices.proofs.page.fill.Kinds as fill-kinds
 use Rattle.choices.proofs.page.+fill.Lts-fill as fill-lts
-use Rattle.choices.proofs.page.is_free.Reads as is-free-reads
+use Rattle.choices.proofs.page.is_picked.Reads as is-picked-reads
+use Rattle.choices.proofs.find.next_with.Reads as next-with-reads
 use Rattle.choices.proofs.page.put.Reads as put-reads
 use Rattle.choices.proofs.page.+fill.{statement}
 use Rattle.choices.proofs.page.+fill.Tie.{close}
@@ -35,7 +36,8 @@ fill-below t = and 2 fill-kinds.ps (falls 2 fill-kinds.ps _<_ μ-fill t) fill.Pr
 
 abbrev fill-Inv-loop : fill-lts.InvT-loop
 fill-Inv-loop keys n k head picks i first count target₀ at wanted widths t width skip₀ done₀ p₀ target skip done p =
-    (p ≤ n) × Paging (choiceWords head picks i) 5 (choicesFrom (take n keys) (take i picks) (drop i (take k wanted)))
+    (p ≤ n) × (p < n → getD keys p 0 ≡ getD wanted i 0)
+    × Paging (choiceWords head picks i) 5 (choicesFrom (take n keys) (take i picks) (drop i (take k wanted)))
     (branchesFrom (take n keys) (take i picks) (getD wanted i 0) (drop (i + 1) (take k wanted)) p) first count skip done at target₀ target
 
 abbrev fill-μ-loop : fill-lts.MeasureT-loop
@@ -46,8 +48,10 @@ pub +fill-spec : {M : Type 1} → statement M
 +fill-spec = close μ-fill λ t. fill-lts.spec (
   put-reads.Asked,
   put-reads.Learnt,
-  is-free-reads.Asked,
-  is-free-reads.Learnt,
+  next-with-reads.Asked,
+  next-with-reads.Learnt,
+  is-picked-reads.Asked,
+  is-picked-reads.Learnt,
   fill-below t,
   fill.Post,
 )
@@ -63,109 +67,125 @@ pub +fill-spec : {M : Type 1} → statement M
     (λ c. search needs)
     (λ c.
     let a = c .before .before .before .before .before .before .before .before .args in
-    leaf-one (take (a .n) (a .keys .now)) (a .t3) (take (a .i) (a .picks)) (a .k) (a .i) (c .before .before .before .before .before .before .if1 .taken)
-    (a .head) (a .first) (a .at) (a .picks) (a .target .now) (a .count) (omega (arith, c .before .before .before .before .if3 .left)) (c .before .before .before .before .before .if2 .left) (c .before .before .put .ensures))
+    leaf-one (take (a .n) (a .keys .now)) (a .t3) (take (a .i) (a .picks)) (a .k) (a .i) (c .before .before .before .before .before .before .if1 .taken) (a .head) (a .first) (a .at) (a .picks) (a .target .now) (a .count)
+    (omega (arith, c .before .before .before .before .if3 .left)) (c .before .before .before .before .before .if2 .left) (c .before .before .put .ensures))
     (λ c. search needs)
     (λ c. search needs)
     (λ c. search needs)
     (λ c. search needs)
+    (λ c κs. search needs)
     (λ c.
-    let a = c .before .before .args in
-    let four : length (a .t3) ≡ 4 = search needs in (
-      omega arith,
-      paging-pass (choiceWords (a .head) (a .picks) (a .i)) 5 (five-words (a .head) (a .picks) (a .i) (search needs))
+    let s = c .before .before .before in
+    let a = s .args in
+    let four : length (a .t3) ≡ 4 = search needs in
+    let six : length (a .picks) ≡ 4 = search needs in (
+      c .next-with .ensures .high,
+      c .next-with .ensures .here,
+      paging-pass (choiceWords (a .head) (a .picks) (a .i)) 5 (five-words (a .head) (a .picks) (a .i) six)
           (paging-start (choiceWords (a .head) (a .picks) (a .i)) 5 (choicesFrom (take (a .n) (a .keys .now)) (take (a .i) (a .picks)) (drop (a .i) (take (a .k) (a .t3)))) (a .first) (a .count) (a .at) (a .target .now))
-          (branches-start (take (a .n) (a .keys .now)) (take (a .i) (a .picks)) (getD (a .t3) (a .i) 0) (drop (a .i + 1) (take (a .k) (a .t3))) _
-          (level (take (a .n) (a .keys .now)) (a .t3) (a .picks) (a .k) (a .i) (omega arith) (omega arith))),
+          (branches-start (take (a .n) (a .keys .now)) (take (a .i) (a .picks)) (getD (a .t3) (a .i) 0) (drop (a .i + 1) (take (a .k) (a .t3))) _ (level (take (a .n) (a .keys .now)) (a .t3) (a .picks) (a .k) (a .i) (omega arith) (omega arith)) ∙ branches-next (a .keys .now) (a .n) (take (a .i) (a .picks)) (getD (a .t3) (a .i) 0) (drop (a .i + 1) (take (a .k) (a .t3))) (omega arith) (c .next-with .ensures)),
     ))
-    (λ c. paged-length _ 5 (c .before .before .loop .inv .1 .paged))
+    (λ c. paged-length _ 5 (c .before .before .loop .inv .2 .paged))
     (λ c.
-    let a = c .before .before .before .before .before .args in
-    paging-full (choiceWords (a .head) (a .picks) (a .i)) 5 (five-words (a .head) (a .picks) (a .i) (search needs)) (c .before .before .loop .inv .1) (c .if4 .taken))
+    let a = c .before .before .before .before .before .before .args in
+    paging-full (choiceWords (a .head) (a .picks) (a .i)) 5 (five-words (a .head) (a .picks) (a .i) (search needs)) (c .before .before .loop .inv .2) (c .if4 .taken))
+    (λ c. search needs)
     (λ c κs. search needs)
     (λ c. search needs)
-    (λ c. search needs)
+    (λ c κs. search needs)
+    (λ c. omega (arith, c .next-with2 .ensures .low, c .before .before .before .before .loop-test .taken))
     (λ c.
-    let a = c .before .before .before .before .before .before .before .args in
-    let l = c .before .before .before .before .loop in
-    let ks = take (a .n) (a .keys .now) in
-    let h : l .p < length ks = rw (length-take-le (a .n) (a .keys .now) (omega arith)) (c .before .before .before .loop-test .taken) in
-    let e = fits-in (a .keys .now) (a .n) (take (a .i) (a .picks)) (getD (a .t3) (a .i) 0) (l .p) (c .before .before .before .loop-test .taken) (c .before .is-free .ensures) ∙ not-true _ (c .if5 .taken) in (
-      omega arith,
-      paging-pass (choiceWords (a .head) (a .picks) (a .i)) 5 (five-words (a .head) (a .picks) (a .i) (search needs)) (l .inv .1)
-          (from-pass (branch ks (take (a .i) (a .picks)) (drop (a .i + 1) (take (a .k) (a .t3)))) (fits ks (take (a .i) (a .picks)) (getD (a .t3) (a .i) 0)) (length ks) (l .p) h e),
-    ))
-    (λ c. search needs)
-    (λ c. search needs)
-    (λ c.
-    let s = c .before .before .before .before .before .before .before .before in
-    let a = s .args in
-    let p = s .pre .1 in
-    let l = c .before .before .before .before .before .loop in
-    let ks = take (a .n) (a .keys .now) in
-    let h : l .p < length ks = rw (length-take-le (a .n) (a .keys .now) (omega arith)) (c .before .before .before .before .loop-test .taken) in
-    let four : length (a .t3) ≡ 4 = search needs in
-    let six : length (a .picks) ≡ 4 = search needs in
-    let e = fits-in (a .keys .now) (a .n) (take (a .i) (a .picks)) (getD (a .t3) (a .i) 0) (l .p) (c .before .before .before .before .loop-test .taken) (c .before .before .is-free .ensures) ∙ not-false _ (c .before .if5 .left) in
-    let w = branch-width ks (a .t3) (a .picks) (a .k) (a .i) (omega arith) (omega arith) (p .1 .1 .1) (l .p) h e (omega arith) (p .1 .1 .0) in (
-      omega arith,
-      rw (← w) (paging-skip (choiceWords (a .head) (a .picks) (a .i)) 5 (five-words (a .head) (a .picks) (a .i) six) (l .inv .1) (branch ks (take (a .i) (a .picks)) (drop (a .i + 1) (take (a .k) (a .t3))) (l .p)) _
-          (from-here (branch ks (take (a .i) (a .picks)) (drop (a .i + 1) (take (a .k) (a .t3)))) (fits ks (take (a .i) (a .picks)) (getD (a .t3) (a .i) 0)) (length ks) (l .p) h e) (rw w (c .if6 .taken))),
-    ))
-    (λ c. search needs)
-    (λ c. search needs)
-    (λ c. search needs)
-    (λ c. search needs)
-    (λ c. let d = paged-le _ 5 (c .before .before .before .before .before .loop .inv .1 .paged) in search needs)
-    (λ c. let d = paged-le _ 5 (c .before .before .before .before .before .before .loop .inv .1 .paged) in search needs)
-    (λ c. let d = paged-le _ 5 (c .before .before .before .before .before .before .loop .inv .1 .paged) in search needs)
-    (λ c κs.
     let s = c .before .before .before .before .before .before .before .before .before in
     let a = s .args in
     let p = s .pre .1 in
-    let l = c .before .before .before .before .before .before .loop in
-    let ks = take (a .n) (a .keys .now) in
-    let h : l .p < length ks = rw (length-take-le (a .n) (a .keys .now) (omega arith)) (c .before .before .before .before .before .loop-test .taken) in
+    let l = c .before .before .before .before .before .loop in
+    let low = c .before .before .before .before .loop-test .taken in
     let four : length (a .t3) ≡ 4 = search needs in
     let six : length (a .picks) ≡ 4 = search needs in
-    let e = fits-in (a .keys .now) (a .n) (take (a .i) (a .picks)) (getD (a .t3) (a .i) 0) (l .p) (c .before .before .before .before .before .loop-test .taken) (c .before .before .before .is-free .ensures) ∙ not-false _ (c .before .before .if5 .left) in
-    let z = paged-length _ 5 (l .inv .1 .paged) in
-    let d = paged-le _ 5 (l .inv .1 .paged) in (
+    let h : l .p < length (take (a .n) (a .keys .now)) = rw (length-take-le (a .n) (a .keys .now) (omega arith)) low in
+    let free = free-unless (a .keys .now) (a .n) (take (a .i) (a .picks)) (getD (a .t3) (a .i) 0) (l .p) low (l .inv .1 low) (c .before .before .is-picked .ensures) in
+    let taken = free ∙ ap not (c .before .if5 .taken) in (
+      c .next-with2 .ensures .high,
+      c .next-with2 .ensures .here,
+      paging-pass (choiceWords (a .head) (a .picks) (a .i)) 5 (five-words (a .head) (a .picks) (a .i) six) (l .inv .2) (from-pass (branch (take (a .n) (a .keys .now)) (take (a .i) (a .picks)) (drop (a .i + 1) (take (a .k) (a .t3)))) (fits (take (a .n) (a .keys .now)) (take (a .i) (a .picks)) (getD (a .t3) (a .i) 0)) (length (take (a .n) (a .keys .now))) (l .p) h taken ∙ branches-next (a .keys .now) (a .n) (take (a .i) (a .picks)) (getD (a .t3) (a .i) 0) (drop (a .i + 1) (take (a .k) (a .t3))) (omega arith) (c .next-with2 .ensures)),
+    ))
+    (λ c. search needs)
+    (λ c κs. search needs)
+    (λ c. omega (arith, c .next-with3 .ensures .low, c .before .before .before .before .before .loop-test .taken))
+    (λ c.
+    let s = c .before .before .before .before .before .before .before .before .before .before in
+    let a = s .args in
+    let p = s .pre .1 in
+    let l = c .before .before .before .before .before .before .loop in
+    let low = c .before .before .before .before .before .loop-test .taken in
+    let four : length (a .t3) ≡ 4 = search needs in
+    let six : length (a .picks) ≡ 4 = search needs in
+    let h : l .p < length (take (a .n) (a .keys .now)) = rw (length-take-le (a .n) (a .keys .now) (omega arith)) low in
+    let free = free-unless (a .keys .now) (a .n) (take (a .i) (a .picks)) (getD (a .t3) (a .i) 0) (l .p) low (l .inv .1 low) (c .before .before .before .is-picked .ensures) in
+    let e = free ∙ ap not (c .before .before .if5 .left) in
+    let w = branch-width (take (a .n) (a .keys .now)) (a .t3) (a .picks) (a .k) (a .i) (omega arith) (omega arith) (p .1 .1 .1) (l .p) h e (omega arith) (p .1 .1 .0) in (
+      c .next-with3 .ensures .high,
+      c .next-with3 .ensures .here,
+      paging-pass (choiceWords (a .head) (a .picks) (a .i)) 5 (five-words (a .head) (a .picks) (a .i) six)
+          (rw (← w) (paging-skip (choiceWords (a .head) (a .picks) (a .i)) 5 (five-words (a .head) (a .picks) (a .i) six) (l .inv .2) (branch (take (a .n) (a .keys .now)) (take (a .i) (a .picks)) (drop (a .i + 1) (take (a .k) (a .t3))) (l .p)) _ (from-here (branch (take (a .n) (a .keys .now)) (take (a .i) (a .picks)) (drop (a .i + 1) (take (a .k) (a .t3)))) (fits (take (a .n) (a .keys .now)) (take (a .i) (a .picks)) (getD (a .t3) (a .i) 0)) (length (take (a .n) (a .keys .now))) (l .p) h e) (rw w (c .before .if6 .taken))))
+          (branches-next (a .keys .now) (a .n) (take (a .i) (a .picks)) (getD (a .t3) (a .i) 0) (drop (a .i + 1) (take (a .k) (a .t3))) (omega arith) (c .next-with3 .ensures)),
+    ))
+    (λ c. search needs)
+    (λ c. search needs)
+    (λ c. search needs)
+    (λ c. search needs)
+    (λ c. let d = paged-le _ 5 (c .before .before .before .before .before .loop .inv .2 .paged) in search needs)
+    (λ c. let d = paged-le _ 5 (c .before .before .before .before .before .before .loop .inv .2 .paged) in search needs)
+    (λ c. let d = paged-le _ 5 (c .before .before .before .before .before .before .loop .inv .2 .paged) in search needs)
+    (λ c κs.
+    let s = c .before .before .before .before .before .before .before .before .before .before in
+    let a = s .args in
+    let p = s .pre .1 in
+    let l = c .before .before .before .before .before .before .loop in
+    let low = c .before .before .before .before .before .loop-test .taken in
+    let four : length (a .t3) ≡ 4 = search needs in
+    let six : length (a .picks) ≡ 4 = search needs in
+    let h : l .p < length (take (a .n) (a .keys .now)) = rw (length-take-le (a .n) (a .keys .now) (omega arith)) low in
+    let free = free-unless (a .keys .now) (a .n) (take (a .i) (a .picks)) (getD (a .t3) (a .i) 0) (l .p) low (l .inv .1 low) (c .before .before .before .is-picked .ensures) in
+    let e = free ∙ ap not (c .before .before .if5 .left) in
+    let z = paged-length _ 5 (l .inv .2 .paged) in
+    let d = paged-le _ 5 (l .inv .2 .paged) in (
       omega arith,
       (
         (omega arith, omega arith, omega arith, p .0 .3),
         (
           (omega (arith, p .1 .0), omega (arith, p .1 .0)),
-          (p .1 .1 .0, used-below ks (a .t3) (a .picks) (a .k) (a .i) (omega arith) (omega arith) (p .1 .1 .1) (l .p) h e (omega arith)),
+          (p .1 .1 .0, used-below (take (a .n) (a .keys .now)) (a .t3) (a .picks) (a .k) (a .i) (omega arith) (omega arith) (p .1 .1 .1) (l .p) h e (omega arith)),
         ),
       ),
     ))
     (λ c.
-    let s = c .before .before .before .before .before .before .before .before .before .before .before .before in
-    let l = c .before .before .before .before .before .before .before .before .before .loop in
-    omega (arith, paged-le _ 5 (c .before .before .fill .ensures), paged-le _ 5 (l .inv .1 .paged), s .pre .1 .1 .0 .0))
+    let s = c .before .before .before .before .before .before .before .before .before .before .before .before .before in
+    omega (arith, paged-le _ 5 (c .before .before .fill .ensures), paged-le _ 5 (c .before .before .before .before .before .before .before .before .before .loop .inv .2 .paged), s .pre .1 .1 .0 .0))
     (λ c. search needs)
-    (λ c. search needs)
+    (λ c κs. search needs)
+    (λ c. omega (arith, c .next-with4 .ensures .low, c .before .before .before .before .before .before .before .before .before .loop-test .taken))
     (λ c.
-    let s = c .before .before .before .before .before .before .before .before .before .before .before .before in
+    let s = c .before .before .before .before .before .before .before .before .before .before .before .before .before .before in
     let a = s .args in
     let p = s .pre .1 in
-    let l = c .before .before .before .before .before .before .before .before .before .loop in
-    let ks = take (a .n) (a .keys .now) in
-    let h : l .p < length ks = rw (length-take-le (a .n) (a .keys .now) (omega arith)) (c .before .before .before .before .before .before .before .before .loop-test .taken) in
+    let l = c .before .before .before .before .before .before .before .before .before .before .loop in
+    let low = c .before .before .before .before .before .before .before .before .before .loop-test .taken in
     let four : length (a .t3) ≡ 4 = search needs in
     let six : length (a .picks) ≡ 4 = search needs in
-    let e = fits-in (a .keys .now) (a .n) (take (a .i) (a .picks)) (getD (a .t3) (a .i) 0) (l .p) (c .before .before .before .before .before .before .before .before .loop-test .taken) (c .before .before .before .before .before .before .is-free .ensures) ∙ not-false _ (c .before .before .before .before .before .if5 .left) in
-    let w = branch-width ks (a .t3) (a .picks) (a .k) (a .i) (omega arith) (omega arith) (p .1 .1 .1) (l .p) h e (omega arith) (p .1 .1 .0) in
-    let more = paging-more (choiceWords (a .head) (a .picks) (a .i)) 5 (five-words (a .head) (a .picks) (a .i) six) (l .inv .1) (branch ks (take (a .i) (a .picks)) (drop (a .i + 1) (take (a .k) (a .t3))) (l .p)) _ _ _
-    (from-here (branch ks (take (a .i) (a .picks)) (drop (a .i + 1) (take (a .k) (a .t3)))) (fits ks (take (a .i) (a .picks)) (getD (a .t3) (a .i) 0)) (length ks) (l .p) h e)
-    (branch-paged ks (a .t3) (a .picks) (a .k) (a .i) (omega arith) (omega arith) (p .1 .1 .1) (l .p) h e (omega arith) (c .before .before .fill .ensures)) in
-    let none : l .skip - length (branch ks (take (a .i) (a .picks)) (drop (a .i + 1) (take (a .k) (a .t3))) (l .p)) ≡ 0 = omega (arith, w, c .before .before .before .before .if6 .left) in
-    (omega arith, rw none at more))
-    (λ c. paged-length _ 5 (c .before .loop .inv .1 .paged))
+    let h : l .p < length (take (a .n) (a .keys .now)) = rw (length-take-le (a .n) (a .keys .now) (omega arith)) low in
+    let free = free-unless (a .keys .now) (a .n) (take (a .i) (a .picks)) (getD (a .t3) (a .i) 0) (l .p) low (l .inv .1 low) (c .before .before .before .before .before .before .before .is-picked .ensures) in
+    let less : a .i < a .k = omega (arith, p .0 .0, c .before .before .before .before .before .before .before .before .before .before .before .before .if1 .left) in
+    let enough : a .k ≤ length (a .t3) = omega (arith, p .0 .1, four) in
+    let inside : a .i < length (a .picks) = omega (arith, less, p .0 .1, six) in
+    let e = free ∙ ap not (c .before .before .before .before .before .before .if5 .left) in
+    let w = branch-width (take (a .n) (a .keys .now)) (a .t3) (a .picks) (a .k) (a .i) enough less (p .1 .1 .1) (l .p) h e inside (p .1 .1 .0) in
+    let more = paging-more (choiceWords (a .head) (a .picks) (a .i)) 5 (five-words (a .head) (a .picks) (a .i) six) (l .inv .2) (branch (take (a .n) (a .keys .now)) (take (a .i) (a .picks)) (drop (a .i + 1) (take (a .k) (a .t3))) (l .p)) _ _ _ (from-here (branch (take (a .n) (a .keys .now)) (take (a .i) (a .picks)) (drop (a .i + 1) (take (a .k) (a .t3)))) (fits (take (a .n) (a .keys .now)) (take (a .i) (a .picks)) (getD (a .t3) (a .i) 0)) (length (take (a .n) (a .keys .now))) (l .p) h e)
+    (branch-paged (take (a .n) (a .keys .now)) (a .t3) (a .picks) (a .k) (a .i) enough less (p .1 .1 .1) (l .p) h e inside (c .before .before .before .fill .ensures)) in
+    let none : l .skip - length (branch (take (a .n) (a .keys .now)) (take (a .i) (a .picks)) (drop (a .i + 1) (take (a .k) (a .t3))) (l .p)) ≡ 0 = omega (arith, w, c .before .before .before .before .before .if6 .left) in
+    (c .next-with4 .ensures .high, c .next-with4 .ensures .here, paging-pass (choiceWords (a .head) (a .picks) (a .i)) 5 (five-words (a .head) (a .picks) (a .i) six) (rw none at more) (branches-next (a .keys .now) (a .n) (take (a .i) (a .picks)) (getD (a .t3) (a .i) 0) (drop (a .i + 1) (take (a .k) (a .t3))) (omega arith) (c .next-with4 .ensures))))
+    (λ c. paged-length _ 5 (c .before .loop .inv .2 .paged))
     (λ c.
-    let a = c .before .before .before .before .args in
+    let a = c .before .before .before .before .before .args in
     let l = c .before .loop in
-    let ks = take (a .n) (a .keys .now) in
-    paging-end (choiceWords (a .head) (a .picks) (a .i)) 5 (five-words (a .head) (a .picks) (a .i) (search needs)) (l .inv .1)
-    (from-end (branch ks (take (a .i) (a .picks)) (drop (a .i + 1) (take (a .k) (a .t3)))) (fits ks (take (a .i) (a .picks)) (getD (a .t3) (a .i) 0)) (length ks) (l .p) (rw (length-take-le (a .n) (a .keys .now) (omega arith)) (c .loop-test .left))))
+    paging-end (choiceWords (a .head) (a .picks) (a .i)) 5 (five-words (a .head) (a .picks) (a .i) (search needs)) (l .inv .2) (from-end (branch (take (a .n) (a .keys .now)) (take (a .i) (a .picks)) (drop (a .i + 1) (take (a .k) (a .t3)))) (fits (take (a .n) (a .keys .now)) (take (a .i) (a .picks)) (getD (a .t3) (a .i) 0)) (length (take (a .n) (a .keys .now))) (l .p) (rw (length-take-le (a .n) (a .keys .now) (omega arith)) (c .loop-test .left))))

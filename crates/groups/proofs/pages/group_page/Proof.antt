@@ -1,8 +1,8 @@
 -- `group_page` meets its contract: the loop pages the choices by their first place (`Within`).
-use Prim.Native.Nat.{ℕ, _+_, _-_, _*_, _/_, _%_, _≤_, _<_}
+use Prim.Native.Nat.{ℕ, _+_, _-_, _/_, _%_, _≤_, _<_}
 use mathlib.Core.Bool.{true, false}
 use mathlib.Core.Path.{_≡_, refl, sym, ap, _∙_}
-use mathlib.Core.List.{List, [], _∷_, _++_}
+use mathlib.Core.List.{List, _++_}
 use native.Mathlib.Omega.{arith}
 use borrow.Author.Tests.{eq-eqb, ne-eqb}
 use lib.Dec.{eqb}
@@ -13,19 +13,19 @@ use Rattle.lists.specs.Tuples.{from-end, from-pass, from-here}
 use Rattle.lists.specs.Pages.{Paging, paging-start, paging-pass, paging-skip, paging-more, paging-end, paging-full, paged-le, paged-length}
 use Rattle.choices.specs.Words.{choiceWords, five-words}
 use Rattle.choices.specs.Widths.{widthsOf}
-use Rattle.groups.specs.Groups.{KeysBelow, CountedFor, leftIn}
-use Rattle.groups.proofs.Within.{groupsFrom, restOf, blank, groups-start-of, InGroup, in-group}
+use Rattle.groups.specs.Groups.{leftIn}
+use Rattle.groups.proofs.Within.{groupsFrom, restOf, blank, groups-start-of, grouped-sized, InGroup, in-group}
 use borrow.Author.Needs.{needs}
 use Rattle.groups.proofs.pages.group_page.Statement.{statement}
 use Rattle.groups.proofs.pages.group_page.Tie as tie
 
 abbrev Inv : tie.InvT-loop
-Inv keys n k second third fourth head first count target₀ at takes t skip₀ done₀ p₀ target skip done p =
+Inv keys n k counts head first count target₀ at takes t skip₀ done₀ p₀ target skip done p =
     (p ≤ n) × Paging (choiceWords head blank 0) 5 (choicesByGroup (take n keys) (take k takes))
     (groupsFrom (take n keys) (getD takes 0 0) (restOf takes k) p) first count skip done at target₀ target
 
 abbrev μ : tie.MeasureT-loop
-μ keys n k second third fourth head first count target₀ at takes t skip₀ done₀ p₀ target skip done p = n - p
+μ keys n k counts head first count target₀ at takes t skip₀ done₀ p₀ target skip done p = n - p
 
 -- a turn's place, among the keys in use
 inside : (c : tie.In-loop Inv μ) → c .before .loop .p < length (take (c .before .before .before .args .n) (c .before .before .before .args .keys .now))
@@ -80,8 +80,7 @@ grouped : (c : tie.Else2 Inv μ) → InGroup
     (c .before .before .before .before .before .before .args .k)
     (c .before .before .before .before .loop .p)
     (widthsOf (c .before .before .before .before .before .before .args .t3)
-    (leftIn (c .before .before .before .before .before .before .args .second .now) (c .before .before .before .before .before .before .args .third .now)
-    (c .before .before .before .before .before .before .args .fourth .now)
+    (leftIn (c .before .before .before .before .before .before .args .counts .now)
     (getD (c .before .before .before .before .before .before .args .keys .now) (c .before .before .before .before .loop .p) 0 / 512))
     (c .before .before .before .before .before .before .args .k))
 grouped c =
@@ -119,8 +118,7 @@ next c =
 widths-in-requires : tie.Need-widths-in-requires Inv μ
 widths-in-requires c κs =
     let turn = c .before .before .before in
-    let counted = turn .before .before .before .pre .0 .3 in
-    (counted .second .sized, counted .third .sized, counted .fourth .sized, small turn)
+    (grouped-sized (turn .before .before .before .pre .0 .3), small turn)
 
 loop-again-2 : tie.Need-loop-again-2 Inv μ
 loop-again-2 c =

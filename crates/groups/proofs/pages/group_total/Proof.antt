@@ -1,24 +1,22 @@
 -- `group_total` meets its contract: the choices so far and those from place p on are all.
-use Prim.Native.Nat.{ℕ, _+_, _-_, _*_, _%_, _≤_, _<_}
-use mathlib.Core.Bool.{Bool, true, false, cond}
-use mathlib.Core.Path.{_≡_, refl, sym, ap, _∙_}
+use Prim.Native.Nat.{_+_, _-_, _*_, _≤_, _<_}
+use mathlib.Core.Path.{_≡_, ap}
 use native.Mathlib.Omega.{arith}
 use lib.ListN.{length, getD, take}
 use lib.Seq.{length-take-le, getD-take}
 use Rattle.lists.specs.Choosing.{choicesByGroup}
-use Rattle.groups.specs.Groups.{KeysBelow, CountedFor}
-use Rattle.groups.proofs.Within.{groupsFrom, restOf, groups-start-of, groups-end, total-next}
+use Rattle.groups.proofs.Within.{groupsFrom, restOf, groups-start-of, groups-end, grouped-sized, total-next}
 use borrow.Author.Needs.{needs}
 use Rattle.groups.proofs.pages.group_total.Statement.{statement}
 use Rattle.groups.proofs.pages.group_total.Tie as tie
 
 abbrev Inv : tie.InvT-loop
-Inv keys n takes k second third fourth total₀ p₀ total p =
+Inv keys n takes k counts total₀ p₀ total p =
     (p ≤ n) × (total ≤ p * 1073741824)
     × (total + length (groupsFrom (take n keys) (getD takes 0 0) (restOf takes k) p) ≡ length (choicesByGroup (take n keys) (take k takes)))
 
 abbrev μ : tie.MeasureT-loop
-μ keys n takes k second third fourth total₀ p₀ total p = n - p
+μ keys n takes k counts total₀ p₀ total p = n - p
 
 loop-holds : tie.Need-loop-holds Inv μ
 loop-holds c =
@@ -29,8 +27,7 @@ loop-holds c =
 width-at-requires : tie.Need-width-at-requires Inv μ
 width-at-requires c κs =
     let s = c .before .before .before in
-    let counted = s .pre .3 in
-    (counted .second .sized, counted .third .sized, counted .fourth .sized, s .pre .0 .below (c .before .before .loop .p) (c .before .loop-test .taken))
+    (grouped-sized (s .pre .3), s .pre .0 .below (c .before .before .loop .p) (c .before .loop-test .taken))
 
 loop-again : tie.Need-loop-again Inv μ
 loop-again c =

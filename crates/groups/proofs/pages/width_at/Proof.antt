@@ -1,6 +1,6 @@
 -- `width_at`: nothing off the first port, and else the first of `widths_in`.
-use mathlib.Core.Path.{_≡_, sym, ap, _∙_}
-use Prim.Native.Nat.{ℕ, _/_, _%_, _≤_}
+use mathlib.Core.Path.{sym, ap, _∙_}
+use Prim.Native.Nat.{ℕ, _/_, _%_}
 use mathlib.Core.List.{List}
 use native.Mathlib.Omega.{arith}
 use borrow.Author.Tests.{eq-eqb, ne-eqb}
@@ -8,7 +8,6 @@ use lib.ListN.{getD}
 use Rattle.lists.specs.Choices.{cond-true, cond-false}
 use Rattle.choices.specs.Widths.{widths-small}
 use Rattle.groups.specs.Groups.{leftIn}
-use Rattle.groups.proofs.Within.{left-small}
 use borrow.Author.Needs.{needs}
 use Rattle.groups.proofs.pages.width_at.Statement.{statement}
 use Rattle.groups.proofs.pages.width_at.Tie as tie
@@ -21,7 +20,7 @@ returns-2 c =
     let a = c .before .before .args in
     let p = c .before .before .pre in
     let e = c .widths-in .ensures in (
-      rw e (widths-small (a .t1) (leftIn (a .second .now) (a .third .now) (a .fourth .now) (a .key / 512)) (a .k) (left-small (a .second .now) (a .third .now) (a .fourth .now) (a .key / 512) (p .0) (p .1) (p .2))),
+      rw e (widths-small (a .t1) (leftIn (a .counts .now) (a .key / 512)) (a .k) (p .0 .few (a .key / 512) (omega (arith, p .1)))),
       ap (λ (l : List ℕ). getD l 0 0) e ∙ sym (cond-true _ _ (eq-eqb (a .key % 512) (getD (a .t1) 0 0) (omega (arith, c .before .if1 .left)))),
     )
 

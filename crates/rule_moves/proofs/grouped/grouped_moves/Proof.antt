@@ -1,8 +1,5 @@
 -- `grouped_moves` meets its contract: counts, and `counted_moves` with them.
-use Prim.Native.Nat.{ℕ, _<_}
-use mathlib.Core.Path.{_≡_}
 use native.Mathlib.Omega.{arith}
-use lib.ListN.{length, getD}
 use Rattle.lists.specs.Padded.{getD-replicate-any}
 use Rattle.lists.specs.Pages.{paged-length}
 use borrow.Author.Needs.{needs}
@@ -14,18 +11,16 @@ grouped-moves-spec =
     tie.close
     (tie.spec
     (λ c. search needs)
-    (λ c κs. let p = c .before .before .pre .0 in (p .0, omega (arith, p .1 1), search needs, λ g. getD-replicate-any 1024 g 0))
     (λ c. search needs)
-    (λ c κs. let p = c .before .before .before .before .pre .0 in (p .0, omega (arith, p .1 2), search needs, λ g. getD-replicate-any 1024 g 0))
     (λ c. search needs)
-    (λ c κs. let p = c .before .before .before .before .before .before .pre .0 in (p .0, omega (arith, p .1 3), search needs, λ g. getD-replicate-any 1024 g 0))
     (λ c κs.
-    let third = c .before .before .before .before in
-    let second = third .before .before in
-    let first = second .before .before in
-    let p = first .before .before .before .pre in (
-      (p .0 .0, p .0 .1, p .0 .2, p .0 .3, record { second = first .count-if .ensures; third = second .count-if2 .ensures; fourth = third .count-if3 .ensures }),
-      p .1,
+    let p = c .before .before .pre .0 in (
+      (p .0, omega (arith, p .1 1), omega (arith, p .1 2), omega (arith, p .1 3)),
+      (search needs, λ g. getD-replicate-any 1024 g 0),
     ))
+    (λ c κs.
+    let counted = c .before .before in
+    let p = counted .before .before .before .pre in
+    ((p .0 .0, p .0 .1, p .0 .2, p .0 .3, counted .count-groups .ensures), p .1))
     (λ c. paged-length _ 5 (c .before .before .counted-moves .ensures .0 .paged))
     (λ c. c .before .before .counted-moves .ensures))
