@@ -1,21 +1,21 @@
 -- The choices of one level: branch by branch, one for each place that can be picked.
-use Prim.Native.Nat.{ℕ, zero, suc, _+_, _-_, _*_, _≤_, _<_}
+use Prim.Native.Nat.{ℕ, suc, _+_, _≤_, _<_}
 use mathlib.Core.Path.{_≡_, refl, sym, ap, _∙_, subst}
-use mathlib.Core.Bool.{Bool, true, false, not}
+use mathlib.Core.Bool.{Bool, true, not}
 use mathlib.Core.List.{List, [], _∷_, _++_, map}
 use native.Mathlib.Nat.{min-le-left}
 use native.Mathlib.Numerals.{add-one}
 use native.Mathlib.Omega.{arith}
 use borrow.Author.Tests.{eq-eqb, ne-eqb}
 use lib.ListN.{length, getD, take, drop, set, length-map, length-take, drop-of-length-le}
-use lib.Seq.{sets, length-take-le, getD-take, take-suc-set, take-suc, take-take, drop-cons}
+use lib.Seq.{sets, length-take-le, getD-take, take-suc-set, take-suc, take-take}
 use Rattle.lists.specs.Tuples.{eachFrom, from-start, from-skip}
 use Rattle.lists.specs.Lists.{isIn}
 use Rattle.lists.specs.Prefix.{prefix-tails}
 use Rattle.lists.specs.Keys.{timesIn}
 use Rattle.lists.specs.Choosing.{fits, choicesFrom}
 use Rattle.lists.specs.Pages.{Paged, paged-map, paged-past, paged-one, paged-same}
-use Rattle.lists.specs.Ways.{ways, Used, used-next, choices-ways}
+use Rattle.lists.specs.Ways.{Used, used-next, choices-ways}
 use Rattle.choices.specs.Widths.{Widths}
 use Rattle.choices.specs.Words.{choiceWords}
 use Rattle.choices.specs.Next.{NextKey}
@@ -57,7 +57,8 @@ module _ (ks wanted picks : List ℕ) (k i : ℕ) (few : k ≤ length wanted) (l
     pub branch-width : {ws : List ℕ} → Widths (λ t. timesIn t ks) (take k wanted) ws → length (branch ks (take i picks) rest p) ≡ getD ws i 0
     branch-width w =
         let within : i < length (take k wanted) = rw (length-take-le k wanted few) low in
-        let f : take (suc i) (take k wanted) ≡ take i wanted ++ t ∷ [] = take-take (suc i) k wanted low ∙ sym (ap (λ (x : ℕ). take x wanted) (add-one i)) ∙ more in
+        let f : take (suc i) (take k wanted) ≡ take i wanted ++ t ∷ [] =
+        take-take (suc i) k wanted low ∙ sym (ap (λ (x : ℕ). take x wanted) (add-one i)) ∙ more in
         let g : drop (suc i) (take k wanted) ≡ rest = ap (λ (x : ℕ). drop x (take k wanted)) (sym (add-one i)) in
         length-map (choicesFrom ks (take i picks ++ p ∷ []) rest) (λ c. p ∷ c)
         ∙ choices-ways ks rest (take i wanted ++ t ∷ []) (take i picks ++ p ∷ []) next-used
@@ -91,7 +92,8 @@ module _ (ks wanted used : List ℕ) (k i : ℕ) (e : i ≡ k) where
         paged-same (choiceWords head picks i) 5 (sym leaf) (rw (z, w) (paged-one (choiceWords head picks i) 5 [] count at before (omega arith)))
 
 -- a place of the array that has the number wanted is free unless it is picked
-pub free-unless : (keys : List ℕ) (n : ℕ) (used : List ℕ) (t p : ℕ) {b : Bool} → p < n → getD keys p 0 ≡ t → b ≡ isIn p used → fits (take n keys) used t p ≡ not b
+pub free-unless : (keys : List ℕ) (n : ℕ) (used : List ℕ) (t p : ℕ) {b : Bool} → p < n → getD keys p 0 ≡ t → b ≡ isIn p used
+    → fits (take n keys) used t p ≡ not b
 free-unless keys n used t p h e i = rw (getD-take n keys p 0 h, e, eq-eqb t t refl, ← i)
 
 -- the places up to the next that has it have no branch

@@ -1,6 +1,5 @@
 -- A search that has passed some places, none of which has the key.
 use Prim.Native.Nat.{ℕ, min, _+_, _≤_, _<_}
-use mathlib.Core.Bool.{true, false}
 use mathlib.Core.Path.{_≡_}
 use mathlib.Core.List.{List}
 use native.Mathlib.Omega.{arith}
@@ -10,15 +9,15 @@ use lib.ListN.{getD}
 use Rattle.lists.specs.Choices.{by-bool}
 use Rattle.choices.specs.Next.{NextKey}
 
-pub record Passed (ks : List ℕ) (t from p : ℕ) : Type 0 where
+pub record PassedOver (ks : List ℕ) (t from p : ℕ) : Type 0 where
   pub onward : from ≤ p
   pub none : (j : ℕ) → from ≤ j → j < p → getD ks j 0 ≡ t → ⊥
 
-pub passed-start : {ks : List ℕ} {t from : ℕ} → Passed ks t from from
+pub passed-start : {ks : List ℕ} {t from : ℕ} → PassedOver ks t from from
 passed-start = record { onward = omega arith; none = λ j l u e. absurd (omega arith) }
 
-module _ {ks : List ℕ} {t from p : ℕ} (h : Passed ks t from p) where
-  pub passed-next : (getD ks p 0 ≡ t → ⊥) → Passed ks t from (p + 1)
+module _ {ks : List ℕ} {t from p : ℕ} (h : PassedOver ks t from p) where
+  pub passed-next : (getD ks p 0 ≡ t → ⊥) → PassedOver ks t from (p + 1)
   passed-next n = record { onward = omega (arith, h .onward); none = none }
     where
       none : (j : ℕ) → from ≤ j → j < p + 1 → getD ks j 0 ≡ t → ⊥
@@ -39,7 +38,7 @@ module _ {ks : List ℕ} {t from p : ℕ} (h : Passed ks t from p) where
     both j l u e = by-bool (leb p j) (λ q. k .none j (leb-true p j q) u e) (λ q. let w = leb-false p j q in h .none j l (omega arith) e)
 
     -- the chunk has none
-    pub passed-chunk : end ≤ r → Passed ks t from end
+    pub passed-chunk : end ≤ r → PassedOver ks t from end
     passed-chunk l = record { onward = omega (arith, h .onward, k .low, k .high); none = λ j a b. both j a (omega (arith, k .high)) }
 
     -- the chunk has one, which may stand behind the last place

@@ -1,7 +1,7 @@
 // The next place that has a key. Whether 32 places have it is told without an early exit, so that several are compared at once;
 // only a chunk that has it is gone through.
 ghost use mathlib.Core.Path.{_≡_};
-ghost use Prim.Native.Nat.{ℕ, min, _+_, _*_, _/_, _≤_, _<_};
+ghost use Prim.Native.Nat.{min, _+_, _*_, _/_, _≤_, _<_};
 ghost use lib.ListN.{length};
 ghost use Rattle.words.specs.Search.{inChunk};
 ghost use Rattle.choices.specs.Next.{NextKey};

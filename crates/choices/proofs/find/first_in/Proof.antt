@@ -1,15 +1,12 @@
 -- `first_in` meets its contract: no place before p has the key.
-use Prim.Native.Nat.{ℕ, _-_, _≤_, _<_}
-use mathlib.Core.Path.{_≡_}
+use Prim.Native.Nat.{_-_, _≤_, _<_}
 use native.Mathlib.Omega.{arith}
-use lib.ListN.{length, getD}
-use Rattle.choices.proofs.Passed.{Passed, passed-start, passed-next, passed-found, passed-end}
-use borrow.Author.Needs.{needs}
+use Rattle.choices.proofs.Passed.{PassedOver, passed-start, passed-next, passed-found, passed-end}
 use Rattle.choices.proofs.find.first_in.Statement.{statement}
 use Rattle.choices.proofs.find.first_in.Tie as tie
 
 abbrev Inv : tie.InvT-loop
-Inv keys from end t p₀ p = (p ≤ end) × Passed keys t from p
+Inv keys from end t p₀ p = (p ≤ end) × PassedOver keys t from p
 
 abbrev μ : tie.MeasureT-loop
 μ keys from end t p₀ p = end - p

@@ -1,10 +1,9 @@
 -- `next_in_chunk` meets its contract: a chunk without the key is passed over, another is gone through.
-use Prim.Native.Nat.{ℕ, _+_, _*_, _/_, _≤_, _<_}
+use Prim.Native.Nat.{_+_, _*_, _/_}
 use mathlib.Core.Path.{_≡_, sym, _∙_}
 use native.Mathlib.Omega.{arith}
 use borrow.Author.Tests.{not-true}
 use Rattle.words.specs.Search.{chunk-lacks}
-use borrow.Author.Needs.{needs}
 use Rattle.choices.proofs.find.next_in_chunk.Statement.{statement}
 use Rattle.choices.proofs.find.next_in_chunk.Tie as tie
 

@@ -1,14 +1,13 @@
 -- `next_with` meets its contract: no place before `at` has the key.
-use Prim.Native.Nat.{ℕ, _-_, _+_, _*_, _/_, _≤_, _<_}
-use mathlib.Core.Path.{_≡_}
+use Prim.Native.Nat.{_-_, _<_}
 use native.Mathlib.Omega.{arith}
-use Rattle.choices.proofs.Passed.{Passed, passed-start, passed-chunk, passed-place, passed-past}
+use Rattle.choices.proofs.Passed.{PassedOver, passed-start, passed-chunk, passed-place, passed-past}
 use borrow.Author.Needs.{needs}
 use Rattle.choices.proofs.find.next_with.Statement.{statement}
 use Rattle.choices.proofs.find.next_with.Tie as tie
 
 abbrev Inv : tie.InvT-loop
-Inv keys n from t at₀ at = Passed keys t from at
+Inv keys n from t at₀ at = PassedOver keys t from at
 
 abbrev μ : tie.MeasureT-loop
 μ keys n from t at₀ at = n - at

@@ -3,8 +3,6 @@ use Rattle.choices.proofs.Words.{is-picked-as}
 use borrow.Author.Needs.{needs}
 use Rattle.choices.proofs.page.is_picked.Statement.{statement}
 use Rattle.choices.proofs.page.is_picked.Tie as tie
-use Rattle.choices.proofs.page.is_picked.Reads as reads
-use Rattle.choices.proofs.page.is_picked.Lts as lts
 
 array-read-result : tie.Need-array-read-result
 array-read-result c = search needs

@@ -5,8 +5,6 @@ use Rattle.choices.proofs.Words.{put-five}
 use borrow.Author.Needs.{needs}
 use Rattle.choices.proofs.page.put.Statement.{statement}
 use Rattle.choices.proofs.page.put.Tie as tie
-use Rattle.choices.proofs.page.put.Reads as reads
-use Rattle.choices.proofs.page.put.Lts as lts
 
 mul-target : tie.Need-mul-target
 mul-target c = search needs

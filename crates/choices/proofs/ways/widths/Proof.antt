@@ -1,7 +1,5 @@
 -- `widths` computes the figures of `widthsOf`.
-use mathlib.Core.Path.{_≡_, sym, ap, _∙_}
 use native.Mathlib.Nat.{mul-le-mul, lt-of-le-of-lt}
-use native.Mathlib.Omega.{arith}
 use lib.Dec.{lit<}
 use Rattle.choices.specs.Widths.{widths-as}
 use borrow.Author.Needs.{needs}
