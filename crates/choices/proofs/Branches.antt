@@ -13,7 +13,7 @@ use Rattle.lists.specs.Tuples.{eachFrom, from-start, from-skip}
 use Rattle.lists.specs.Lists.{isIn}
 use Rattle.lists.specs.Prefix.{prefix-tails}
 use Rattle.lists.specs.Keys.{timesIn}
-use Rattle.lists.specs.Choosing.{fits, choicesFrom}
+use Rattle.lists.specs.Choosing.{isFree, choicesFrom}
 use Rattle.lists.specs.Pages.{Paged, paged-map, paged-past, paged-one, paged-same}
 use Rattle.lists.specs.Ways.{Used, used-next, choices-ways}
 use Rattle.choices.specs.Widths.{Widths}
@@ -25,10 +25,10 @@ abbrev pub branch : List ℕ → List ℕ → List ℕ → ℕ → List (List �
 branch ks used ts p = map (λ c. p ∷ c) (choicesFrom ks (used ++ p ∷ []) ts)
 
 abbrev pub branchesFrom : List ℕ → List ℕ → ℕ → List ℕ → ℕ → List (List ℕ)
-branchesFrom ks used t ts p = eachFrom (branch ks used ts) (fits ks used t) (length ks) p
+branchesFrom ks used t ts p = eachFrom (branch ks used ts) (isFree ks used t) (length ks) p
 
 pub branches-start : (ks used : List ℕ) (t : ℕ) (ts us : List ℕ) → us ≡ t ∷ ts → choicesFrom ks used us ≡ branchesFrom ks used t ts 0
-branches-start ks used t ts us e = rw e (sym (from-start (branch ks used ts) (fits ks used t) (length ks)))
+branches-start ks used t ts us e = rw e (sym (from-start (branch ks used ts) (isFree ks used t) (length ks)))
 
 -- at level i of the code, where the first k of `wanted` are wanted
 module _ (ks wanted picks : List ℕ) (k i : ℕ) (few : k ≤ length wanted) (low : i < k) where
@@ -41,7 +41,7 @@ module _ (ks wanted picks : List ℕ) (k i : ℕ) (few : k ≤ length wanted) (l
   pub level : drop i (take k wanted) ≡ t ∷ rest
   level = prefix-tails 0 wanted k few .more i low
 
-  module _ (u : Used ks (take i wanted) (take i picks)) (p : ℕ) (h : p < length ks) (e : fits ks (take i picks) t p ≡ true) (four : i < length picks) where
+  module _ (u : Used ks (take i wanted) (take i picks)) (p : ℕ) (h : p < length ks) (e : isFree ks (take i picks) t p ≡ true) (four : i < length picks) where
     next-used : Used ks (take i wanted ++ t ∷ []) (take i picks ++ p ∷ [])
     next-used = used-next ks (take i wanted) (take i picks) t p h e u
 
@@ -93,7 +93,7 @@ module _ (ks wanted used : List ℕ) (k i : ℕ) (e : i ≡ k) where
 
 -- a place of the array that has the number wanted is free unless it is picked
 pub free-unless : (keys : List ℕ) (n : ℕ) (used : List ℕ) (t p : ℕ) {b : Bool} → p < n → getD keys p 0 ≡ t → b ≡ isIn p used
-    → fits (take n keys) used t p ≡ not b
+    → isFree (take n keys) used t p ≡ not b
 free-unless keys n used t p h e i = rw (getD-take n keys p 0 h, e, eq-eqb t t refl, ← i)
 
 -- the places up to the next that has it have no branch
@@ -101,5 +101,5 @@ pub branches-next : (keys : List ℕ) (n : ℕ) (used : List ℕ) (t : ℕ) (ts 
     → branchesFrom (take n keys) used t ts from ≡ branchesFrom (take n keys) used t ts r
 branches-next keys n used t ts {from} {r} l k =
     let long = length-take-le n keys l in
-    from-skip (branch (take n keys) used ts) (fits (take n keys) used t) (length (take n keys)) from r (k .low) (rw long (k .high))
+    from-skip (branch (take n keys) used ts) (isFree (take n keys) used t) (length (take n keys)) from r (k .low) (rw long (k .high))
     (λ j a b. rw (getD-take n keys j 0 (omega (arith, k .high)), ne-eqb (getD keys j 0) t (k .none j a b)))

@@ -7,13 +7,13 @@ use lib.ListN.{length, getD}
 use Rattle.lists.specs.Lists.{keep, isIn, upFrom, each}
 
 -- a place with the key t that is not used
-abbrev pub fits : List ℕ → List ℕ → ℕ → ℕ → Bool
-fits ks used t p = eqb (getD ks p 0) t && not (isIn p used)
+abbrev pub isFree : List ℕ → List ℕ → ℕ → ℕ → Bool
+isFree ks used t p = eqb (getD ks p 0) t && not (isIn p used)
 
 -- a place for each number wanted, the used places left out; in order by the first, then by the next, ..
 abbrev pub choicesFrom : List ℕ → List ℕ → List ℕ → List (List ℕ)
 choicesFrom ks used [] = [] ∷ []
-choicesFrom ks used (t ∷ ts) = each (λ p. map (λ c. p ∷ c) (choicesFrom ks (used ++ p ∷ []) ts)) (keep (fits ks used t) (upFrom 0 (length ks)))
+choicesFrom ks used (t ∷ ts) = each (λ p. map (λ c. p ∷ c) (choicesFrom ks (used ++ p ∷ []) ts)) (keep (isFree ks used t) (upFrom 0 (length ks)))
 
 -- Keys by group: group * 512 + number. The first place may be of any group, and decides of which group the others are.
 abbrev pub groupBase : List ℕ → ℕ → ℕ → ℕ

@@ -12,7 +12,7 @@ use Rattle.lists.specs.Parts.{keep-map}
 use Rattle.lists.specs.Seen.{unseen, unseen-ext, unseen-distinct}
 use Rattle.lists.specs.Beside.{allBeside, beside-map}
 use Rattle.lists.specs.Tuples.{each-same, each-up, keep-each, reads, chosen, keep-tuples}
-use Rattle.lists.specs.Choosing.{fits, choicesFrom, groupBase, choicesIn, choicesByGroup}
+use Rattle.lists.specs.Choosing.{isFree, choicesFrom, groupBase, choicesIn, choicesByGroup}
 
 -- ---- tests that agree on tuples
 
@@ -42,7 +42,7 @@ module _ (ks : List ℕ) where
   mayFollow (numbers []) p = false
   mayFollow (numbers (t ∷ ts)) p = eqb (getD ks p 0 % 512) t
   mayFollow (keys used []) p = false
-  mayFollow (keys used (t ∷ ts)) p = fits ks used t p
+  mayFollow (keys used (t ∷ ts)) p = isFree ks used t p
 
   -- the key of a number in the group of place p, whose own number is t
   abbrev inGroup : ℕ → ℕ → ℕ → ℕ
@@ -63,7 +63,7 @@ module _ (ks : List ℕ) where
   chosen-keys used (t ∷ ts) =
       each-same (λ p. map (λ c. p ∷ c) (chosen mayFollow wantedAfter (length ks) (keys (used ++ p ∷ []) ts) (length ts)))
       (λ p. map (λ c. p ∷ c) (choicesFrom ks (used ++ p ∷ []) ts)) (λ p. ap (map (λ c. p ∷ c)) (chosen-keys (used ++ p ∷ []) ts))
-      (keep (fits ks used t) (upFrom 0 (length ks)))
+      (keep (isFree ks used t) (upFrom 0 (length ks)))
 
   one-more : (u p : ℕ) (used : List ℕ) → isIn u (used ++ p ∷ []) ≡ eqb u p || isIn u used
   one-more u p [] = refl

@@ -15,7 +15,7 @@ use Rattle.lists.specs.Each.{All, All-keep, All-map}
 use Rattle.lists.specs.Counting.{length-keep}
 use Rattle.lists.specs.Totals.{count-sum}
 use Rattle.lists.specs.Keys.{timesIn, times-append, times-one}
-use Rattle.lists.specs.Choosing.{fits, choicesFrom}
+use Rattle.lists.specs.Choosing.{isFree, choicesFrom}
 
 -- `count` says how many places a number has
 abbrev pub ways : (ℕ → ℕ) → List ℕ → List ℕ → ℕ
@@ -70,39 +70,39 @@ isIn-more x p (u ∷ us) = go (eqb x u) (isIn-more x p us)
 
 -- one place more is used: one less where its number is asked for
 fits-lower : (ks used : List ℕ) (p t : ℕ) → getD ks p 0 ≡ t → isIn p used ≡ false → (u x : ℕ)
-    → oneIf (fits ks used u x) ≡ oneIf (fits ks (used ++ p ∷ []) u x) + oneIf (eqb t u && eqb x p)
+    → oneIf (isFree ks used u x) ≡ oneIf (isFree ks (used ++ p ∷ []) u x) + oneIf (eqb t u && eqb x p)
 fits-lower ks used p t e a u x = by-bool (eqb x p) here other
   where
-    here : eqb x p ≡ true → oneIf (fits ks used u x) ≡ oneIf (fits ks (used ++ p ∷ []) u x) + oneIf (eqb t u && eqb x p)
+    here : eqb x p ≡ true → oneIf (isFree ks used u x) ≡ oneIf (isFree ks (used ++ p ∷ []) u x) + oneIf (eqb t u && eqb x p)
     here q =
         let h = eqb-true x p q in
         let m : isIn p (used ++ p ∷ []) ≡ true = isIn-more p p used ∙ rw (a, eq-eqb p p refl) in
         rw (h, m, a, e, eq-eqb p p refl, and-right-false (eqb t u) refl) (omega arith)
 
-    other : eqb x p ≡ false → oneIf (fits ks used u x) ≡ oneIf (fits ks (used ++ p ∷ []) u x) + oneIf (eqb t u && eqb x p)
+    other : eqb x p ≡ false → oneIf (isFree ks used u x) ≡ oneIf (isFree ks (used ++ p ∷ []) u x) + oneIf (eqb t u && eqb x p)
     other q = rw (isIn-more x p used, q, or-false, and-right-false (eqb t u) refl) (omega arith)
 
 -- The places still free for each number t: those with t, less those that the numbers wanted before have used.
 pub record Used (ks earlier used : List ℕ) : Type 0 where
-  pub free : (t : ℕ) → countIf (fits ks used t) (upFrom 0 (length ks)) + timesIn t earlier ≡ timesIn t ks
+  pub free : (t : ℕ) → countIf (isFree ks used t) (upFrom 0 (length ks)) + timesIn t earlier ≡ timesIn t ks
 
 pub used-none : (ks : List ℕ) → Used ks [] []
 unfolding timesIn
 used-none ks = record { free = λ t. omega (arith, none t) }
   where
-    none : (t : ℕ) → countIf (fits ks [] t) (upFrom 0 (length ks)) ≡ countIf (λ x. eqb x t) ks
+    none : (t : ℕ) → countIf (isFree ks [] t) (upFrom 0 (length ks)) ≡ countIf (λ x. eqb x t) ks
     none t =
         ap (λ (p : ℕ → Bool). countIf p (upFrom 0 (length ks))) (fun-ext (λ x. and-true (eqb (getD ks x 0) t))) ∙ count-places (λ x. eqb x t) ks
 
-pub used-next : (ks earlier used : List ℕ) (t p : ℕ) → p < length ks → fits ks used t p ≡ true → Used ks earlier used
+pub used-next : (ks earlier used : List ℕ) (t p : ℕ) → p < length ks → isFree ks used t p ≡ true → Used ks earlier used
     → Used ks (earlier ++ t ∷ []) (used ++ p ∷ [])
 used-next ks earlier used t p low f h = record { free = free }
   where
-    free : (u : ℕ) → countIf (fits ks (used ++ p ∷ []) u) (upFrom 0 (length ks)) + timesIn u (earlier ++ t ∷ []) ≡ timesIn u ks
+    free : (u : ℕ) → countIf (isFree ks (used ++ p ∷ []) u) (upFrom 0 (length ks)) + timesIn u (earlier ++ t ∷ []) ≡ timesIn u ks
     free u =
         let e = eqb-true (getD ks p 0) t (and-left (eqb (getD ks p 0) t) (not (isIn p used)) f) in
         let a = not-true (isIn p used) (and-right (eqb (getD ks p 0) t) (not (isIn p used)) f) in
-        let s = count-sum (fits ks used u) (fits ks (used ++ p ∷ []) u) (λ x. eqb t u && eqb x p) (fits-lower ks used p t e a u) (upFrom 0 (length ks)) in
+        let s = count-sum (isFree ks used u) (isFree ks (used ++ p ∷ []) u) (λ x. eqb t u && eqb x p) (fits-lower ks used p t e a u) (upFrom 0 (length ks)) in
         let c = count-here (eqb t u) p 0 (length ks) (omega arith) (omega arith) in
         omega (arith, s, c, h .free u, times-append u earlier (t ∷ []), times-one u t)
 
@@ -121,9 +121,9 @@ pub choices-ways : (ks : List ℕ) (ts earlier used : List ℕ) → Used ks earl
 choices-ways ks [] earlier used h = refl
 choices-ways ks (t ∷ ts) earlier used h =
     each-const (λ p. map (λ c. p ∷ c) (choicesFrom ks (used ++ p ∷ []) ts)) (ways (λ t. timesIn t ks) (earlier ++ t ∷ []) ts)
-    (keep (fits ks used t) (upFrom 0 (length ks)))
-    (All-keep _ (fits ks used t) (upFrom 0 (length ks))
+    (keep (isFree ks used t) (upFrom 0 (length ks)))
+    (All-keep _ (isFree ks used t) (upFrom 0 (length ks))
     (All-map {P = λ p. p < 0 + length ks} (λ p l f. length-map (choicesFrom ks (used ++ p ∷ []) ts) (λ c. p ∷ c)
     ∙ choices-ways ks ts (earlier ++ t ∷ []) (used ++ p ∷ []) (used-next ks earlier used t p (omega arith) f h))
     (upFrom 0 (length ks)) (places-below 0 (length ks))))
-    ∙ ap (λ (k : ℕ). k * ways (λ t. timesIn t ks) (earlier ++ t ∷ []) ts) (length-keep (fits ks used t) (upFrom 0 (length ks)) ∙ omega (arith, h .free t))
+    ∙ ap (λ (k : ℕ). k * ways (λ t. timesIn t ks) (earlier ++ t ∷ []) ts) (length-keep (isFree ks used t) (upFrom 0 (length ks)) ∙ omega (arith, h .free t))

@@ -11,9 +11,9 @@ use Rattle.lists.specs.Choosing.{choicesFrom}
 use Rattle.lists.specs.Ways.{ways, used-none, choices-ways}
 use Rattle.choices.specs.Widths.{widthsOf, Widths, widths-are, widths-small}
 use Rattle.eligible.specs.Ports.{PortCounts}
-use Rattle.rule_moves.specs.Takes.{Small, countsAt}
+use Rattle.rule_moves.specs.Takes.{SmallPorts, countsAt}
 
-module _ (ks counts takes : List ℕ) (few : length ks ≤ 1024) (h : PortCounts ks counts) (small : Small takes) where
+module _ (ks counts takes : List ℕ) (few : length ks ≤ 1024) (h : PortCounts ks counts) (small : SmallPorts takes) where
   pub counts-few : (t : ℕ) → t < 511 → getD counts t 0 ≤ 1024
   counts-few t l = omega (arith, h .each t l, times-le t ks)
 

@@ -20,7 +20,7 @@ use Rattle.enabled.specs.Reactions.{choicesOf}
 use Rattle.choices.specs.declared.Part.{Part}
 use Rattle.choices.specs.Words.{choiceWords}
 use Rattle.choices.specs.Parts.{PartAs, part-map}
-use Rattle.rule_moves.specs.Takes.{Small, frontOf}
+use Rattle.rule_moves.specs.Takes.{SmallPorts, frontOf}
 
 -- ---- the words of a reaction
 
@@ -79,7 +79,7 @@ front-take (a ∷ b ∷ c ∷ d ∷ []) h (suc (suc (suc (suc zero)))) l = refl
 front-take (a ∷ b ∷ c ∷ d ∷ []) h (suc (suc (suc (suc (suc k))))) l = absurd (omega arith)
 front-take (a ∷ b ∷ c ∷ d ∷ e ∷ r) h k l = absurd (omega arith)
 
-pub front-small : (ports : List ℕ) → length ports ≡ 4 → (k : ℕ) → All (λ p. p < 256) (take k ports) → Small (frontOf ports k)
+pub front-small : (ports : List ℕ) → length ports ≡ 4 → (k : ℕ) → All (λ p. p < 256) (take k ports) → SmallPorts (frontOf ports k)
 front-small ports h k all = small
   where
     at : (j : ℕ) → j < 4 → cond (ltb j k) (getD ports j 0) 0 < 256

@@ -8,8 +8,8 @@ use Rattle.semantics.specs.Table.{Rule, consumed, begins}
 use Rattle.semantics.specs.Move.{Move, react}
 use Rattle.enabled.specs.Reactions.{choicesOf}
 
-abbrev pub Small : List ℕ → Type 0
-Small takes = (j : ℕ) → getD takes j 0 < 256
+abbrev pub SmallPorts : List ℕ → Type 0
+SmallPorts takes = (j : ℕ) → getD takes j 0 < 256
 
 -- the entries on each of the four
 abbrev pub countsAt : List ℕ → List ℕ → List ℕ

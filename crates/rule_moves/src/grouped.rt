@@ -6,7 +6,7 @@ ghost use Rattle.lists.specs.Choosing.{choicesByGroup};
 ghost use Rattle.choices.specs.Parts.{PartAs};
 ghost use Rattle.choices.specs.Words.{choiceWords};
 ghost use Rattle.groups.specs.Groups.{KeysBelow, CountedFor};
-ghost use Rattle.rule_moves.specs.Takes.{Small};
+ghost use Rattle.rule_moves.specs.Takes.{SmallPorts};
 use choices::Part;
 use groups::count_groups;
 use groups::group_page;
@@ -25,7 +25,7 @@ fn counted_moves<'a>(
     target: &mut [u32],
     at: usize,
 ) -> Part
-    requires { ⌜ KeysBelow n (now keys) × Small takes × (1 ≤ k) × (k ≤ 4) × CountedFor (take n (now keys)) takes (now counts) ⌝ }
+    requires { ⌜ KeysBelow n (now keys) × SmallPorts takes × (1 ≤ k) × (k ≤ 4) × CountedFor (take n (now keys)) takes (now counts) ⌝ }
     requires { ⌜ (count ≤ 256) × (at + 5 * count ≤ length (now target)) ⌝ }
     ensures { λ r. ⌜ PartAs (choiceWords head (0 ∷ 0 ∷ 0 ∷ 0 ∷ []) 0) (choicesByGroup (take n (now (keys .entry))) (take k takes))
         first count at (now (target .entry)) (now (target .exit)) r ⌝ }
@@ -50,7 +50,7 @@ pub fn grouped_moves(
     target: &mut [u32],
     at: usize,
 ) -> Part
-    requires { ⌜ KeysBelow n (now keys) × Small takes × (1 ≤ k) × (k ≤ 4) ⌝ }
+    requires { ⌜ KeysBelow n (now keys) × SmallPorts takes × (1 ≤ k) × (k ≤ 4) ⌝ }
     requires { ⌜ (count ≤ 256) × (at + 5 * count ≤ length (now target)) ⌝ }
     ensures { λ r. ⌜ PartAs (choiceWords head (0 ∷ 0 ∷ 0 ∷ 0 ∷ []) 0) (choicesByGroup (take n (now (keys .entry))) (take k takes))
         first count at (now (target .entry)) (now (target .exit)) r ⌝ }

@@ -7,7 +7,7 @@ ghost use Rattle.lists.specs.Choosing.{choicesFrom};
 ghost use Rattle.choices.specs.Parts.{PartAs};
 ghost use Rattle.choices.specs.Words.{choiceWords};
 ghost use Rattle.eligible.specs.Ports.{PortCounts};
-ghost use Rattle.rule_moves.specs.Takes.{Small, countsAt};
+ghost use Rattle.rule_moves.specs.Takes.{SmallPorts, countsAt};
 use choices::Part;
 use choices::fill;
 use choices::widths;
@@ -21,7 +21,7 @@ fn count_at(counts: &[u16; 512], t: u32) -> u64
 
 // The entries on each of four ports.
 fn counts_at(counts: &[u16; 512], takes: [u32; 4]) -> [u64; 4]
-    requires { ⌜ (length (now counts) ≡ 512) × Small takes × ((t : ℕ) → t < 511 → getD (now counts) t 0 ≤ 1024) ⌝ }
+    requires { ⌜ (length (now counts) ≡ 512) × SmallPorts takes × ((t : ℕ) → t < 511 → getD (now counts) t 0 ≤ 1024) ⌝ }
     ensures { λ r. ⌜ r ≡ countsAt (now (counts .entry)) takes ⌝ }
 {
     let a = count_at(counts, takes[0]);
@@ -43,7 +43,7 @@ pub fn plain_moves<'a>(
     target: &mut [u32],
     at: usize,
 ) -> Part
-    requires { ⌜ (n ≤ 1024) × (length (now keys) ≡ 1024) × PortCounts (take n (now keys)) (now counts) × Small takes × (1 ≤ k) × (k ≤ 4) ⌝ }
+    requires { ⌜ (n ≤ 1024) × (length (now keys) ≡ 1024) × PortCounts (take n (now keys)) (now counts) × SmallPorts takes × (1 ≤ k) × (k ≤ 4) ⌝ }
     requires { ⌜ (count ≤ 256) × (at + 5 * count ≤ length (now target)) ⌝ }
     ensures { λ r. ⌜ PartAs (choiceWords head (0 ∷ 0 ∷ 0 ∷ 0 ∷ []) 0) (choicesFrom (take n (now (keys .entry))) [] (take k takes))
         first count at (now (target .entry)) (now (target .exit)) r ⌝ }

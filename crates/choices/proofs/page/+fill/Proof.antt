@@ -6,7 +6,7 @@ use mathlib.Core.List.{List, _++_}
 use native.Mathlib.Omega.{arith}
 use lib.ListN.{length, getD, take, drop, set}
 use lib.Seq.{length-take-le}
-use Rattle.lists.specs.Choosing.{fits, choicesFrom}
+use Rattle.lists.specs.Choosing.{isFree, choicesFrom}
 use Rattle.lists.specs.Tuples.{from-end, from-pass, from-here}
 use Rattle.lists.specs.Pages.{Paging, paging-start, paging-pass, paging-skip, paging-more, paging-end, paging-full, paged-empty, paged-le, paged-length}
 use Rattle.choices.specs.Words.{choiceWords, five-words}
@@ -107,7 +107,7 @@ pub +fill-spec : {M : Type 1} → statement M
     let taken = free ∙ ap not (c .before .if5 .taken) in (
       c .next-with2 .ensures .high,
       c .next-with2 .ensures .here,
-      paging-pass (choiceWords (a .head) (a .picks) (a .i)) 5 (five-words (a .head) (a .picks) (a .i) six) (l .inv .2) (from-pass (branch (take (a .n) (a .keys .now)) (take (a .i) (a .picks)) (drop (a .i + 1) (take (a .k) (a .t3)))) (fits (take (a .n) (a .keys .now)) (take (a .i) (a .picks)) (getD (a .t3) (a .i) 0)) (length (take (a .n) (a .keys .now))) (l .p) h taken ∙ branches-next (a .keys .now) (a .n) (take (a .i) (a .picks)) (getD (a .t3) (a .i) 0) (drop (a .i + 1) (take (a .k) (a .t3))) (omega arith) (c .next-with2 .ensures)),
+      paging-pass (choiceWords (a .head) (a .picks) (a .i)) 5 (five-words (a .head) (a .picks) (a .i) six) (l .inv .2) (from-pass (branch (take (a .n) (a .keys .now)) (take (a .i) (a .picks)) (drop (a .i + 1) (take (a .k) (a .t3)))) (isFree (take (a .n) (a .keys .now)) (take (a .i) (a .picks)) (getD (a .t3) (a .i) 0)) (length (take (a .n) (a .keys .now))) (l .p) h taken ∙ branches-next (a .keys .now) (a .n) (take (a .i) (a .picks)) (getD (a .t3) (a .i) 0) (drop (a .i + 1) (take (a .k) (a .t3))) (omega arith) (c .next-with2 .ensures)),
     ))
     (λ c. search needs)
     (λ c κs. search needs)
@@ -127,7 +127,7 @@ pub +fill-spec : {M : Type 1} → statement M
       c .next-with3 .ensures .high,
       c .next-with3 .ensures .here,
       paging-pass (choiceWords (a .head) (a .picks) (a .i)) 5 (five-words (a .head) (a .picks) (a .i) six)
-          (rw (← w) (paging-skip (choiceWords (a .head) (a .picks) (a .i)) 5 (five-words (a .head) (a .picks) (a .i) six) (l .inv .2) (branch (take (a .n) (a .keys .now)) (take (a .i) (a .picks)) (drop (a .i + 1) (take (a .k) (a .t3))) (l .p)) _ (from-here (branch (take (a .n) (a .keys .now)) (take (a .i) (a .picks)) (drop (a .i + 1) (take (a .k) (a .t3)))) (fits (take (a .n) (a .keys .now)) (take (a .i) (a .picks)) (getD (a .t3) (a .i) 0)) (length (take (a .n) (a .keys .now))) (l .p) h e) (rw w (c .before .if6 .taken))))
+          (rw (← w) (paging-skip (choiceWords (a .head) (a .picks) (a .i)) 5 (five-words (a .head) (a .picks) (a .i) six) (l .inv .2) (branch (take (a .n) (a .keys .now)) (take (a .i) (a .picks)) (drop (a .i + 1) (take (a .k) (a .t3))) (l .p)) _ (from-here (branch (take (a .n) (a .keys .now)) (take (a .i) (a .picks)) (drop (a .i + 1) (take (a .k) (a .t3)))) (isFree (take (a .n) (a .keys .now)) (take (a .i) (a .picks)) (getD (a .t3) (a .i) 0)) (length (take (a .n) (a .keys .now))) (l .p) h e) (rw w (c .before .if6 .taken))))
           (branches-next (a .keys .now) (a .n) (take (a .i) (a .picks)) (getD (a .t3) (a .i) 0) (drop (a .i + 1) (take (a .k) (a .t3))) (omega arith) (c .next-with3 .ensures)),
     ))
     (λ c. search needs)
@@ -180,7 +180,7 @@ pub +fill-spec : {M : Type 1} → statement M
     let inside : a .i < length (a .picks) = omega (arith, less, p .0 .1, six) in
     let e = free ∙ ap not (c .before .before .before .before .before .before .if5 .left) in
     let w = branch-width (take (a .n) (a .keys .now)) (a .t3) (a .picks) (a .k) (a .i) enough less (p .1 .1 .1) (l .p) h e inside (p .1 .1 .0) in
-    let more = paging-more (choiceWords (a .head) (a .picks) (a .i)) 5 (five-words (a .head) (a .picks) (a .i) six) (l .inv .2) (branch (take (a .n) (a .keys .now)) (take (a .i) (a .picks)) (drop (a .i + 1) (take (a .k) (a .t3))) (l .p)) _ _ _ (from-here (branch (take (a .n) (a .keys .now)) (take (a .i) (a .picks)) (drop (a .i + 1) (take (a .k) (a .t3)))) (fits (take (a .n) (a .keys .now)) (take (a .i) (a .picks)) (getD (a .t3) (a .i) 0)) (length (take (a .n) (a .keys .now))) (l .p) h e)
+    let more = paging-more (choiceWords (a .head) (a .picks) (a .i)) 5 (five-words (a .head) (a .picks) (a .i) six) (l .inv .2) (branch (take (a .n) (a .keys .now)) (take (a .i) (a .picks)) (drop (a .i + 1) (take (a .k) (a .t3))) (l .p)) _ _ _ (from-here (branch (take (a .n) (a .keys .now)) (take (a .i) (a .picks)) (drop (a .i + 1) (take (a .k) (a .t3)))) (isFree (take (a .n) (a .keys .now)) (take (a .i) (a .picks)) (getD (a .t3) (a .i) 0)) (length (take (a .n) (a .keys .now))) (l .p) h e)
     (branch-paged (take (a .n) (a .keys .now)) (a .t3) (a .picks) (a .k) (a .i) enough less (p .1 .1 .1) (l .p) h e inside (c .before .before .before .fill .ensures)) in
     let none : l .skip - length (branch (take (a .n) (a .keys .now)) (take (a .i) (a .picks)) (drop (a .i + 1) (take (a .k) (a .t3))) (l .p)) ≡ 0 = omega (arith, w, c .before .before .before .before .before .if6 .left) in
     (c .next-with4 .ensures .high, c .next-with4 .ensures .here, paging-pass (choiceWords (a .head) (a .picks) (a .i)) 5 (five-words (a .head) (a .picks) (a .i) six) (rw none at more) (branches-next (a .keys .now) (a .n) (take (a .i) (a .picks)) (getD (a .t3) (a .i) 0) (drop (a .i + 1) (take (a .k) (a .t3))) (omega arith) (c .next-with4 .ensures))))
@@ -188,4 +188,4 @@ pub +fill-spec : {M : Type 1} → statement M
     (λ c.
     let a = c .before .before .before .before .before .args in
     let l = c .before .loop in
-    paging-end (choiceWords (a .head) (a .picks) (a .i)) 5 (five-words (a .head) (a .picks) (a .i) (search needs)) (l .inv .2) (from-end (branch (take (a .n) (a .keys .now)) (take (a .i) (a .picks)) (drop (a .i + 1) (take (a .k) (a .t3)))) (fits (take (a .n) (a .keys .now)) (take (a .i) (a .picks)) (getD (a .t3) (a .i) 0)) (length (take (a .n) (a .keys .now))) (l .p) (rw (length-take-le (a .n) (a .keys .now) (omega arith)) (c .loop-test .left))))
+    paging-end (choiceWords (a .head) (a .picks) (a .i)) 5 (five-words (a .head) (a .picks) (a .i) (search needs)) (l .inv .2) (from-end (branch (take (a .n) (a .keys .now)) (take (a .i) (a .picks)) (drop (a .i + 1) (take (a .k) (a .t3)))) (isFree (take (a .n) (a .keys .now)) (take (a .i) (a .picks)) (getD (a .t3) (a .i) 0)) (length (take (a .n) (a .keys .now))) (l .p) (rw (length-take-le (a .n) (a .keys .now) (omega arith)) (c .loop-test .left))))

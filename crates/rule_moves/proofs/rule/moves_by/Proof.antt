@@ -6,7 +6,7 @@ use lib.ListN.{take}
 use Rattle.lists.specs.Pages.{paged-length}
 use Rattle.semantics.specs.Table.{consumed}
 use Rattle.reaction.specs.Decoded.{ruleIn}
-use Rattle.rule_moves.specs.Takes.{Small}
+use Rattle.rule_moves.specs.Takes.{SmallPorts}
 use Rattle.rule_moves.proofs.Reactions.{open-moves, no-moves, front-take, front-small, grouped-choices, plain-choices}
 use borrow.Author.Needs.{needs}
 use Rattle.rule_moves.proofs.rule.moves_by.Statement.{statement}
@@ -25,7 +25,7 @@ ports c =
     let e = c .before .consume-ports .ensures in
     rw (c .front-of .ensures) (front-take (c .before .consume-ports .result) (e .1) (s .args .rule .consumes) (s .pre .0 .0 .legal .most) ∙ e .0)
 
-small : (c : tie.After-front-of) → Small (c .front-of .result)
+small : (c : tie.After-front-of) → SmallPorts (c .front-of .result)
 small c =
     let s = c .before .before .before .before .before in
     let e = c .before .consume-ports .ensures in
