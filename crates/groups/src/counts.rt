@@ -4,7 +4,7 @@ ghost use Prim.Native.Nat.{ℕ, _≤_, _<_};
 ghost use lib.Dec.{eqb};
 ghost use lib.ListN.{length, getD, take};
 ghost use Rattle.lists.specs.Lists.{oneIf};
-ghost use Rattle.groups.specs.Groups.{packed, Grouped, KeysBelow};
+ghost use Rattle.groups.specs.Groups.{packed, Grouped, KeysBelow, Firsts};
 
 fn one_if(b: bool) -> u64
     ensures { λ r. ⌜ (r ≡ oneIf b) × (r ≤ 1) ⌝ }
@@ -32,4 +32,27 @@ pub fn count_groups(keys: &[u32; 1024], n: usize, b: u32, c: u32, d: u32, counts
         counts[g] += ones(key % 512, b, c, d);
         i += 1;
     }
+}
+
+fn place_if(b: bool) -> usize
+    ensures { λ r. ⌜ (r ≡ oneIf b) × (r ≤ 1) ⌝ }
+{
+    if b { 1 } else { 0 }
+}
+
+// The places on port t, in order, and how many they are. Each place is written, and stays if it counts: which do follows no
+// pattern, and a branch on it is foretold badly.
+pub fn firsts(keys: &[u32; 1024], n: usize, t: u32, places: &mut [u16; 1024]) -> usize
+    requires { ⌜ KeysBelow n (now keys) × (length (now places) ≡ 1024) ⌝ }
+    ensures { λ r. ⌜ Firsts (take n (now (keys .entry))) t (now (places .exit)) r ⌝ }
+{
+    let mut len = 0;
+    let mut i = 0;
+    while i < n {
+        let key = keys[i];
+        places[len] = i as u16;
+        len += place_if(key % 512 == t);
+        i += 1;
+    }
+    len
 }
