@@ -103,3 +103,18 @@ branches-next keys n used t ts {from} {r} l k =
     let long = length-take-le n keys l in
     from-skip (branch (take n keys) used ts) (isFree (take n keys) used t) (length (take n keys)) from r (k .low) (rw long (k .high))
     (λ j a b. rw (getD-take n keys j 0 (omega (arith, k .high)), ne-eqb (getD keys j 0) t (k .none j a b)))
+
+-- behind the last number a branch is one choice
+module _ (ks wanted used : List ℕ) (k i p : ℕ) (e : i + 1 ≡ k) where
+  last-branch : branch ks used (drop (i + 1) (take k wanted)) p ≡ (p ∷ []) ∷ []
+  last-branch =
+      let short : length (take k wanted) ≤ i + 1 = rw length-take (omega (arith, min-le-left k (length wanted))) in
+      ap (λ (ts : List ℕ). branch ks used ts p) (drop-of-length-le (take k wanted) short)
+
+  pub last-length : length (branch ks used (drop (i + 1) (take k wanted)) p) ≡ 1
+  last-length = ap length last-branch
+
+  pub last-paged : (head count at : ℕ) (picks before : List ℕ) {skip : ℕ} → skip ≡ 0 → 1 ≤ count → {after : List ℕ} → after ≡ sets before at (head ∷ set picks i p)
+      → Paged (choiceWords head picks i) 5 (branch ks used (drop (i + 1) (take k wanted)) p) skip count at before after 1
+  last-paged head count at picks before z h w =
+      paged-same (choiceWords head picks i) 5 (sym last-branch) (rw (z, w) (paged-one (choiceWords head picks i) 5 (p ∷ []) count at before h))

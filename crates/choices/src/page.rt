@@ -82,6 +82,13 @@ pub fn fill(
         } else if width <= skip {
             skip -= width;
             p = next_with(keys, n, p + 1, t);
+        } else if i + 1 == k {
+            // The last number: without a call for each choice.
+            let mut last = picks;
+            last[i] = p as u32;
+            put(target, at + 5 * done, head, last);
+            done += 1;
+            p = next_with(keys, n, p + 1, t);
         } else {
             let mut next = picks;
             next[i] = p as u32;

@@ -1,24 +1,29 @@
 -- The choices of which the first place is p: they are within p's group, and so many.
 use Prim.Native.Nat.{ℕ, zero, suc, _+_, _-_, _*_, _/_, _%_, _≤_, _<_}
-use mathlib.Core.Bool.{true, false, cond}
-use mathlib.Core.Path.{_≡_, refl, sym, ap, _∙_}
+use mathlib.Core.Bool.{true}
+use mathlib.Core.Path.{_≡_, refl, sym, ap, _∙_, subst}
+use native.Mathlib.Nat.{min-le-left}
 use mathlib.Core.List.{List, [], _∷_, map}
 use native.Mathlib.Omega.{arith}
 use borrow.Author.Tests.{eqb-true, eq-eqb}
 use lib.Dec.{eqb}
-use lib.ListN.{length, getD, take, drop, length-map, length-append}
-use Rattle.lists.specs.Lists.{each}
-use Rattle.lists.specs.Choices.{and-intro, by-bool, cond-true, cond-false}
+use lib.ListN.{length, getD, take, drop, length-map, length-append, length-take, drop-of-length-le}
+use lib.Seq.{length-take-le, getD-take}
+use Rattle.lists.specs.Lists.{keep, upFrom, each}
+use Rattle.lists.specs.Each.{All, All-keep, All-getD}
+use Rattle.lists.specs.UpFrom.{up-each}
+use Rattle.lists.specs.Prefix.{prefix-tails}
+use Rattle.lists.specs.Choices.{and-intro}
 use Rattle.lists.specs.Tests.{same-test}
 use Rattle.lists.specs.Keys.{timesIn, times-le}
 use Rattle.lists.specs.Choosing.{choicesFrom, groupBase, choicesIn, choicesByGroup}
 use Rattle.lists.specs.Mapped.{map-take}
-use Rattle.lists.specs.Tuples.{eachFrom, from-start, from-end, from-pass, from-here}
+use Rattle.lists.specs.Tuples.{eachFrom, from-start}
 use Rattle.lists.specs.Pages.{Paged, paged-map}
 use Rattle.lists.specs.Ways.{Used, used-none, used-next, choices-ways}
 use Rattle.choices.specs.Widths.{widthsOf, Widths, widths-are}
 use Rattle.choices.specs.Words.{choiceWords}
-use Rattle.groups.specs.Groups.{Sized, Grouped, CountedFor, leftIn}
+use Rattle.groups.specs.Groups.{Sized, Grouped, CountedFor, leftIn, firstsOn, Firsts}
 
 -- ---- numbers that are all shifted
 
@@ -210,38 +215,55 @@ shifted-as b (x ∷ y ∷ z ∷ []) h = absurd (omega arith)
 shifted-as b (x ∷ y ∷ z ∷ w ∷ []) h = refl
 shifted-as b (x ∷ y ∷ z ∷ w ∷ v ∷ r) h = absurd (omega arith)
 
--- ---- the loops over the first places
-
-pub groups-end : (ks : List ℕ) (t : ℕ) (ts : List ℕ) (p : ℕ) → length ks ≤ p → length (groupsFrom ks t ts p) ≡ 0
-groups-end ks t ts p h = ap length (from-end (choicesIn ks t ts) (λ p. eqb (getD ks p 0 % 512) t) (length ks) p h)
+-- ---- the loop over the first places
 
 module _ (ks : List ℕ) (k : ℕ) (some : 1 ≤ k) (most : k ≤ 4) (takes : List ℕ) (four : length takes ≡ 4) where
   abbrev t₀ : ℕ
   t₀ = getD takes 0 0
 
-  abbrev goal : ℕ → ℕ
-  goal p = length (groupsFrom ks t₀ (restOf takes k) p)
+  abbrev of : ℕ → List (List ℕ)
+  of p = choicesIn ks t₀ (restOf takes k) p
 
-  -- one place more, with this key
-  pub total-next : {counts : List ℕ} → CountedFor ks takes counts → (p : ℕ) → p < length ks → {key : ℕ} → getD ks p 0 ≡ key → key < 524288
-      → {w : ℕ} → w ≡ cond (eqb (key % 512) t₀) (getD (widthsOf takes (leftIn counts (key / 512)) k) 0 0) 0 → goal p ≡ w + goal (p + 1)
-  total-next {counts} counted p low {key} is below {w} e = by-bool (eqb (key % 512) t₀) on off
-    where
-      on : eqb (key % 512) t₀ ≡ true → goal p ≡ w + goal (p + 1)
-      on q =
-          let small : getD ks p 0 < 524288 = rw is below in
-          let first : getD ks p 0 % 512 ≡ t₀ = rw is (eqb-true (key % 512) t₀ q) in
-          let i = in-group ks k some most takes four counted p low small first in
-          let v : w ≡ getD (widthsOf takes (leftIn counts (key / 512)) k) 0 0 = e ∙ cond-true _ _ q in
-          let x : getD (widthsOf takes (leftIn counts (getD ks p 0 / 512)) k) 0 0 ≡ w = rw is (sym v) in
-          let here : eqb (getD ks p 0 % 512) t₀ ≡ true = rw is q in
-          ap length (from-here (choicesIn ks t₀ (restOf takes k)) (λ p. eqb (getD ks p 0 % 512) t₀) (length ks) p low here)
-          ∙ length-append (choicesIn ks t₀ (restOf takes k) p) (groupsFrom ks t₀ (restOf takes k) (p + 1))
-          ∙ ap (λ (y : ℕ). y + goal (p + 1)) (i .width ∙ x)
+  pub firsts-start : choicesByGroup ks (take k takes) ≡ each of (firstsOn ks t₀)
+  firsts-start = groups-start-of ks k some most takes four ∙ from-start of (λ p. eqb (getD ks p 0 % 512) t₀) (length ks)
 
-      off : eqb (key % 512) t₀ ≡ false → goal p ≡ w + goal (p + 1)
-      off q =
-          let v : w ≡ 0 = e ∙ cond-false _ _ q in
-          let here : eqb (getD ks p 0 % 512) t₀ ≡ false = rw is q in
-          let z = ap length (from-pass (choicesIn ks t₀ (restOf takes k)) (λ p. eqb (getD ks p 0 % 512) t₀) (length ks) p low here) in
-          omega arith
+  -- each is on the port
+  each-on : All (λ p. (p < length ks) × (getD ks p 0 % 512 ≡ t₀)) (firstsOn ks t₀)
+  each-on = All-keep (λ p. (p < length ks) × (getD ks p 0 % 512 ≡ t₀)) (λ p. eqb (getD ks p 0 % 512) t₀) (upFrom 0 (length ks))
+      (up-each (λ p. eqb (getD ks p 0 % 512) t₀ ≡ true → (p < length ks) × (getD ks p 0 % 512 ≡ t₀)) 0 (length ks)
+      (λ p l u e. (omega arith, eqb-true (getD ks p 0 % 512) t₀ e)))
+
+  module _ {places : List ℕ} {m : ℕ} (fs : Firsts ks t₀ places m) where
+    abbrev goal : ℕ → ℕ
+    goal j = length (each of (drop j (take m places)))
+
+    pub firsts-whole : goal 0 ≡ length (choicesByGroup ks (take k takes))
+    firsts-whole = ap length (ap (each of) (fs .list) ∙ sym firsts-start)
+
+    pub firsts-end : (j : ℕ) → m ≤ j → goal j ≡ 0
+    firsts-end j h =
+        let short : length (take m places) ≤ j = rw length-take (omega (arith, min-le-left m (length places))) in
+        ap (λ (l : List ℕ). length (each of l)) (drop-of-length-le (take m places) short)
+
+    module _ (j : ℕ) (h : j < m) where
+      long : length (take m places) ≡ m
+      long = length-take-le m places (omega (arith, fs .few, fs .size))
+
+      pub first-at : (getD places j 0 < length ks) × (getD ks (getD places j 0) 0 % 512 ≡ t₀)
+      first-at =
+          let in′ : j < length (take m places) = rw long h in
+          subst (λ (p : ℕ). (p < length ks) × (getD ks p 0 % 512 ≡ t₀)) (getD-take m places j 0 h)
+          (All-getD (λ p. (p < length ks) × (getD ks p 0 % 512 ≡ t₀)) 0 (take m places) j (rw (fs .list) each-on) in′)
+
+      -- one place more, with this key
+      pub total-next : {counts : List ℕ} → CountedFor ks takes counts → {key : ℕ} → getD ks (getD places j 0) 0 ≡ key → key < 524288
+          → {w : ℕ} → w ≡ getD (widthsOf takes (leftIn counts (key / 512)) k) 0 0 → goal j ≡ w + goal (j + 1)
+      total-next {counts} counted {key} is below {w} e =
+          let (low, on) = first-at in
+          let small : getD ks (getD places j 0) 0 < 524288 = rw is below in
+          let i = in-group ks k some most takes four counted (getD places j 0) low small on in
+          let x : getD (widthsOf takes (leftIn counts (getD ks (getD places j 0) 0 / 512)) k) 0 0 ≡ w = rw is (sym e) in
+          let enough : m ≤ length places = omega (arith, fs .few, fs .size) in
+          ap (λ (l : List ℕ). length (each of l)) (prefix-tails 0 places m enough .more j h)
+          ∙ length-append (of (getD places j 0)) (each of (drop (j + 1) (take m places)))
+          ∙ ap (λ (y : ℕ). y + goal (j + 1)) (i .width ∙ x)

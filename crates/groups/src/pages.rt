@@ -1,15 +1,14 @@
 // The choices of a rule by groups: their number, and a page of them.
 ghost use mathlib.Core.Path.{_≡_};
-ghost use mathlib.Core.Bool.{cond};
 ghost use mathlib.Core.List.{[], _∷_, map};
-ghost use Prim.Native.Nat.{ℕ, _+_, _*_, _/_, _%_, _≤_, _<_};
-ghost use lib.Dec.{eqb};
+ghost use Prim.Native.Nat.{ℕ, _+_, _*_, _/_, _≤_, _<_};
 ghost use lib.ListN.{length, getD, take};
 ghost use Rattle.lists.specs.Choosing.{choicesByGroup};
 ghost use Rattle.lists.specs.Pages.{Paged};
 ghost use Rattle.choices.specs.Widths.{widthsOf};
 ghost use Rattle.choices.specs.Words.{choiceWords};
-ghost use Rattle.groups.specs.Groups.{KeysBelow, CountedFor, leftIn, Sized};
+ghost use Rattle.groups.specs.Groups.{KeysBelow, CountedFor, Firsts, leftIn, Sized};
+use crate::counts::firsts;
 use choices::fill;
 use choices::widths;
 
@@ -24,17 +23,37 @@ fn widths_in<'a>(takes: [u32; 4], k: usize, counts: &'a [u64; 1024], key: u32) -
     widths(takes, left, k)
 }
 
-// The same as one number, 0 where the key is not on the first port.
+// The same as one number.
 fn width_at<'a>(takes: [u32; 4], k: usize, counts: &'a [u64; 1024], key: u32) -> u64
     requires { ⌜ Sized (now counts) × (key < 524288) ⌝ }
-    ensures { λ r. ⌜ (r ≤ 1073741824) × (r ≡ cond (eqb (key % 512) (getD takes 0 0))
-        (getD (widthsOf takes (leftIn (now (counts .entry)) (key / 512)) k) 0 0) 0) ⌝ }
+    ensures { λ r. ⌜ (r ≤ 1073741824) × (r ≡ getD (widthsOf takes (leftIn (now (counts .entry)) (key / 512)) k) 0 0) ⌝ }
 {
-    if key % 512 != takes[0] {
-        return 0;
-    }
     let below = widths_in(takes, k, counts, key);
     below[0]
+}
+
+// How many choices there are for the first k ports, of which the first picks are the first m places.
+fn total_of<'a>(
+    keys: &'a [u32; 1024],
+    n: usize,
+    takes: [u32; 4],
+    k: usize,
+    counts: &'a [u64; 1024],
+    places: &'a [u16; 1024],
+    m: usize,
+) -> u64
+    requires { ⌜ KeysBelow n (now keys) × (1 ≤ k) × (k ≤ 4) × CountedFor (take n (now keys)) takes (now counts)
+        × Firsts (take n (now keys)) (getD takes 0 0) (now places) m ⌝ }
+    ensures { λ r. ⌜ (r ≡ length (choicesByGroup (take n (now (keys .entry))) (take k takes))) × (r ≤ 1099511627776) ⌝ }
+{
+    let mut total = 0;
+    let mut j = 0;
+    while j < m {
+        let p = places[j] as usize;
+        total += width_at(takes, k, counts, keys[p]);
+        j += 1;
+    }
+    total
 }
 
 // How many choices there are for the first k ports.
@@ -48,13 +67,9 @@ pub fn group_total<'a>(
     requires { ⌜ KeysBelow n (now keys) × (1 ≤ k) × (k ≤ 4) × CountedFor (take n (now keys)) takes (now counts) ⌝ }
     ensures { λ r. ⌜ (r ≡ length (choicesByGroup (take n (now (keys .entry))) (take k takes))) × (r ≤ 1099511627776) ⌝ }
 {
-    let mut total = 0;
-    let mut p = 0;
-    while p < n {
-        total += width_at(takes, k, counts, keys[p]);
-        p += 1;
-    }
-    total
+    let mut places = [0u16; 1024];
+    let m = firsts(keys, n, takes[0], &mut places);
+    total_of(keys, n, takes, k, counts, &places, m)
 }
 
 fn shifted(takes: [u32; 4], base: u32) -> [u32; 4]

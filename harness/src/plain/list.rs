@@ -7,6 +7,8 @@ use crate::words::{act, kind, MAX_CONSUMES, MAX_ENTRIES, MAX_NEXT};
 /// The key of a message is its port, and on a local port so many times its group besides: the place of
 /// its transaction among the open ones.
 const GROUP: u32 = 512;
+/// So many bits hold one of the counts in a word.
+const BITS: usize = 20;
 /// The key of an entry that no rule may take.
 const NO_KEY: u32 = 256;
 
@@ -66,7 +68,7 @@ impl<'a> List<'a> {
         match rule.class {
             Class::Local => {
                 let counts = self.counts(&takes);
-                self.firsts(&takes).map(|(_, group)| takes.ways(|j| counts[j][group])).sum()
+                self.firsts(&takes).map(|(_, group)| takes.ways(|j| count_in(counts[group], j))).sum()
             }
             _ => {
                 let firsts = u64::from(self.on_port[takes.ports[0] as usize]);
@@ -75,14 +77,14 @@ impl<'a> List<'a> {
         }
     }
 
-    /// How many messages each group has for the consumes of a local rule but the first.
-    fn counts(&self, takes: &Takes) -> [[u16; MAX_ENTRIES]; MAX_CONSUMES] {
-        let mut counts = [[0; MAX_ENTRIES]; MAX_CONSUMES];
-        for j in 1..takes.count {
-            for &key in &self.keys {
-                // Without a branch, since the ports follow no pattern.
-                counts[j][(key / GROUP) as usize % MAX_ENTRIES] += u16::from(key % GROUP == takes.ports[j]);
-            }
+    /// How many messages each group has for the consumes of a local rule but the first, in one pass: a word for
+    /// each group, with so many bits for each consume.
+    fn counts(&self, takes: &Takes) -> [u64; MAX_ENTRIES] {
+        let mut counts = [0; MAX_ENTRIES];
+        for &key in &self.keys {
+            // Without a branch, since the ports follow no pattern.
+            let on = |j: usize| u64::from(key % GROUP == takes.ports[j]) << (BITS * (j - 1));
+            counts[(key / GROUP) as usize % MAX_ENTRIES] += on(1) + on(2) + on(3);
         }
         counts
     }
@@ -125,7 +127,7 @@ impl<'a> List<'a> {
         }
         let counts = self.counts(&takes);
         for (place, group) in self.firsts(&takes) {
-            let widths = takes.widths(|j| counts[j][group]);
+            let widths = takes.widths(|j| count_in(counts[group], j));
             if page.skips(widths[0]) {
                 continue;
             }
@@ -161,6 +163,11 @@ impl<'a> List<'a> {
             }
         }
     }
+}
+
+/// The count for a consume in a group's word.
+fn count_in(word: u64, j: usize) -> u32 {
+    (word >> (BITS * (j - 1))) as u32 % (1 << BITS)
 }
 
 fn key(table: &Table, ids: &[u32], owner: u32, item: u32) -> u32 {

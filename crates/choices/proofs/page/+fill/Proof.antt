@@ -11,7 +11,7 @@ use Rattle.lists.specs.Tuples.{from-end, from-pass, from-here}
 use Rattle.lists.specs.Pages.{Paging, paging-start, paging-pass, paging-skip, paging-more, paging-end, paging-full, paged-empty, paged-le, paged-length}
 use Rattle.choices.specs.Words.{choiceWords, five-words}
 use Rattle.choices.proofs.Branches.{branch, branchesFrom, branches-start, branches-next, level, free-unless}
-use Rattle.choices.proofs.Branches.{used-below, branch-width, branch-paged, leaf-past, leaf-one}
+use Rattle.choices.proofs.Branches.{used-below, branch-width, branch-paged, leaf-past, leaf-one, last-length, last-paged}
 use borrow.Author.Needs.{needs}
 use borrow.Fn.Kinds.{In}
 use borrow.Fn.PlainCycle.{Measures, is, falls, and}
@@ -134,20 +134,62 @@ pub +fill-spec : {M : Type 1} → statement M
     (λ c. search needs)
     (λ c. search needs)
     (λ c. search needs)
-    (λ c. let d = paged-le _ 5 (c .before .before .before .before .before .loop .inv .2 .paged) in search needs)
-    (λ c. let d = paged-le _ 5 (c .before .before .before .before .before .before .loop .inv .2 .paged) in search needs)
-    (λ c. let d = paged-le _ 5 (c .before .before .before .before .before .before .loop .inv .2 .paged) in search needs)
+    (λ c. let d = paged-le _ 5 (c .before .before .before .before .before .before .before .loop .inv .2 .paged) in search needs)
+    (λ c. let d = paged-le _ 5 (c .before .before .before .before .before .before .before .loop .inv .2 .paged) in search needs)
     (λ c κs.
-    let s = c .before .before .before .before .before .before .before .before .before .before in
+    let l = c .before .before .before .before .before .before .before .loop in
+    let p = c .before .before .before .before .before .before .before .before .before .before .before .pre .1 in
+    omega (arith, paged-le _ 5 (l .inv .2 .paged), paged-length _ 5 (l .inv .2 .paged), c .before .before .before .before .before .if4 .left, p .1 .0))
+    (λ c. omega (arith, paged-le _ 5 (c .before .before .before .before .before .before .before .before .before .before .loop .inv .2 .paged), c .before .before .before .before .before .before .before .before .before .before .before .before .before .before .pre .1 .1 .0))
+    (λ c. search needs)
+    (λ c κs. search needs)
+    (λ c. omega (arith, c .next-with4 .ensures .low, c .before .before .before .before .before .before .before .before .before .before .loop-test .taken))
+    (λ c.
+    let s = c .before .before .before .before .before .before .before .before .before .before .before .before .before .before .before in
     let a = s .args in
     let p = s .pre .1 in
-    let l = c .before .before .before .before .before .before .loop in
-    let low = c .before .before .before .before .before .loop-test .taken in
+    let l = c .before .before .before .before .before .before .before .before .before .before .before .loop in
+    let low = c .before .before .before .before .before .before .before .before .before .before .loop-test .taken in
     let four : length (a .t3) ≡ 4 = search needs in
     let six : length (a .picks) ≡ 4 = search needs in
-    let h : l .p < length (take (a .n) (a .keys .now)) = rw (length-take-le (a .n) (a .keys .now) (omega arith)) low in
-    let free = free-unless (a .keys .now) (a .n) (take (a .i) (a .picks)) (getD (a .t3) (a .i) 0) (l .p) low (l .inv .1 low) (c .before .before .before .is-picked .ensures) in
-    let e = free ∙ ap not (c .before .before .if5 .left) in
+    let enough4 : a .n ≤ length (a .keys .now) = omega (arith, p .0 .2, p .0 .3) in
+    let h : l .p < length (take (a .n) (a .keys .now)) = rw (length-take-le (a .n) (a .keys .now) enough4) low in
+    let free = free-unless (a .keys .now) (a .n) (take (a .i) (a .picks)) (getD (a .t3) (a .i) 0) (l .p) low (l .inv .1 low) (c .before .before .before .before .before .before .before .before .is-picked .ensures) in
+    let less : a .i < a .k = omega (arith, p .0 .0, c .before .before .before .before .before .before .before .before .before .before .before .before .before .if1 .left) in
+    let enough : a .k ≤ length (a .t3) = omega (arith, p .0 .1, four) in
+    let inside : a .i < length (a .picks) = omega (arith, less, p .0 .1, six) in
+    let e = free ∙ ap not (c .before .before .before .before .before .before .before .if5 .left) in
+    let last : a .i + 1 ≡ a .k = c .before .before .before .before .before .if7 .taken in
+    let w = branch-width (take (a .n) (a .keys .now)) (a .t3) (a .picks) (a .k) (a .i) enough less (p .1 .1 .1) (l .p) h e inside (p .1 .1 .0) in
+    let one = last-length (take (a .n) (a .keys .now)) (a .t3) (take (a .i) (a .picks)) (a .k) (a .i) (l .p) last in
+    let none : l .skip ≡ 0 = omega (arith, w, one, c .before .before .before .before .before .before .if6 .left) in
+    let room : 1 ≤ a .count - l .done = omega (arith, paged-le _ 5 (l .inv .2 .paged), c .before .before .before .before .before .before .before .before .before .if4 .left) in
+    let more = paging-more (choiceWords (a .head) (a .picks) (a .i)) 5 (five-words (a .head) (a .picks) (a .i) six) (l .inv .2) (branch (take (a .n) (a .keys .now)) (take (a .i) (a .picks)) (drop (a .i + 1) (take (a .k) (a .t3))) (l .p)) _ _ _ (from-here (branch (take (a .n) (a .keys .now)) (take (a .i) (a .picks)) (drop (a .i + 1) (take (a .k) (a .t3)))) (fits (take (a .n) (a .keys .now)) (take (a .i) (a .picks)) (getD (a .t3) (a .i) 0)) (length (take (a .n) (a .keys .now))) (l .p) h e)
+    (last-paged (take (a .n) (a .keys .now)) (a .t3) (take (a .i) (a .picks)) (a .k) (a .i) (l .p) last (a .head) (a .count - l .done) (a .at + 5 * l .done) (a .picks) (l .target) none room (c .before .before .before .put2 .ensures)) in
+    let still : l .skip - length (branch (take (a .n) (a .keys .now)) (take (a .i) (a .picks)) (drop (a .i + 1) (take (a .k) (a .t3))) (l .p)) ≡ l .skip = omega (arith, none, one) in
+    (c .next-with4 .ensures .high, c .next-with4 .ensures .here, paging-pass (choiceWords (a .head) (a .picks) (a .i)) 5 (five-words (a .head) (a .picks) (a .i) six) (rw still at more) (branches-next (a .keys .now) (a .n) (take (a .i) (a .picks)) (getD (a .t3) (a .i) 0) (drop (a .i + 1) (take (a .k) (a .t3))) enough4 (c .next-with4 .ensures))))
+    (λ c. search needs)
+    (λ c. search needs)
+    (λ c. search needs)
+    (λ c. search needs)
+    (λ c. let d = paged-le _ 5 (c .before .before .before .before .before .before .loop .inv .2 .paged) in search needs)
+    (λ c. let d = paged-le _ 5 (c .before .before .before .before .before .before .before .loop .inv .2 .paged) in search needs)
+    (λ c. let d = paged-le _ 5 (c .before .before .before .before .before .before .before .loop .inv .2 .paged) in search needs)
+    (λ c κs.
+    let s = c .before .before .before .before .before .before .before .before .before .before .before in
+    let a = s .args in
+    let p = s .pre .1 in
+    let l = c .before .before .before .before .before .before .before .loop in
+    let low = c .before .before .before .before .before .before .loop-test .taken in
+    let four : length (a .t3) ≡ 4 = search needs in
+    let six : length (a .picks) ≡ 4 = search needs in
+    let enough4 : a .n ≤ length (a .keys .now) = omega (arith, p .0 .2, p .0 .3) in
+    let h : l .p < length (take (a .n) (a .keys .now)) = rw (length-take-le (a .n) (a .keys .now) enough4) low in
+    let free = free-unless (a .keys .now) (a .n) (take (a .i) (a .picks)) (getD (a .t3) (a .i) 0) (l .p) low (l .inv .1 low) (c .before .before .before .before .is-picked .ensures) in
+    let less : a .i < a .k = omega (arith, p .0 .0, c .before .before .before .before .before .before .before .before .before .if1 .left) in
+    let enough : a .k ≤ length (a .t3) = omega (arith, p .0 .1, four) in
+    let inside : a .i < length (a .picks) = omega (arith, less, p .0 .1, six) in
+    let e = free ∙ ap not (c .before .before .before .if5 .left) in
     let z = paged-length _ 5 (l .inv .2 .paged) in
     let d = paged-le _ 5 (l .inv .2 .paged) in (
       omega arith,
@@ -155,35 +197,35 @@ pub +fill-spec : {M : Type 1} → statement M
         (omega arith, omega arith, omega arith, p .0 .3),
         (
           (omega (arith, p .1 .0), omega (arith, p .1 .0)),
-          (p .1 .1 .0, used-below (take (a .n) (a .keys .now)) (a .t3) (a .picks) (a .k) (a .i) (omega arith) (omega arith) (p .1 .1 .1) (l .p) h e (omega arith)),
+          (p .1 .1 .0, used-below (take (a .n) (a .keys .now)) (a .t3) (a .picks) (a .k) (a .i) enough less (p .1 .1 .1) (l .p) h e inside),
         ),
       ),
     ))
     (λ c.
-    let s = c .before .before .before .before .before .before .before .before .before .before .before .before .before in
-    omega (arith, paged-le _ 5 (c .before .before .fill .ensures), paged-le _ 5 (c .before .before .before .before .before .before .before .before .before .loop .inv .2 .paged), s .pre .1 .1 .0 .0))
+    omega (arith, paged-le _ 5 (c .before .before .fill .ensures), paged-le _ 5 (c .before .before .before .before .before .before .before .before .before .before .loop .inv .2 .paged), c .before .before .before .before .before .before .before .before .before .before .before .before .before .before .pre .1 .1 .0 .0))
     (λ c. search needs)
     (λ c κs. search needs)
-    (λ c. omega (arith, c .next-with4 .ensures .low, c .before .before .before .before .before .before .before .before .before .loop-test .taken))
+    (λ c. omega (arith, c .next-with5 .ensures .low, c .before .before .before .before .before .before .before .before .before .before .loop-test .taken))
     (λ c.
-    let s = c .before .before .before .before .before .before .before .before .before .before .before .before .before .before in
+    let s = c .before .before .before .before .before .before .before .before .before .before .before .before .before .before .before in
     let a = s .args in
     let p = s .pre .1 in
-    let l = c .before .before .before .before .before .before .before .before .before .before .loop in
-    let low = c .before .before .before .before .before .before .before .before .before .loop-test .taken in
+    let l = c .before .before .before .before .before .before .before .before .before .before .before .loop in
+    let low = c .before .before .before .before .before .before .before .before .before .before .loop-test .taken in
     let four : length (a .t3) ≡ 4 = search needs in
     let six : length (a .picks) ≡ 4 = search needs in
-    let h : l .p < length (take (a .n) (a .keys .now)) = rw (length-take-le (a .n) (a .keys .now) (omega arith)) low in
-    let free = free-unless (a .keys .now) (a .n) (take (a .i) (a .picks)) (getD (a .t3) (a .i) 0) (l .p) low (l .inv .1 low) (c .before .before .before .before .before .before .before .is-picked .ensures) in
-    let less : a .i < a .k = omega (arith, p .0 .0, c .before .before .before .before .before .before .before .before .before .before .before .before .if1 .left) in
+    let enough4 : a .n ≤ length (a .keys .now) = omega (arith, p .0 .2, p .0 .3) in
+    let h : l .p < length (take (a .n) (a .keys .now)) = rw (length-take-le (a .n) (a .keys .now) enough4) low in
+    let free = free-unless (a .keys .now) (a .n) (take (a .i) (a .picks)) (getD (a .t3) (a .i) 0) (l .p) low (l .inv .1 low) (c .before .before .before .before .before .before .before .before .is-picked .ensures) in
+    let less : a .i < a .k = omega (arith, p .0 .0, c .before .before .before .before .before .before .before .before .before .before .before .before .before .if1 .left) in
     let enough : a .k ≤ length (a .t3) = omega (arith, p .0 .1, four) in
     let inside : a .i < length (a .picks) = omega (arith, less, p .0 .1, six) in
-    let e = free ∙ ap not (c .before .before .before .before .before .before .if5 .left) in
+    let e = free ∙ ap not (c .before .before .before .before .before .before .before .if5 .left) in
     let w = branch-width (take (a .n) (a .keys .now)) (a .t3) (a .picks) (a .k) (a .i) enough less (p .1 .1 .1) (l .p) h e inside (p .1 .1 .0) in
     let more = paging-more (choiceWords (a .head) (a .picks) (a .i)) 5 (five-words (a .head) (a .picks) (a .i) six) (l .inv .2) (branch (take (a .n) (a .keys .now)) (take (a .i) (a .picks)) (drop (a .i + 1) (take (a .k) (a .t3))) (l .p)) _ _ _ (from-here (branch (take (a .n) (a .keys .now)) (take (a .i) (a .picks)) (drop (a .i + 1) (take (a .k) (a .t3)))) (isFree (take (a .n) (a .keys .now)) (take (a .i) (a .picks)) (getD (a .t3) (a .i) 0)) (length (take (a .n) (a .keys .now))) (l .p) h e)
     (branch-paged (take (a .n) (a .keys .now)) (a .t3) (a .picks) (a .k) (a .i) enough less (p .1 .1 .1) (l .p) h e inside (c .before .before .before .fill .ensures)) in
-    let none : l .skip - length (branch (take (a .n) (a .keys .now)) (take (a .i) (a .picks)) (drop (a .i + 1) (take (a .k) (a .t3))) (l .p)) ≡ 0 = omega (arith, w, c .before .before .before .before .before .if6 .left) in
-    (c .next-with4 .ensures .high, c .next-with4 .ensures .here, paging-pass (choiceWords (a .head) (a .picks) (a .i)) 5 (five-words (a .head) (a .picks) (a .i) six) (rw none at more) (branches-next (a .keys .now) (a .n) (take (a .i) (a .picks)) (getD (a .t3) (a .i) 0) (drop (a .i + 1) (take (a .k) (a .t3))) (omega arith) (c .next-with4 .ensures))))
+    let none : l .skip - length (branch (take (a .n) (a .keys .now)) (take (a .i) (a .picks)) (drop (a .i + 1) (take (a .k) (a .t3))) (l .p)) ≡ 0 = omega (arith, w, c .before .before .before .before .before .before .if6 .left) in
+    (c .next-with5 .ensures .high, c .next-with5 .ensures .here, paging-pass (choiceWords (a .head) (a .picks) (a .i)) 5 (five-words (a .head) (a .picks) (a .i) six) (rw none at more) (branches-next (a .keys .now) (a .n) (take (a .i) (a .picks)) (getD (a .t3) (a .i) 0) (drop (a .i + 1) (take (a .k) (a .t3))) enough4 (c .next-with5 .ensures))))
     (λ c. paged-length _ 5 (c .before .loop .inv .2 .paged))
     (λ c.
     let a = c .before .before .before .before .before .args in

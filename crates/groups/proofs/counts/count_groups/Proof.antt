@@ -1,56 +1,63 @@
 -- `count_groups` meets its contract: what is counted so far are the first i keys.
-use Prim.Native.Nat.{_-_, _≤_, _<_}
+use Prim.Native.Nat.{_-_, _%_, _≤_, _<_}
 use mathlib.Core.Path.{_≡_}
 use native.Mathlib.Omega.{arith}
 use lib.ListN.{length, getD, take}
 use lib.Seq.{length-take-le, getD-take}
-use Rattle.groups.specs.Groups.{KeysBelow}
+use Rattle.lists.specs.Padded.{getD-replicate-any}
+use Rattle.groups.specs.Groups.{KeysBelow, Weights}
+use Rattle.groups.proofs.Weighing.{weight-small}
 use Rattle.groups.proofs.Counting.{Grouping, grouping-start, grouping-done, grouping-next, count-fits}
 use borrow.Author.Needs.{needs}
 use Rattle.groups.proofs.counts.count_groups.Statement.{statement}
 use Rattle.groups.proofs.counts.count_groups.Tie as tie
 
 abbrev Inv : tie.InvT-loop
-Inv keys n b c d counts₀ i₀ counts i = KeysBelow n keys × (b < 512) × (c < 512) × (d < 512) × Grouping (take n keys) b c d i counts
+Inv keys n b c d counts₀ weights i₀ counts i =
+    KeysBelow n keys × (b < 512) × (c < 512) × (d < 512) × Weights b c d weights × Grouping (take n keys) b c d i counts
 
 abbrev μ : tie.MeasureT-loop
-μ keys n b c d counts₀ i₀ counts i = n - i
+μ keys n b c d counts₀ weights i₀ counts i = n - i
 
 -- the key read in this turn
-small : (c : tie.In-loop Inv μ) → getD (c .before .before .args .keys .now) (c .before .loop .i) 0 < 524288
+small : (c : tie.In-loop Inv μ) → getD (c .before .before .before .before .args .keys .now) (c .before .loop .i) 0 < 524288
 small c = c .before .loop .inv .0 .below (c .before .loop .i) (c .loop-test .taken)
 
-inside : (c : tie.In-loop Inv μ) → c .before .loop .i < length (take (c .before .before .args .n) (c .before .before .args .keys .now))
+inside : (c : tie.In-loop Inv μ) → c .before .loop .i < length (take (c .before .before .before .before .args .n) (c .before .before .before .before .args .keys .now))
 inside c =
     let k = c .before .loop .inv .0 in
-    rw (length-take-le (c .before .before .args .n) (c .before .before .args .keys .now) (omega (arith, k .few, k .size))) (c .loop-test .taken)
+    rw (length-take-le (c .before .before .before .before .args .n) (c .before .before .before .before .args .keys .now) (omega (arith, k .few, k .size))) (c .loop-test .taken)
 
-here : (c : tie.In-loop Inv μ) → getD (take (c .before .before .args .n) (c .before .before .args .keys .now)) (c .before .loop .i) 0
-    ≡ getD (c .before .before .args .keys .now) (c .before .loop .i) 0
-here c = getD-take (c .before .before .args .n) (c .before .before .args .keys .now) (c .before .loop .i) 0 (c .loop-test .taken)
+-- its port has a weight
+low : (c : tie.In-loop Inv μ) → getD (c .before .before .before .before .args .keys .now) (c .before .loop .i) 0 % 512 < 512
+low c = omega arith
 
-short : (c : tie.In-loop Inv μ) → length (take (c .before .before .args .n) (c .before .before .args .keys .now)) ≤ 1024
+here : (c : tie.In-loop Inv μ) → getD (take (c .before .before .before .before .args .n) (c .before .before .before .before .args .keys .now)) (c .before .loop .i) 0
+    ≡ getD (c .before .before .before .before .args .keys .now) (c .before .loop .i) 0
+here c = getD-take (c .before .before .before .before .args .n) (c .before .before .before .before .args .keys .now) (c .before .loop .i) 0 (c .loop-test .taken)
+
+short : (c : tie.In-loop Inv μ) → length (take (c .before .before .before .before .args .n) (c .before .before .before .before .args .keys .now)) ≤ 1024
 short c =
     let k = c .before .loop .inv .0 in
-    rw (length-take-le (c .before .before .args .n) (c .before .before .args .keys .now) (omega (arith, k .few, k .size))) (k .few)
+    rw (length-take-le (c .before .before .before .before .args .n) (c .before .before .before .before .args .keys .now) (omega (arith, k .few, k .size))) (k .few)
 
 add-counts : tie.Need-add-counts Inv μ
 add-counts c =
-    let turn = c .before .before .before in
-    let h = turn .before .loop .inv .4 in
-    omega (arith, count-fits h (inside turn) (short turn) _ (here turn) (small turn), c .before .ones .ensures .1)
+    let turn = c .before .before in
+    let (k, second, third, fourth, w, h) = turn .before .loop .inv in
+    omega (arith, count-fits h (inside turn) (short turn) _ (here turn) (small turn), weight-small _ _ _ w _ (low turn))
 
 loop-again : tie.Need-loop-again Inv μ
 loop-again c =
-    let turn = c .before .before .before in
-    let (k, second, third, fourth, h) = turn .before .loop .inv in
-    (k, second, third, fourth, grouping-next h (inside turn) (short turn) _ (here turn) (small turn) second third fourth (c .before .ones .ensures .0))
+    let turn = c .before .before in
+    let (k, second, third, fourth, w, h) = turn .before .loop .inv in
+    (k, second, third, fourth, w, grouping-next h (inside turn) (short turn) _ (here turn) (small turn) second third fourth (w .each _ (low turn)))
 
 returns : tie.Need-returns Inv μ
 returns c =
     let k = c .before .loop .inv .0 in
-    let a = c .before .before .args in
-    grouping-done (c .before .loop .inv .4) (rw (length-take-le (a .n) (a .keys .now) (omega (arith, k .few, k .size))) (c .loop-test .left))
+    let a = c .before .before .before .before .args in
+    grouping-done (c .before .loop .inv .5) (rw (length-take-le (a .n) (a .keys .now) (omega (arith, k .few, k .size))) (c .loop-test .left))
 
 few : (c : tie.In-loop Inv μ) → c .before .loop .i < 1024
 few c = omega (arith, c .loop-test .taken, c .before .loop .inv .0 .few)
@@ -61,16 +68,19 @@ count-groups-spec =
     (tie.spec
     Inv
     μ
-    (λ c. let p = c .pre in (p .0 .0, p .0 .1, p .0 .2, p .0 .3, grouping-start _ _ _ _ _ (p .1 .0) (p .1 .1)))
+    (λ c κs. let p = c .before .pre .0 in (p .1, p .2, p .3, search needs, λ t. getD-replicate-any 512 t 0))
+    (λ c. let p = c .before .before .pre in (p .0 .0, p .0 .1, p .0 .2, p .0 .3, c .weigh .ensures, grouping-start _ _ _ _ _ (p .1 .0) (p .1 .1)))
     (λ c. omega (arith, few c))
     (λ c. omega (arith, few c))
     (λ c. omega (arith, small (c .before)))
-    (λ c κs. search needs)
-    (λ c. omega (arith, small (c .before .before)))
-    (λ c. omega (arith, small (c .before .before), c .before .before .before .loop .inv .4 .counted .size))
+    (λ c. search needs)
+    (λ c. search needs)
+    (λ c. search needs)
+    (λ c. omega (arith, small (c .before)))
+    (λ c. omega (arith, small (c .before), c .before .before .loop .inv .5 .counted .size))
     add-counts
-    (λ c. omega (arith, small (c .before .before .before), c .before .before .before .before .loop .inv .4 .counted .size))
-    (λ c. omega (arith, few (c .before .before .before)))
-    (λ c. omega (arith, c .before .before .before .loop-test .taken))
+    (λ c. omega (arith, small (c .before .before), c .before .before .before .loop .inv .5 .counted .size))
+    (λ c. omega (arith, few (c .before .before)))
+    (λ c. omega (arith, c .before .before .loop-test .taken))
     loop-again
     returns)

@@ -1,0 +1,40 @@
+-- The table of weights, filled by three additions.
+use Prim.Native.Nat.{ℕ, _+_, _*_, _≤_, _<_}
+use mathlib.Core.Bool.{Bool, true, false}
+use mathlib.Core.Path.{_≡_, refl, sym, ap, _∙_}
+use mathlib.Core.List.{List}
+use native.Mathlib.Omega.{arith}
+use borrow.Author.Tests.{eqb-true, eqb-false}
+use lib.Dec.{eqb}
+use lib.ListN.{length, getD, set, length-set}
+use lib.Seq.{getD-set-same, getD-set-other}
+use Rattle.lists.specs.Lists.{oneIf}
+use Rattle.lists.specs.Choices.{by-bool}
+use Rattle.groups.specs.Groups.{packed, Weights}
+
+-- w more at one place
+pub added : (xs : List ℕ) (t w p : ℕ) → t < length xs → getD (set xs t (getD xs t 0 + w)) p 0 ≡ getD xs p 0 + w * oneIf (eqb p t)
+added xs t w p l = by-bool (eqb p t)
+    (λ q. let e = eqb-true p t q in rw (q, e, getD-set-same xs t (getD xs t 0 + w) 0 l) (omega arith))
+    (λ q. let n = eqb-false p t q in rw (q, getD-set-other xs t p (getD xs t 0 + w) 0 n) (omega arith))
+
+pub weighed : (b c d : ℕ) (xs : List ℕ) → b < 512 → c < 512 → d < 512 → length xs ≡ 512 → ((p : ℕ) → getD xs p 0 ≡ 0)
+    → (ys zs : List ℕ) → ys ≡ set xs b (getD xs b 0 + 1) → zs ≡ set ys c (getD ys c 0 + 1048576)
+    → Weights b c d (set zs d (getD zs d 0 + 1099511627776))
+weighed b c d xs kb kc kd size zero ys zs e f =
+    let ly : length ys ≡ 512 = rw e (length-set xs b _ ∙ size) in
+    let lz : length zs ≡ 512 = rw f (length-set ys c _ ∙ ly) in
+    record {
+      size = length-set zs d _ ∙ lz;
+      each = λ p l.
+          let one : getD ys p 0 ≡ getD xs p 0 + 1 * oneIf (eqb p b) = rw e (added xs b 1 p (omega arith)) in
+          let two : getD zs p 0 ≡ getD ys p 0 + 1048576 * oneIf (eqb p c) = rw f (added ys c 1048576 p (omega arith)) in
+          omega (arith, one, two, added zs d 1099511627776 p (omega arith), zero p);
+    }
+
+pub one-small : (b : Bool) → oneIf b ≤ 1
+one-small true = omega arith
+one-small false = omega arith
+
+pub weight-small : (b c d : ℕ) {xs : List ℕ} → Weights b c d xs → (p : ℕ) → p < 512 → getD xs p 0 ≤ 1099512676353
+weight-small b c d h p l = omega (arith, h .each p l, one-small (eqb p b), one-small (eqb p c), one-small (eqb p d))
