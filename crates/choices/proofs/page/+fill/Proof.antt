@@ -164,7 +164,7 @@ pub +fill-spec : {M : Type 1} → statement M
     let one = last-length (take (a .n) (a .keys .now)) (a .t3) (take (a .i) (a .picks)) (a .k) (a .i) (l .p) last in
     let none : l .skip ≡ 0 = omega (arith, w, one, c .before .before .before .before .before .before .if6 .left) in
     let room : 1 ≤ a .count - l .done = omega (arith, paged-le _ 5 (l .inv .2 .paged), c .before .before .before .before .before .before .before .before .before .if4 .left) in
-    let more = paging-more (choiceWords (a .head) (a .picks) (a .i)) 5 (five-words (a .head) (a .picks) (a .i) six) (l .inv .2) (branch (take (a .n) (a .keys .now)) (take (a .i) (a .picks)) (drop (a .i + 1) (take (a .k) (a .t3))) (l .p)) _ _ _ (from-here (branch (take (a .n) (a .keys .now)) (take (a .i) (a .picks)) (drop (a .i + 1) (take (a .k) (a .t3)))) (fits (take (a .n) (a .keys .now)) (take (a .i) (a .picks)) (getD (a .t3) (a .i) 0)) (length (take (a .n) (a .keys .now))) (l .p) h e)
+    let more = paging-more (choiceWords (a .head) (a .picks) (a .i)) 5 (five-words (a .head) (a .picks) (a .i) six) (l .inv .2) (branch (take (a .n) (a .keys .now)) (take (a .i) (a .picks)) (drop (a .i + 1) (take (a .k) (a .t3))) (l .p)) _ _ _ (from-here (branch (take (a .n) (a .keys .now)) (take (a .i) (a .picks)) (drop (a .i + 1) (take (a .k) (a .t3)))) (isFree (take (a .n) (a .keys .now)) (take (a .i) (a .picks)) (getD (a .t3) (a .i) 0)) (length (take (a .n) (a .keys .now))) (l .p) h e)
     (last-paged (take (a .n) (a .keys .now)) (a .t3) (take (a .i) (a .picks)) (a .k) (a .i) (l .p) last (a .head) (a .count - l .done) (a .at + 5 * l .done) (a .picks) (l .target) none room (c .before .before .before .put2 .ensures)) in
     let still : l .skip - length (branch (take (a .n) (a .keys .now)) (take (a .i) (a .picks)) (drop (a .i + 1) (take (a .k) (a .t3))) (l .p)) ≡ l .skip = omega (arith, none, one) in
     (c .next-with4 .ensures .high, c .next-with4 .ensures .here, paging-pass (choiceWords (a .head) (a .picks) (a .i)) 5 (five-words (a .head) (a .picks) (a .i) six) (rw still at more) (branches-next (a .keys .now) (a .n) (take (a .i) (a .picks)) (getD (a .t3) (a .i) 0) (drop (a .i + 1) (take (a .k) (a .t3))) enough4 (c .next-with4 .ensures))))
