@@ -47,8 +47,8 @@ module _ (ks : List ℕ) (i : ℕ) (low : i < length ks) (key : ℕ) (is : getD 
 
 module _ {ks : List ℕ} {b c d i : ℕ} {counts : List ℕ} (h : Grouping ks b c d i counts) (low : i < length ks) (few : length ks ≤ 1024)
     (key : ℕ) (is : getD ks i 0 ≡ key) (below : key < 524288) where
-  pub count-fits : getD counts (key / 512) 0 ≤ 1125900980585472
-  count-fits =
+  pub word-fits : getD counts (key / 512) 0 ≤ 1125900980585472
+  word-fits =
       let g : key / 512 < 1024 = omega arith in
       let f = h .counted .few in
       let at : (t : ℕ) → timesIn (key / 512 * 512 + t) (take i ks) ≤ 1024 = λ t. omega (arith, times-le (key / 512 * 512 + t) (take i ks)) in

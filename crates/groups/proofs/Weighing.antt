@@ -13,8 +13,8 @@ use Rattle.lists.specs.Choices.{by-bool}
 use Rattle.groups.specs.Groups.{packed, Weights}
 
 -- w more at one place
-pub added : (xs : List ℕ) (t w p : ℕ) → t < length xs → getD (set xs t (getD xs t 0 + w)) p 0 ≡ getD xs p 0 + w * oneIf (eqb p t)
-added xs t w p l = by-bool (eqb p t)
+pub weight-added : (xs : List ℕ) (t w p : ℕ) → t < length xs → getD (set xs t (getD xs t 0 + w)) p 0 ≡ getD xs p 0 + w * oneIf (eqb p t)
+weight-added xs t w p l = by-bool (eqb p t)
     (λ q. let e = eqb-true p t q in rw (q, e, getD-set-same xs t (getD xs t 0 + w) 0 l) (omega arith))
     (λ q. let n = eqb-false p t q in rw (q, getD-set-other xs t p (getD xs t 0 + w) 0 n) (omega arith))
 
@@ -27,9 +27,9 @@ weighed b c d xs kb kc kd size zero ys zs e f =
     record {
       size = length-set zs d _ ∙ lz;
       each = λ p l.
-          let one : getD ys p 0 ≡ getD xs p 0 + 1 * oneIf (eqb p b) = rw e (added xs b 1 p (omega arith)) in
-          let two : getD zs p 0 ≡ getD ys p 0 + 1048576 * oneIf (eqb p c) = rw f (added ys c 1048576 p (omega arith)) in
-          omega (arith, one, two, added zs d 1099511627776 p (omega arith), zero p);
+          let one : getD ys p 0 ≡ getD xs p 0 + 1 * oneIf (eqb p b) = rw e (weight-added xs b 1 p (omega arith)) in
+          let two : getD zs p 0 ≡ getD ys p 0 + 1048576 * oneIf (eqb p c) = rw f (weight-added ys c 1048576 p (omega arith)) in
+          omega (arith, one, two, weight-added zs d 1099511627776 p (omega arith), zero p);
     }
 
 pub one-small : (b : Bool) → oneIf b ≤ 1

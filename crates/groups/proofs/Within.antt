@@ -150,9 +150,6 @@ module _ (ks : List ℕ) (t : ℕ) (ts : List ℕ) (k : ℕ) (four : length ts �
     within : take k (shifted b takes) ≡ (t + b) ∷ shifted b rest
     within = sym (map-take (λ u. u + b) k takes) ∙ ap (shifted b) (front ts t)
 
-    pub first-within : take 1 (shifted b takes) ≡ (t + b) ∷ []
-    first-within = refl
-
     pub rest-within : drop 1 (take k (shifted b takes)) ≡ shifted b rest
     rest-within = ap (drop 1) within
 
@@ -175,8 +172,8 @@ module _ (ks : List ℕ) (t : ℕ) (ts : List ℕ) (k : ℕ) (four : length ts �
 abbrev pub restOf : List ℕ → ℕ → List ℕ
 restOf takes k = take (k - 1) (drop 1 takes)
 
-abbrev pub blank : List ℕ
-blank = 0 ∷ 0 ∷ 0 ∷ 0 ∷ []
+abbrev pub noPicks : List ℕ
+noPicks = 0 ∷ 0 ∷ 0 ∷ 0 ∷ []
 
 pub record InGroup (ks takes : List ℕ) (k p : ℕ) (ws : List ℕ) : Type 0 where
   pub widths : Widths (λ u. timesIn u ks) (take k (shifted (groupBase ks (getD takes 0 0) p) takes)) ws
@@ -185,7 +182,7 @@ pub record InGroup (ks takes : List ℕ) (k p : ℕ) (ws : List ℕ) : Type 0 wh
   pub paged : {head first count at m : ℕ} {before after : List ℕ}
       → Paged (choiceWords head (p ∷ 0 ∷ 0 ∷ 0 ∷ []) 1) 5
       (choicesFrom ks (p ∷ []) (drop 1 (take k (shifted (groupBase ks (getD takes 0 0) p) takes)))) first count at before after m
-      → Paged (choiceWords head blank 0) 5 (choicesIn ks (getD takes 0 0) (restOf takes k) p) first count at before after m
+      → Paged (choiceWords head noPicks 0) 5 (choicesIn ks (getD takes 0 0) (restOf takes k) p) first count at before after m
 
 module _ (ks : List ℕ) (k : ℕ) (some : 1 ≤ k) (most : k ≤ 4) where
   pub in-group : (takes : List ℕ) → length takes ≡ 4 → {counts : List ℕ} → CountedFor ks takes counts

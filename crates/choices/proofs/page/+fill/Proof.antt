@@ -62,12 +62,14 @@ pub +fill-spec : {M : Type 1} → statement M
     (λ c. rw (c .if2 .taken) (paged-empty _ 5 _ _ _ _))
     (λ c.
     let a = c .before .before .before .before .args in
-    leaf-past (take (a .n) (a .keys .now)) (a .t3) (take (a .i) (a .picks)) (a .k) (a .i) (c .before .before .if1 .taken) (a .head) (a .first) (a .at) (a .picks) (a .target .now) (a .count) (c .if3 .taken))
+    leaf-past (take (a .n) (a .keys .now)) (a .t3) (take (a .i) (a .picks)) (a .k) (a .i) (c .before .before .if1 .taken) (a .head) (a .first) (a .at)
+    (a .picks) (a .target .now) (a .count) (c .if3 .taken))
     (λ c κs. search needs)
     (λ c. search needs)
     (λ c.
     let a = c .before .before .before .before .before .before .before .before .args in
-    leaf-one (take (a .n) (a .keys .now)) (a .t3) (take (a .i) (a .picks)) (a .k) (a .i) (c .before .before .before .before .before .before .if1 .taken) (a .head) (a .first) (a .at) (a .picks) (a .target .now) (a .count)
+    leaf-one (take (a .n) (a .keys .now)) (a .t3) (take (a .i) (a .picks)) (a .k) (a .i) (c .before .before .before .before .before .before .if1 .taken)
+    (a .head) (a .first) (a .at) (a .picks) (a .target .now) (a .count)
     (omega (arith, c .before .before .before .before .if3 .left)) (c .before .before .before .before .before .if2 .left) (c .before .before .put .ensures))
     (λ c. search needs)
     (λ c. search needs)
@@ -82,13 +84,18 @@ pub +fill-spec : {M : Type 1} → statement M
       c .next-with .ensures .high,
       c .next-with .ensures .here,
       paging-pass (choiceWords (a .head) (a .picks) (a .i)) 5 (five-words (a .head) (a .picks) (a .i) six)
-          (paging-start (choiceWords (a .head) (a .picks) (a .i)) 5 (choicesFrom (take (a .n) (a .keys .now)) (take (a .i) (a .picks)) (drop (a .i) (take (a .k) (a .t3)))) (a .first) (a .count) (a .at) (a .target .now))
-          (branches-start (take (a .n) (a .keys .now)) (take (a .i) (a .picks)) (getD (a .t3) (a .i) 0) (drop (a .i + 1) (take (a .k) (a .t3))) _ (level (take (a .n) (a .keys .now)) (a .t3) (a .picks) (a .k) (a .i) (omega arith) (omega arith)) ∙ branches-next (a .keys .now) (a .n) (take (a .i) (a .picks)) (getD (a .t3) (a .i) 0) (drop (a .i + 1) (take (a .k) (a .t3))) (omega arith) (c .next-with .ensures)),
+          (paging-start (choiceWords (a .head) (a .picks) (a .i)) 5
+          (choicesFrom (take (a .n) (a .keys .now)) (take (a .i) (a .picks)) (drop (a .i) (take (a .k) (a .t3)))) (a .first) (a .count) (a .at)
+          (a .target .now))
+          (branches-start (take (a .n) (a .keys .now)) (take (a .i) (a .picks)) (getD (a .t3) (a .i) 0) (drop (a .i + 1) (take (a .k) (a .t3))) _
+          (level (take (a .n) (a .keys .now)) (a .t3) (a .picks) (a .k) (a .i) (omega arith) (omega arith)) ∙ branches-next (a .keys .now) (a .n)
+          (take (a .i) (a .picks)) (getD (a .t3) (a .i) 0) (drop (a .i + 1) (take (a .k) (a .t3))) (omega arith) (c .next-with .ensures)),
     ))
     (λ c. paged-length _ 5 (c .before .before .loop .inv .2 .paged))
     (λ c.
     let a = c .before .before .before .before .before .before .args in
-    paging-full (choiceWords (a .head) (a .picks) (a .i)) 5 (five-words (a .head) (a .picks) (a .i) (search needs)) (c .before .before .loop .inv .2) (c .if4 .taken))
+    paging-full (choiceWords (a .head) (a .picks) (a .i)) 5 (five-words (a .head) (a .picks) (a .i) (search needs)) (c .before .before .loop .inv .2)
+    (c .if4 .taken))
     (λ c. search needs)
     (λ c κs. search needs)
     (λ c. search needs)
@@ -103,11 +110,16 @@ pub +fill-spec : {M : Type 1} → statement M
     let four : length (a .t3) ≡ 4 = search needs in
     let six : length (a .picks) ≡ 4 = search needs in
     let h : l .p < length (take (a .n) (a .keys .now)) = rw (length-take-le (a .n) (a .keys .now) (omega arith)) low in
-    let free = free-unless (a .keys .now) (a .n) (take (a .i) (a .picks)) (getD (a .t3) (a .i) 0) (l .p) low (l .inv .1 low) (c .before .before .is-picked .ensures) in
+    let free = free-unless (a .keys .now) (a .n) (take (a .i) (a .picks)) (getD (a .t3) (a .i) 0) (l .p) low (l .inv .1 low)
+    (c .before .before .is-picked .ensures) in
     let taken = free ∙ ap not (c .before .if5 .taken) in (
       c .next-with2 .ensures .high,
       c .next-with2 .ensures .here,
-      paging-pass (choiceWords (a .head) (a .picks) (a .i)) 5 (five-words (a .head) (a .picks) (a .i) six) (l .inv .2) (from-pass (branch (take (a .n) (a .keys .now)) (take (a .i) (a .picks)) (drop (a .i + 1) (take (a .k) (a .t3)))) (isFree (take (a .n) (a .keys .now)) (take (a .i) (a .picks)) (getD (a .t3) (a .i) 0)) (length (take (a .n) (a .keys .now))) (l .p) h taken ∙ branches-next (a .keys .now) (a .n) (take (a .i) (a .picks)) (getD (a .t3) (a .i) 0) (drop (a .i + 1) (take (a .k) (a .t3))) (omega arith) (c .next-with2 .ensures)),
+      paging-pass (choiceWords (a .head) (a .picks) (a .i)) 5 (five-words (a .head) (a .picks) (a .i) six) (l .inv .2)
+          (from-pass (branch (take (a .n) (a .keys .now)) (take (a .i) (a .picks)) (drop (a .i + 1) (take (a .k) (a .t3))))
+          (isFree (take (a .n) (a .keys .now)) (take (a .i) (a .picks)) (getD (a .t3) (a .i) 0)) (length (take (a .n) (a .keys .now))) (l .p) h taken
+          ∙ branches-next (a .keys .now) (a .n) (take (a .i) (a .picks)) (getD (a .t3) (a .i) 0) (drop (a .i + 1) (take (a .k) (a .t3))) (omega arith)
+          (c .next-with2 .ensures)),
     ))
     (λ c. search needs)
     (λ c κs. search needs)
@@ -121,14 +133,21 @@ pub +fill-spec : {M : Type 1} → statement M
     let four : length (a .t3) ≡ 4 = search needs in
     let six : length (a .picks) ≡ 4 = search needs in
     let h : l .p < length (take (a .n) (a .keys .now)) = rw (length-take-le (a .n) (a .keys .now) (omega arith)) low in
-    let free = free-unless (a .keys .now) (a .n) (take (a .i) (a .picks)) (getD (a .t3) (a .i) 0) (l .p) low (l .inv .1 low) (c .before .before .before .is-picked .ensures) in
+    let free = free-unless (a .keys .now) (a .n) (take (a .i) (a .picks)) (getD (a .t3) (a .i) 0) (l .p) low (l .inv .1 low)
+    (c .before .before .before .is-picked .ensures) in
     let e = free ∙ ap not (c .before .before .if5 .left) in
-    let w = branch-width (take (a .n) (a .keys .now)) (a .t3) (a .picks) (a .k) (a .i) (omega arith) (omega arith) (p .1 .1 .1) (l .p) h e (omega arith) (p .1 .1 .0) in (
+    let w = branch-width (take (a .n) (a .keys .now)) (a .t3) (a .picks) (a .k) (a .i) (omega arith) (omega arith) (p .1 .1 .1) (l .p) h e (omega arith)
+    (p .1 .1 .0) in (
       c .next-with3 .ensures .high,
       c .next-with3 .ensures .here,
       paging-pass (choiceWords (a .head) (a .picks) (a .i)) 5 (five-words (a .head) (a .picks) (a .i) six)
-          (rw (← w) (paging-skip (choiceWords (a .head) (a .picks) (a .i)) 5 (five-words (a .head) (a .picks) (a .i) six) (l .inv .2) (branch (take (a .n) (a .keys .now)) (take (a .i) (a .picks)) (drop (a .i + 1) (take (a .k) (a .t3))) (l .p)) _ (from-here (branch (take (a .n) (a .keys .now)) (take (a .i) (a .picks)) (drop (a .i + 1) (take (a .k) (a .t3)))) (isFree (take (a .n) (a .keys .now)) (take (a .i) (a .picks)) (getD (a .t3) (a .i) 0)) (length (take (a .n) (a .keys .now))) (l .p) h e) (rw w (c .before .if6 .taken))))
-          (branches-next (a .keys .now) (a .n) (take (a .i) (a .picks)) (getD (a .t3) (a .i) 0) (drop (a .i + 1) (take (a .k) (a .t3))) (omega arith) (c .next-with3 .ensures)),
+          (rw (← w) (paging-skip (choiceWords (a .head) (a .picks) (a .i)) 5 (five-words (a .head) (a .picks) (a .i) six) (l .inv .2)
+          (branch (take (a .n) (a .keys .now)) (take (a .i) (a .picks)) (drop (a .i + 1) (take (a .k) (a .t3))) (l .p)) _
+          (from-here (branch (take (a .n) (a .keys .now)) (take (a .i) (a .picks)) (drop (a .i + 1) (take (a .k) (a .t3))))
+          (isFree (take (a .n) (a .keys .now)) (take (a .i) (a .picks)) (getD (a .t3) (a .i) 0)) (length (take (a .n) (a .keys .now))) (l .p) h e)
+          (rw w (c .before .if6 .taken))))
+          (branches-next (a .keys .now) (a .n) (take (a .i) (a .picks)) (getD (a .t3) (a .i) 0) (drop (a .i + 1) (take (a .k) (a .t3))) (omega arith)
+          (c .next-with3 .ensures)),
     ))
     (λ c. search needs)
     (λ c. search needs)
@@ -140,7 +159,12 @@ pub +fill-spec : {M : Type 1} → statement M
     let l = c .before .before .before .before .before .before .before .loop in
     let p = c .before .before .before .before .before .before .before .before .before .before .before .pre .1 in
     omega (arith, paged-le _ 5 (l .inv .2 .paged), paged-length _ 5 (l .inv .2 .paged), c .before .before .before .before .before .if4 .left, p .1 .0))
-    (λ c. omega (arith, paged-le _ 5 (c .before .before .before .before .before .before .before .before .before .before .loop .inv .2 .paged), c .before .before .before .before .before .before .before .before .before .before .before .before .before .before .pre .1 .1 .0))
+    (λ c. omega (
+      arith,
+      paged-le _ 5 (c .before .before .before .before .before .before .before .before .before .before .loop .inv .2 .paged),
+      c .before
+          .before .before .before .before .before .before .before .before .before .before .before .before .before .pre .1 .1 .0,
+    ))
     (λ c. search needs)
     (λ c κs. search needs)
     (λ c. omega (arith, c .next-with4 .ensures .low, c .before .before .before .before .before .before .before .before .before .before .loop-test .taken))
@@ -154,8 +178,14 @@ pub +fill-spec : {M : Type 1} → statement M
     let six : length (a .picks) ≡ 4 = search needs in
     let enough4 : a .n ≤ length (a .keys .now) = omega (arith, p .0 .2, p .0 .3) in
     let h : l .p < length (take (a .n) (a .keys .now)) = rw (length-take-le (a .n) (a .keys .now) enough4) low in
-    let free = free-unless (a .keys .now) (a .n) (take (a .i) (a .picks)) (getD (a .t3) (a .i) 0) (l .p) low (l .inv .1 low) (c .before .before .before .before .before .before .before .before .is-picked .ensures) in
-    let less : a .i < a .k = omega (arith, p .0 .0, c .before .before .before .before .before .before .before .before .before .before .before .before .before .if1 .left) in
+    let free = free-unless (a .keys .now) (a .n) (take (a .i) (a .picks)) (getD (a .t3) (a .i) 0) (l .p) low (l .inv .1 low)
+    (c .before .before .before .before .before .before .before .before .is-picked .ensures) in
+    let less : a .i < a .k = omega (
+      arith,
+      p .0 .0,
+      c .before .before .before .before .before .before .before .before .before .before .before .before
+          .before .if1 .left,
+    ) in
     let enough : a .k ≤ length (a .t3) = omega (arith, p .0 .1, four) in
     let inside : a .i < length (a .picks) = omega (arith, less, p .0 .1, six) in
     let e = free ∙ ap not (c .before .before .before .before .before .before .before .if5 .left) in
@@ -163,11 +193,27 @@ pub +fill-spec : {M : Type 1} → statement M
     let w = branch-width (take (a .n) (a .keys .now)) (a .t3) (a .picks) (a .k) (a .i) enough less (p .1 .1 .1) (l .p) h e inside (p .1 .1 .0) in
     let one = last-length (take (a .n) (a .keys .now)) (a .t3) (take (a .i) (a .picks)) (a .k) (a .i) (l .p) last in
     let none : l .skip ≡ 0 = omega (arith, w, one, c .before .before .before .before .before .before .if6 .left) in
-    let room : 1 ≤ a .count - l .done = omega (arith, paged-le _ 5 (l .inv .2 .paged), c .before .before .before .before .before .before .before .before .before .if4 .left) in
-    let more = paging-more (choiceWords (a .head) (a .picks) (a .i)) 5 (five-words (a .head) (a .picks) (a .i) six) (l .inv .2) (branch (take (a .n) (a .keys .now)) (take (a .i) (a .picks)) (drop (a .i + 1) (take (a .k) (a .t3))) (l .p)) _ _ _ (from-here (branch (take (a .n) (a .keys .now)) (take (a .i) (a .picks)) (drop (a .i + 1) (take (a .k) (a .t3)))) (isFree (take (a .n) (a .keys .now)) (take (a .i) (a .picks)) (getD (a .t3) (a .i) 0)) (length (take (a .n) (a .keys .now))) (l .p) h e)
-    (last-paged (take (a .n) (a .keys .now)) (a .t3) (take (a .i) (a .picks)) (a .k) (a .i) (l .p) last (a .head) (a .count - l .done) (a .at + 5 * l .done) (a .picks) (l .target) none room (c .before .before .before .put2 .ensures)) in
-    let still : l .skip - length (branch (take (a .n) (a .keys .now)) (take (a .i) (a .picks)) (drop (a .i + 1) (take (a .k) (a .t3))) (l .p)) ≡ l .skip = omega (arith, none, one) in
-    (c .next-with4 .ensures .high, c .next-with4 .ensures .here, paging-pass (choiceWords (a .head) (a .picks) (a .i)) 5 (five-words (a .head) (a .picks) (a .i) six) (rw still at more) (branches-next (a .keys .now) (a .n) (take (a .i) (a .picks)) (getD (a .t3) (a .i) 0) (drop (a .i + 1) (take (a .k) (a .t3))) enough4 (c .next-with4 .ensures))))
+    let room : 1 ≤ a .count - l .done = omega (
+      arith,
+      paged-le _ 5 (l .inv .2 .paged),
+      c .before .before .before .before .before .before .before .before
+          .before .if4 .left,
+    ) in
+    let more = paging-more (choiceWords (a .head) (a .picks) (a .i)) 5 (five-words (a .head) (a .picks) (a .i) six) (l .inv .2)
+    (branch (take (a .n) (a .keys .now)) (take (a .i) (a .picks)) (drop (a .i + 1) (take (a .k) (a .t3))) (l .p)) _ _ _
+    (from-here (branch (take (a .n) (a .keys .now)) (take (a .i) (a .picks)) (drop (a .i + 1) (take (a .k) (a .t3))))
+    (isFree (take (a .n) (a .keys .now)) (take (a .i) (a .picks)) (getD (a .t3) (a .i) 0)) (length (take (a .n) (a .keys .now))) (l .p) h e)
+    (last-paged (take (a .n) (a .keys .now)) (a .t3) (take (a .i) (a .picks)) (a .k) (a .i) (l .p) last (a .head) (a .count - l .done)
+    (a .at + 5 * l .done) (a .picks) (l .target) none room (c .before .before .before .put2 .ensures)) in
+    let still : l .skip - length (branch (take (a .n) (a .keys .now)) (take (a .i) (a .picks)) (drop (a .i + 1) (take (a .k) (a .t3)))
+    (l .p)) ≡ l .skip = omega (arith, none, one) in (
+      c .next-with4 .ensures .high,
+      c .next-with4 .ensures .here,
+      paging-pass (choiceWords (a .head) (a .picks) (a .i)) 5
+          (five-words (a .head) (a .picks) (a .i) six) (rw still at more)
+          (branches-next (a .keys .now) (a .n) (take (a .i) (a .picks)) (getD (a .t3) (a .i) 0) (drop (a .i + 1) (take (a .k) (a .t3))) enough4
+          (c .next-with4 .ensures)),
+    ))
     (λ c. search needs)
     (λ c. search needs)
     (λ c. search needs)
@@ -185,7 +231,8 @@ pub +fill-spec : {M : Type 1} → statement M
     let six : length (a .picks) ≡ 4 = search needs in
     let enough4 : a .n ≤ length (a .keys .now) = omega (arith, p .0 .2, p .0 .3) in
     let h : l .p < length (take (a .n) (a .keys .now)) = rw (length-take-le (a .n) (a .keys .now) enough4) low in
-    let free = free-unless (a .keys .now) (a .n) (take (a .i) (a .picks)) (getD (a .t3) (a .i) 0) (l .p) low (l .inv .1 low) (c .before .before .before .before .is-picked .ensures) in
+    let free = free-unless (a .keys .now) (a .n) (take (a .i) (a .picks)) (getD (a .t3) (a .i) 0) (l .p) low (l .inv .1 low)
+    (c .before .before .before .before .is-picked .ensures) in
     let less : a .i < a .k = omega (arith, p .0 .0, c .before .before .before .before .before .before .before .before .before .if1 .left) in
     let enough : a .k ≤ length (a .t3) = omega (arith, p .0 .1, four) in
     let inside : a .i < length (a .picks) = omega (arith, less, p .0 .1, six) in
@@ -202,7 +249,14 @@ pub +fill-spec : {M : Type 1} → statement M
       ),
     ))
     (λ c.
-    omega (arith, paged-le _ 5 (c .before .before .fill .ensures), paged-le _ 5 (c .before .before .before .before .before .before .before .before .before .before .loop .inv .2 .paged), c .before .before .before .before .before .before .before .before .before .before .before .before .before .before .pre .1 .1 .0 .0))
+    omega (
+      arith,
+      paged-le _ 5 (c .before .before .fill .ensures),
+      paged-le _ 5
+          (c .before .before .before .before .before .before .before .before .before .before .loop .inv .2 .paged),
+      c .before .before .before .before .before
+          .before .before .before .before .before .before .before .before .before .pre .1 .1 .0 .0,
+    ))
     (λ c. search needs)
     (λ c κs. search needs)
     (λ c. omega (arith, c .next-with5 .ensures .low, c .before .before .before .before .before .before .before .before .before .before .loop-test .taken))
@@ -216,18 +270,38 @@ pub +fill-spec : {M : Type 1} → statement M
     let six : length (a .picks) ≡ 4 = search needs in
     let enough4 : a .n ≤ length (a .keys .now) = omega (arith, p .0 .2, p .0 .3) in
     let h : l .p < length (take (a .n) (a .keys .now)) = rw (length-take-le (a .n) (a .keys .now) enough4) low in
-    let free = free-unless (a .keys .now) (a .n) (take (a .i) (a .picks)) (getD (a .t3) (a .i) 0) (l .p) low (l .inv .1 low) (c .before .before .before .before .before .before .before .before .is-picked .ensures) in
-    let less : a .i < a .k = omega (arith, p .0 .0, c .before .before .before .before .before .before .before .before .before .before .before .before .before .if1 .left) in
+    let free = free-unless (a .keys .now) (a .n) (take (a .i) (a .picks)) (getD (a .t3) (a .i) 0) (l .p) low (l .inv .1 low)
+    (c .before .before .before .before .before .before .before .before .is-picked .ensures) in
+    let less : a .i < a .k = omega (
+      arith,
+      p .0 .0,
+      c .before .before .before .before .before .before .before .before .before .before .before .before
+          .before .if1 .left,
+    ) in
     let enough : a .k ≤ length (a .t3) = omega (arith, p .0 .1, four) in
     let inside : a .i < length (a .picks) = omega (arith, less, p .0 .1, six) in
     let e = free ∙ ap not (c .before .before .before .before .before .before .before .if5 .left) in
     let w = branch-width (take (a .n) (a .keys .now)) (a .t3) (a .picks) (a .k) (a .i) enough less (p .1 .1 .1) (l .p) h e inside (p .1 .1 .0) in
-    let more = paging-more (choiceWords (a .head) (a .picks) (a .i)) 5 (five-words (a .head) (a .picks) (a .i) six) (l .inv .2) (branch (take (a .n) (a .keys .now)) (take (a .i) (a .picks)) (drop (a .i + 1) (take (a .k) (a .t3))) (l .p)) _ _ _ (from-here (branch (take (a .n) (a .keys .now)) (take (a .i) (a .picks)) (drop (a .i + 1) (take (a .k) (a .t3)))) (isFree (take (a .n) (a .keys .now)) (take (a .i) (a .picks)) (getD (a .t3) (a .i) 0)) (length (take (a .n) (a .keys .now))) (l .p) h e)
-    (branch-paged (take (a .n) (a .keys .now)) (a .t3) (a .picks) (a .k) (a .i) enough less (p .1 .1 .1) (l .p) h e inside (c .before .before .before .fill .ensures)) in
-    let none : l .skip - length (branch (take (a .n) (a .keys .now)) (take (a .i) (a .picks)) (drop (a .i + 1) (take (a .k) (a .t3))) (l .p)) ≡ 0 = omega (arith, w, c .before .before .before .before .before .before .if6 .left) in
-    (c .next-with5 .ensures .high, c .next-with5 .ensures .here, paging-pass (choiceWords (a .head) (a .picks) (a .i)) 5 (five-words (a .head) (a .picks) (a .i) six) (rw none at more) (branches-next (a .keys .now) (a .n) (take (a .i) (a .picks)) (getD (a .t3) (a .i) 0) (drop (a .i + 1) (take (a .k) (a .t3))) enough4 (c .next-with5 .ensures))))
+    let more = paging-more (choiceWords (a .head) (a .picks) (a .i)) 5 (five-words (a .head) (a .picks) (a .i) six) (l .inv .2)
+    (branch (take (a .n) (a .keys .now)) (take (a .i) (a .picks)) (drop (a .i + 1) (take (a .k) (a .t3))) (l .p)) _ _ _
+    (from-here (branch (take (a .n) (a .keys .now)) (take (a .i) (a .picks)) (drop (a .i + 1) (take (a .k) (a .t3))))
+    (isFree (take (a .n) (a .keys .now)) (take (a .i) (a .picks)) (getD (a .t3) (a .i) 0)) (length (take (a .n) (a .keys .now))) (l .p) h e)
+    (branch-paged (take (a .n) (a .keys .now)) (a .t3) (a .picks) (a .k) (a .i) enough less (p .1 .1 .1) (l .p) h e inside
+    (c .before .before .before .fill .ensures)) in
+    let none : l .skip - length (branch (take (a .n) (a .keys .now)) (take (a .i) (a .picks)) (drop (a .i + 1) (take (a .k) (a .t3))) (l .p)) ≡ 0 = omega
+    (arith, w, c .before .before .before .before .before .before .if6 .left) in (
+      c .next-with5 .ensures .high,
+      c .next-with5 .ensures .here,
+      paging-pass (choiceWords (a .head) (a .picks) (a .i)) 5
+          (five-words (a .head) (a .picks) (a .i) six) (rw none at more)
+          (branches-next (a .keys .now) (a .n) (take (a .i) (a .picks)) (getD (a .t3) (a .i) 0) (drop (a .i + 1) (take (a .k) (a .t3))) enough4
+          (c .next-with5 .ensures)),
+    ))
     (λ c. paged-length _ 5 (c .before .loop .inv .2 .paged))
     (λ c.
     let a = c .before .before .before .before .before .args in
     let l = c .before .loop in
-    paging-end (choiceWords (a .head) (a .picks) (a .i)) 5 (five-words (a .head) (a .picks) (a .i) (search needs)) (l .inv .2) (from-end (branch (take (a .n) (a .keys .now)) (take (a .i) (a .picks)) (drop (a .i + 1) (take (a .k) (a .t3)))) (isFree (take (a .n) (a .keys .now)) (take (a .i) (a .picks)) (getD (a .t3) (a .i) 0)) (length (take (a .n) (a .keys .now))) (l .p) (rw (length-take-le (a .n) (a .keys .now) (omega arith)) (c .loop-test .left))))
+    paging-end (choiceWords (a .head) (a .picks) (a .i)) 5 (five-words (a .head) (a .picks) (a .i) (search needs)) (l .inv .2)
+    (from-end (branch (take (a .n) (a .keys .now)) (take (a .i) (a .picks)) (drop (a .i + 1) (take (a .k) (a .t3))))
+    (isFree (take (a .n) (a .keys .now)) (take (a .i) (a .picks)) (getD (a .t3) (a .i) 0)) (length (take (a .n) (a .keys .now))) (l .p)
+    (rw (length-take-le (a .n) (a .keys .now) (omega arith)) (c .loop-test .left))))

@@ -7,7 +7,7 @@ use lib.Seq.{length-take-le, getD-take}
 use Rattle.lists.specs.Padded.{getD-replicate-any}
 use Rattle.groups.specs.Groups.{KeysBelow, Weights}
 use Rattle.groups.proofs.Weighing.{weight-small}
-use Rattle.groups.proofs.Counting.{Grouping, grouping-start, grouping-done, grouping-next, count-fits}
+use Rattle.groups.proofs.Counting.{Grouping, grouping-start, grouping-done, grouping-next, word-fits}
 use borrow.Author.Needs.{needs}
 use Rattle.groups.proofs.counts.count_groups.Statement.{statement}
 use Rattle.groups.proofs.counts.count_groups.Tie as tie
@@ -23,29 +23,34 @@ abbrev μ : tie.MeasureT-loop
 small : (c : tie.In-loop Inv μ) → getD (c .before .before .before .before .args .keys .now) (c .before .loop .i) 0 < 524288
 small c = c .before .loop .inv .0 .below (c .before .loop .i) (c .loop-test .taken)
 
-inside : (c : tie.In-loop Inv μ) → c .before .loop .i < length (take (c .before .before .before .before .args .n) (c .before .before .before .before .args .keys .now))
+inside : (c : tie.In-loop Inv μ) → c .before .loop .i < length
+    (take (c .before .before .before .before .args .n) (c .before .before .before .before .args .keys .now))
 inside c =
     let k = c .before .loop .inv .0 in
-    rw (length-take-le (c .before .before .before .before .args .n) (c .before .before .before .before .args .keys .now) (omega (arith, k .few, k .size))) (c .loop-test .taken)
+    rw (length-take-le (c .before .before .before .before .args .n) (c .before .before .before .before .args .keys .now) (omega (arith, k .few, k .size)))
+    (c .loop-test .taken)
 
 -- its port has a weight
 low : (c : tie.In-loop Inv μ) → getD (c .before .before .before .before .args .keys .now) (c .before .loop .i) 0 % 512 < 512
 low c = omega arith
 
-here : (c : tie.In-loop Inv μ) → getD (take (c .before .before .before .before .args .n) (c .before .before .before .before .args .keys .now)) (c .before .loop .i) 0
+here : (c : tie.In-loop Inv μ) → getD (take (c .before .before .before .before .args .n) (c .before .before .before .before .args .keys .now))
+    (c .before .loop .i) 0
     ≡ getD (c .before .before .before .before .args .keys .now) (c .before .loop .i) 0
-here c = getD-take (c .before .before .before .before .args .n) (c .before .before .before .before .args .keys .now) (c .before .loop .i) 0 (c .loop-test .taken)
+here c = getD-take (c .before .before .before .before .args .n) (c .before .before .before .before .args .keys .now) (c .before .loop .i) 0
+    (c .loop-test .taken)
 
 short : (c : tie.In-loop Inv μ) → length (take (c .before .before .before .before .args .n) (c .before .before .before .before .args .keys .now)) ≤ 1024
 short c =
     let k = c .before .loop .inv .0 in
-    rw (length-take-le (c .before .before .before .before .args .n) (c .before .before .before .before .args .keys .now) (omega (arith, k .few, k .size))) (k .few)
+    rw (length-take-le (c .before .before .before .before .args .n) (c .before .before .before .before .args .keys .now) (omega (arith, k .few, k .size)))
+    (k .few)
 
 add-counts : tie.Need-add-counts Inv μ
 add-counts c =
     let turn = c .before .before in
     let (k, second, third, fourth, w, h) = turn .before .loop .inv in
-    omega (arith, count-fits h (inside turn) (short turn) _ (here turn) (small turn), weight-small _ _ _ w _ (low turn))
+    omega (arith, word-fits h (inside turn) (short turn) _ (here turn) (small turn), weight-small _ _ _ w _ (low turn))
 
 loop-again : tie.Need-loop-again Inv μ
 loop-again c =

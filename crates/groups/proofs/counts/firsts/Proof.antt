@@ -5,13 +5,13 @@ use native.Mathlib.Omega.{arith}
 use lib.ListN.{length, getD, take}
 use lib.Seq.{length-take-le, getD-take}
 use Rattle.groups.specs.Groups.{KeysBelow}
-use Rattle.groups.proofs.Gathering.{Gathering, gathering-start, gathering-next, gathering-done}
+use Rattle.groups.proofs.Selecting.{Selecting, selecting-start, selecting-next, selecting-done}
 use borrow.Author.Needs.{needs}
 use Rattle.groups.proofs.counts.firsts.Statement.{statement}
 use Rattle.groups.proofs.counts.firsts.Tie as tie
 
 abbrev Inv : tie.InvT-loop
-Inv keys n t places₀ len₀ i₀ places len i = KeysBelow n keys × Gathering (take n keys) t places len i
+Inv keys n t places₀ len₀ i₀ places len i = KeysBelow n keys × Selecting (take n keys) t places len i
 
 abbrev μ : tie.MeasureT-loop
 μ keys n t places₀ len₀ i₀ places len i = n - i
@@ -30,14 +30,14 @@ loop-again : tie.Need-loop-again Inv μ
 loop-again c =
     let turn = c .before .before in
     let l = turn .before .loop in
-    (l .inv .0, gathering-next (l .inv .1) (rw (long turn) (turn .loop-test .taken)) (few turn) (here turn) (c .place-if .ensures .0))
+    (l .inv .0, selecting-next (l .inv .1) (rw (long turn) (turn .loop-test .taken)) (few turn) (here turn) (c .place-if .ensures .0))
 
 returns : tie.Need-returns Inv μ
 returns c =
     let l = c .before .loop .inv in
     let a = c .before .before .args in
     let long = length-take-le (a .n) (a .keys .now) (omega (arith, l .0 .few, l .0 .size)) in
-    gathering-done (l .1) (rw long (c .loop-test .left)) (rw long (l .0 .few))
+    selecting-done (l .1) (rw long (c .loop-test .left)) (rw long (l .0 .few))
 
 pub firsts-spec : {M : Type 1} → statement M
 firsts-spec =
@@ -45,7 +45,7 @@ firsts-spec =
     (tie.spec
     Inv
     μ
-    (λ c. (c .pre .0, gathering-start (c .pre .1)))
+    (λ c. (c .pre .0, selecting-start (c .pre .1)))
     (λ c. omega (arith, few c))
     (λ c. omega (arith, few c, c .before .loop .inv .0 .size))
     (λ c. omega (arith, few (c .before)))

@@ -14,14 +14,14 @@ use Rattle.lists.specs.Pages.{Paging, paging-start, paging-pass, paging-skip, p
 use Rattle.choices.specs.Words.{choiceWords, five-words}
 use Rattle.choices.specs.Widths.{widthsOf}
 use Rattle.groups.specs.Groups.{leftIn}
-use Rattle.groups.proofs.Within.{groupsFrom, restOf, blank, groups-start-of, grouped-sized, InGroup, in-group}
+use Rattle.groups.proofs.Within.{groupsFrom, restOf, noPicks, groups-start-of, grouped-sized, InGroup, in-group}
 use borrow.Author.Needs.{needs}
 use Rattle.groups.proofs.pages.group_page.Statement.{statement}
 use Rattle.groups.proofs.pages.group_page.Tie as tie
 
 abbrev Inv : tie.InvT-loop
 Inv keys n k counts head first count target₀ at takes t skip₀ done₀ p₀ target skip done p =
-    (p ≤ n) × Paging (choiceWords head blank 0) 5 (choicesByGroup (take n keys) (take k takes))
+    (p ≤ n) × Paging (choiceWords head noPicks 0) 5 (choicesByGroup (take n keys) (take k takes))
     (groupsFrom (take n keys) (getD takes 0 0) (restOf takes k) p) first count skip done at target₀ target
 
 abbrev μ : tie.MeasureT-loop
@@ -51,15 +51,16 @@ loop-holds c =
     let p = c .before .pre .0 in
     let four : length (a .t3) ≡ 4 = search needs in (
       omega arith,
-      paging-pass (choiceWords (a .head) blank 0) 5 (five-words (a .head) blank 0 refl)
-          (paging-start (choiceWords (a .head) blank 0) 5 (choicesByGroup (take (a .n) (a .keys .now)) (take (a .k) (a .t3))) (a .first) (a .count) (a .at) (a .target .now))
+      paging-pass (choiceWords (a .head) noPicks 0) 5 (five-words (a .head) noPicks 0 refl)
+          (paging-start (choiceWords (a .head) noPicks 0) 5 (choicesByGroup (take (a .n) (a .keys .now)) (take (a .k) (a .t3))) (a .first) (a .count)
+          (a .at) (a .target .now))
           (groups-start-of (take (a .n) (a .keys .now)) (a .k) (p .1) (p .2) (a .t3) four),
     )
 
 returns : tie.Need-returns Inv μ
 returns c =
     let a = c .before .before .before .before .args in
-    paging-full (choiceWords (a .head) blank 0) 5 (five-words (a .head) blank 0 refl) (c .before .before .loop .inv .1) (c .if1 .taken)
+    paging-full (choiceWords (a .head) noPicks 0) 5 (five-words (a .head) noPicks 0 refl) (c .before .before .loop .inv .1) (c .if1 .taken)
 
 loop-again : tie.Need-loop-again Inv μ
 loop-again c =
@@ -69,8 +70,9 @@ loop-again c =
     let ks = take (a .n) (a .keys .now) in
     let off : eqb (getD ks (l .p) 0 % 512) (getD (a .t3) 0 0) ≡ false = rw (here turn) (ne-eqb _ _ (c .if2 .taken)) in (
       omega (arith, turn .loop-test .taken),
-      paging-pass (choiceWords (a .head) blank 0) 5 (five-words (a .head) blank 0 refl) (l .inv .1)
-          (from-pass (choicesIn ks (getD (a .t3) 0 0) (restOf (a .t3) (a .k))) (λ p. eqb (getD ks p 0 % 512) (getD (a .t3) 0 0)) (length ks) (l .p) (inside turn) off),
+      paging-pass (choiceWords (a .head) noPicks 0) 5 (five-words (a .head) noPicks 0 refl) (l .inv .1)
+          (from-pass (choicesIn ks (getD (a .t3) 0 0) (restOf (a .t3) (a .k))) (λ p. eqb (getD ks p 0 % 512) (getD (a .t3) 0 0)) (length ks) (l .p)
+          (inside turn) off),
     )
 
 -- where the key is on the first port, the choices are within its group
@@ -90,7 +92,8 @@ grouped c =
     let p = s .pre .0 in
     let four : length (a .t3) ≡ 4 = search needs in
     let first : getD (take (a .n) (a .keys .now)) (turn .before .loop .p) 0 % 512 ≡ getD (a .t3) 0 0 = rw (here turn) (omega (arith, c .if2 .left)) in
-    rw (here turn) at (in-group (take (a .n) (a .keys .now)) (a .k) (p .1) (p .2) (a .t3) four (p .3) (turn .before .loop .p) (inside turn) (rw (here turn) (small turn)) first)
+    rw (here turn) at (in-group (take (a .n) (a .keys .now)) (a .k) (p .1) (p .2) (a .t3) four (p .3) (turn .before .loop .p) (inside turn)
+    (rw (here turn) (small turn)) first)
 
 -- .. and come next
 next : (c : tie.Else2 Inv μ) → groupsFrom
@@ -112,8 +115,10 @@ next c =
     let turn = c .before .before .before in
     let a = turn .before .before .before .args in
     let ks = take (a .n) (a .keys .now) in
-    let q : eqb (getD ks (turn .before .loop .p) 0 % 512) (getD (a .t3) 0 0) ≡ true = rw (here turn) (eq-eqb (getD (a .keys .now) (turn .before .loop .p) 0 % 512) (getD (a .t3) 0 0) (omega (arith, c .if2 .left))) in
-    from-here (choicesIn ks (getD (a .t3) 0 0) (restOf (a .t3) (a .k))) (λ p. eqb (getD ks p 0 % 512) (getD (a .t3) 0 0)) (length ks) (turn .before .loop .p) (inside turn) q
+    let q : eqb (getD ks (turn .before .loop .p) 0 % 512) (getD (a .t3) 0 0) ≡ true = rw (here turn)
+    (eq-eqb (getD (a .keys .now) (turn .before .loop .p) 0 % 512) (getD (a .t3) 0 0) (omega (arith, c .if2 .left))) in
+    from-here (choicesIn ks (getD (a .t3) 0 0) (restOf (a .t3) (a .k))) (λ p. eqb (getD ks p 0 % 512) (getD (a .t3) 0 0)) (length ks)
+    (turn .before .loop .p) (inside turn) q
 
 widths-in-requires : tie.Need-widths-in-requires Inv μ
 widths-in-requires c κs =
@@ -127,8 +132,10 @@ loop-again-2 c =
     let a = turn .before .before .before .args in
     let w = grouped first .width ∙ sym (ap (λ (x : List ℕ). getD x 0 0) (c .before .widths-in .ensures)) in (
       omega (arith, turn .loop-test .taken),
-      rw (← w) (paging-skip (choiceWords (a .head) blank 0) 5 (five-words (a .head) blank 0 refl) (turn .before .loop .inv .1)
-          (choicesIn (take (a .n) (a .keys .now)) (getD (a .t3) 0 0) (restOf (a .t3) (a .k)) (turn .before .loop .p)) (groupsFrom (take (a .n) (a .keys .now)) (getD (a .t3) 0 0) (restOf (a .t3) (a .k)) (turn .before .loop .p + 1)) (next first) (rw w (c .if3 .taken))),
+      rw (← w) (paging-skip (choiceWords (a .head) noPicks 0) 5 (five-words (a .head) noPicks 0 refl) (turn .before .loop .inv .1)
+          (choicesIn (take (a .n) (a .keys .now)) (getD (a .t3) 0 0) (restOf (a .t3) (a .k)) (turn .before .loop .p))
+          (groupsFrom (take (a .n) (a .keys .now)) (getD (a .t3) 0 0) (restOf (a .t3) (a .k)) (turn .before .loop .p + 1)) (next first)
+          (rw w (c .if3 .taken))),
     )
 
 shifted-requires : tie.Need-shifted-requires Inv μ
@@ -168,9 +175,11 @@ loop-again-3 c =
     let k : getD (take (a .n) (a .keys .now)) (l .p) 0 ≡ getD (a .keys .now) (l .p) 0 = here turn in
     let w = g .width ∙ sym (ap (λ (x : List ℕ). getD x 0 0) (c .before .before .before .before .before .before .widths-in .ensures)) in
     let wrote = g .paged (rw (c .before .before .before .before .shifted .ensures, ← k) at (c .before .before .fill .ensures)) in
-    let more = paging-more (choiceWords (a .head) blank 0) 5 (five-words (a .head) blank 0 refl) (l .inv .1)
-    (choicesIn (take (a .n) (a .keys .now)) (getD (a .t3) 0 0) (restOf (a .t3) (a .k)) (l .p)) (groupsFrom (take (a .n) (a .keys .now)) (getD (a .t3) 0 0) (restOf (a .t3) (a .k)) (l .p + 1)) _ _ (next first) wrote in
-    let none : l .skip - length (choicesIn (take (a .n) (a .keys .now)) (getD (a .t3) 0 0) (restOf (a .t3) (a .k)) (l .p)) ≡ 0 = omega (arith, w, c .before .before .before .before .before .if3 .left) in
+    let more = paging-more (choiceWords (a .head) noPicks 0) 5 (five-words (a .head) noPicks 0 refl) (l .inv .1)
+    (choicesIn (take (a .n) (a .keys .now)) (getD (a .t3) 0 0) (restOf (a .t3) (a .k)) (l .p))
+    (groupsFrom (take (a .n) (a .keys .now)) (getD (a .t3) 0 0) (restOf (a .t3) (a .k)) (l .p + 1)) _ _ (next first) wrote in
+    let none : l .skip - length (choicesIn (take (a .n) (a .keys .now)) (getD (a .t3) 0 0) (restOf (a .t3) (a .k)) (l .p)) ≡ 0 = omega
+    (arith, w, c .before .before .before .before .before .if3 .left) in
     (omega (arith, turn .loop-test .taken), rw none at more)
 
 returns-2 : tie.Need-returns-2 Inv μ
@@ -181,7 +190,7 @@ returns-2 c =
     let l = c .before .loop in
     let ks = take (a .n) (a .keys .now) in
     let past : length ks ≤ l .p = rw (length-take-le (a .n) (a .keys .now) (omega (arith, b .few, b .size))) (c .loop-test .left) in
-    paging-end (choiceWords (a .head) blank 0) 5 (five-words (a .head) blank 0 refl) (l .inv .1)
+    paging-end (choiceWords (a .head) noPicks 0) 5 (five-words (a .head) noPicks 0 refl) (l .inv .1)
     (from-end (choicesIn ks (getD (a .t3) 0 0) (restOf (a .t3) (a .k))) (λ p. eqb (getD ks p 0 % 512) (getD (a .t3) 0 0)) (length ks) (l .p) past)
 
 few : (c : tie.In-loop Inv μ) → c .before .loop .p < 1024

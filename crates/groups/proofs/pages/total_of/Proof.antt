@@ -14,7 +14,8 @@ use Rattle.groups.proofs.pages.total_of.Tie as tie
 abbrev Inv : tie.InvT-loop
 Inv keys n takes k counts places m total₀ j₀ total j =
     (total ≤ j * 1073741824) × (j ≤ m)
-    × (total + length (each (choicesIn (take n keys) (getD takes 0 0) (restOf takes k)) (drop j (take m places))) ≡ length (choicesByGroup (take n keys) (take k takes)))
+    × (total + length (each (choicesIn (take n keys) (getD takes 0 0) (restOf takes k)) (drop j (take m places))) ≡ length
+    (choicesByGroup (take n keys) (take k takes)))
 
 abbrev μ : tie.MeasureT-loop
 μ keys n takes k counts places m total₀ j₀ total j = m - j
@@ -43,7 +44,8 @@ loop-again c =
     let l = turn .before .loop in
     let four : length (a .takes) ≡ 4 = search needs in
     let here = getD-take (a .n) (a .keys .now) (getD (a .places .now) (l .j) 0) 0 (low turn) in
-    let more = total-next (take (a .n) (a .keys .now)) (a .k) (s .pre .1) (s .pre .2) (a .takes) four (s .pre .4) (l .j) (turn .loop-test .taken) (s .pre .3) here
+    let more = total-next (take (a .n) (a .keys .now)) (a .k) (s .pre .1) (s .pre .2) (a .takes) four (s .pre .4) (l .j) (turn .loop-test .taken)
+    (s .pre .3) here
     (s .pre .0 .below _ (low turn)) (c .width-at .ensures .1) in
     (omega (arith, l .inv .0, c .width-at .ensures .0), omega (arith, turn .loop-test .taken), omega (arith, more, l .inv .2))
 

@@ -13,18 +13,18 @@ use Rattle.lists.specs.Lists.{keep, keepIf, oneIf, upFrom}
 use Rattle.lists.specs.Parts.{keep-append}
 use Rattle.groups.specs.Groups.{firstsOn, Firsts}
 
-pub record Gathering (ks : List ℕ) (t : ℕ) (places : List ℕ) (len i : ℕ) : Type 0 where
+pub record Selecting (ks : List ℕ) (t : ℕ) (places : List ℕ) (len i : ℕ) : Type 0 where
   pub within : i ≤ length ks
   pub behind : len ≤ i
   pub size : length places ≡ 1024
   pub list : take len places ≡ keep (λ p. eqb (getD ks p 0 % 512) t) (upFrom 0 i)
 
-pub gathering-start : {ks : List ℕ} {t : ℕ} {places : List ℕ} → length places ≡ 1024 → Gathering ks t places 0 0
-gathering-start h = record { within = omega arith; behind = omega arith; size = h; list = refl }
+pub selecting-start : {ks : List ℕ} {t : ℕ} {places : List ℕ} → length places ≡ 1024 → Selecting ks t places 0 0
+selecting-start h = record { within = omega arith; behind = omega arith; size = h; list = refl }
 
-pub gathering-done : {ks : List ℕ} {t : ℕ} {places : List ℕ} {len i : ℕ} → Gathering ks t places len i → length ks ≤ i → length ks ≤ 1024
+pub selecting-done : {ks : List ℕ} {t : ℕ} {places : List ℕ} {len i : ℕ} → Selecting ks t places len i → length ks ≤ i → length ks ≤ 1024
     → Firsts ks t places len
-gathering-done {ks} {t} {places} {len} {i} h l few =
+selecting-done {ks} {t} {places} {len} {i} h l few =
     let e : i ≡ length ks = omega (arith, h .within) in
     record { size = h .size; few = omega (arith, h .behind, h .within); list = rw e at (h .list) }
 
@@ -35,9 +35,9 @@ up-more i (suc n) =
     let b : i + suc n ≡ suc i + n = omega arith in
     rw (a, b, up-more (suc i) n)
 
-pub gathering-next : {ks : List ℕ} {t : ℕ} {places : List ℕ} {len i : ℕ} → Gathering ks t places len i → i < length ks → i < 1024
-    → {key : ℕ} → getD ks i 0 ≡ key → {x : ℕ} → x ≡ oneIf (eqb (key % 512) t) → Gathering ks t (set places len i) (len + x) (i + 1)
-gathering-next {ks} {t} {places} {len} {i} h low few {key} is {x} e = record {
+pub selecting-next : {ks : List ℕ} {t : ℕ} {places : List ℕ} {len i : ℕ} → Selecting ks t places len i → i < length ks → i < 1024
+    → {key : ℕ} → getD ks i 0 ≡ key → {x : ℕ} → x ≡ oneIf (eqb (key % 512) t) → Selecting ks t (set places len i) (len + x) (i + 1)
+selecting-next {ks} {t} {places} {len} {i} h low few {key} is {x} e = record {
   within = omega arith;
   behind = go-behind (eqb (key % 512) t) e;
   size = length-set places len i ∙ h .size;
