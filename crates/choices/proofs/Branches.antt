@@ -114,7 +114,8 @@ module _ (ks wanted used : List ℕ) (k i p : ℕ) (e : i + 1 ≡ k) where
   pub last-length : length (branch ks used (drop (i + 1) (take k wanted)) p) ≡ 1
   last-length = ap length last-branch
 
-  pub last-paged : (head count at : ℕ) (picks before : List ℕ) {skip : ℕ} → skip ≡ 0 → 1 ≤ count → {after : List ℕ} → after ≡ sets before at (head ∷ set picks i p)
+  pub last-paged : (head count at : ℕ) (picks before : List ℕ) {skip : ℕ} → skip ≡ 0 → 1 ≤ count
+      → {after : List ℕ} → after ≡ sets before at (head ∷ set picks i p)
       → Paged (choiceWords head picks i) 5 (branch ks used (drop (i + 1) (take k wanted)) p) skip count at before after 1
   last-paged head count at picks before z h w =
       paged-same (choiceWords head picks i) 5 (sym last-branch) (rw (z, w) (paged-one (choiceWords head picks i) 5 (p ∷ []) count at before h))
