@@ -1,9 +1,9 @@
 // A page of the choices, which steps over all choices below a pick at once.
 ghost use mathlib.Core.Path.{_≡_};
-ghost use Prim.Native.Nat.{ℕ, _+_, _*_, _≤_, _<_};
-ghost use lib.ListN.{length, getD, take, drop};
+ghost use Prim.Native.Nat.{_+_, _*_, _≤_, _<_};
+ghost use lib.ListN.{length, take, drop};
 ghost use lib.Seq.{sets};
-ghost use mathlib.Core.List.{[], _∷_};
+ghost use mathlib.Core.List.{_∷_};
 ghost use Rattle.lists.specs.Lists.{isIn};
 ghost use Rattle.lists.specs.Keys.{timesIn};
 ghost use Rattle.lists.specs.Choosing.{choicesFrom};

@@ -11,7 +11,7 @@ use lib.ListN.{length, getD, take, set, length-set}
 use lib.Seq.{take-suc-set, take-set-le}
 use Rattle.lists.specs.Lists.{keep, keepIf, oneIf, upFrom}
 use Rattle.lists.specs.Parts.{keep-append}
-use Rattle.groups.specs.Groups.{firstsOn, Firsts}
+use Rattle.groups.specs.Groups.{Firsts}
 
 pub record Selecting (ks : List ℕ) (t : ℕ) (places : List ℕ) (len i : ℕ) : Type 0 where
   pub within : i ≤ length ks

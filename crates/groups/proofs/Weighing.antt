@@ -1,7 +1,7 @@
 -- The table of weights, filled by three additions.
 use Prim.Native.Nat.{ℕ, _+_, _*_, _≤_, _<_}
 use mathlib.Core.Bool.{Bool, true, false}
-use mathlib.Core.Path.{_≡_, refl, sym, ap, _∙_}
+use mathlib.Core.Path.{_≡_, _∙_}
 use mathlib.Core.List.{List}
 use native.Mathlib.Omega.{arith}
 use borrow.Author.Tests.{eqb-true, eqb-false}
@@ -10,7 +10,7 @@ use lib.ListN.{length, getD, set, length-set}
 use lib.Seq.{getD-set-same, getD-set-other}
 use Rattle.lists.specs.Lists.{oneIf}
 use Rattle.lists.specs.Choices.{by-bool}
-use Rattle.groups.specs.Groups.{packed, Weights}
+use Rattle.groups.specs.Groups.{Weights}
 
 -- w more at one place
 pub weight-added : (xs : List ℕ) (t w p : ℕ) → t < length xs → getD (set xs t (getD xs t 0 + w)) p 0 ≡ getD xs p 0 + w * oneIf (eqb p t)

@@ -9,7 +9,7 @@ use borrow.Author.Tests.{eqb-true, eq-eqb}
 use lib.Dec.{eqb}
 use lib.ListN.{length, getD, take, drop, length-map, length-append, length-take, drop-of-length-le}
 use lib.Seq.{length-take-le, getD-take}
-use Rattle.lists.specs.Lists.{keep, upFrom, each}
+use Rattle.lists.specs.Lists.{upFrom, each}
 use Rattle.lists.specs.Each.{All, All-keep, All-getD}
 use Rattle.lists.specs.UpFrom.{up-each}
 use Rattle.lists.specs.Prefix.{prefix-tails}

@@ -1,10 +1,9 @@
 -- `fill` by the numbers still wanted: at each level the loop pages the choices branch by branch (`Branches`).
 use Prim.Native.Nat.{ℕ, _+_, _-_, _*_, _≤_, _<_}
 use mathlib.Core.Bool.{not}
-use mathlib.Core.Path.{_≡_, refl, sym, ap, _∙_}
-use mathlib.Core.List.{List, _++_}
+use mathlib.Core.Path.{_≡_, ap, _∙_}
 use native.Mathlib.Omega.{arith}
-use lib.ListN.{length, getD, take, drop, set}
+use lib.ListN.{length, getD, take, drop}
 use lib.Seq.{length-take-le}
 use Rattle.lists.specs.Choosing.{isFree, choicesFrom}
 use Rattle.lists.specs.Tuples.{from-end, from-pass, from-here}

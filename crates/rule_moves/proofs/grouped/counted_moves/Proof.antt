@@ -1,9 +1,6 @@
 -- `counted_moves` meets its contract: `group_total` tells the length, and the page is `group_page`'s.
-use Prim.Native.Nat.{ℕ}
-use mathlib.Core.Path.{_≡_, sym}
 use native.Mathlib.Omega.{arith}
 use Rattle.lists.specs.Pages.{paged-past, paged-length}
-use borrow.Author.Needs.{needs}
 use Rattle.rule_moves.proofs.grouped.counted_moves.Statement.{statement}
 use Rattle.rule_moves.proofs.grouped.counted_moves.Tie as tie
 
