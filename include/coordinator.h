@@ -58,7 +58,8 @@ extern "C" {
 #define COORDINATOR_LOG_WORDS(moves) (1u + 5u * (moves))
 
 /* Words of a target for a page of this count. */
-#define COORDINATOR_PAGE_TARGET_WORDS(count) (5u * ((count) < 256u ? (count) : 256u))
+#define COORDINATOR_PAGE_TARGET_WORDS(count) \
+    (5u * ((count) < COORDINATOR_MAX_PAGE_MOVES ? (count) : COORDINATOR_MAX_PAGE_MOVES))
 
 /* Numbers. */
 #define COORDINATOR_ACCEPTED 0u          /* a check passed, or words were written */
@@ -127,9 +128,10 @@ coordinator_answer coordinator_serialize(const uint32_t *table, size_t table_len
                                          const uint32_t *log, size_t log_len,
                                          uint32_t *target, size_t target_len);
 
-/* A page of the list of all enabled moves: those that coordinator_move would accept, each once, by
- * head and then by picks. Its first move has the place first in the list, from 0; it has count moves,
- * at most COORDINATOR_MAX_PAGE_MOVES, or what the list has from there on. The target wants
+/* A page of the list of all enabled moves: those that coordinator_move, given a long enough
+ * target, would accept, each once, by head and then by picks. Its first move has the place first in
+ * the list, from 0; it has count moves, at most COORDINATOR_MAX_PAGE_MOVES, or what the list has from
+ * there on. The target wants
  * COORDINATOR_PAGE_TARGET_WORDS(count) words in any case; with count 0 that is none, and the length
  * is the answer.
  * Refusals: 1, 2, 3, 4, 6. Stack: 67.6 KB. */

@@ -13,7 +13,7 @@ use Rattle.semantics.specs.declared.Verdict.the-variants.{Allowed, Denie
 
 -- ---- the list
 
--- a reaction by rule r for every choice of n entries for its consumes
+-- a reaction by rule r for every choice of places below n, one for each of its consumes
 abbrev pub reactionsOf : Table → ℕ → ℕ → List Move
 reactionsOf t n r = map (react r) (tuples n (length (consumed (ruleAt t r))))
 

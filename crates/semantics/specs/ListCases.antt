@@ -93,7 +93,7 @@ unfolding twoLot start logA pageCases tableSizesOk numbersOk atomOk ruleOk rules
     stateVerdict logVerdict runResult runLog runLogTarget enabled listResult listLength listMoves listMovesTarget
 page-cases-hold = refl
 
--- Where one entry more would be too many (12), a rule that leaves three for one is not open at all; nor is one that begins where N is 65,536 (11). The
+-- Where two entries more would be too many (12), a rule that leaves three for one is not open at all; nor is one that begins where N is 65,536 (11). The
 -- reactions alone, since with that N the candidates are too many to be run here.
 abbrev reactionsOpen : ℕ → List ℕ → ℕ
 reactionsOpen ceiling s =
