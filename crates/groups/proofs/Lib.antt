@@ -1,4 +1,4 @@
 pub mod Counting
 pub mod Within
-pub mod Selecting
+pub mod BySums
 pub mod Weighing

@@ -1,18 +1,11 @@
 -- The choices of which the first place is p: they are within p's group, and so many.
 use Prim.Native.Nat.{ℕ, zero, suc, _+_, _-_, _*_, _/_, _%_, _≤_, _<_}
-use mathlib.Core.Bool.{true}
-use mathlib.Core.Path.{_≡_, refl, sym, ap, _∙_, subst}
-use native.Mathlib.Nat.{min-le-left}
+use mathlib.Core.Path.{_≡_, refl, sym, ap, _∙_}
 use mathlib.Core.List.{List, [], _∷_, map}
 use native.Mathlib.Omega.{arith}
 use borrow.Author.Tests.{eqb-true, eq-eqb}
 use lib.Dec.{eqb}
-use lib.ListN.{length, getD, take, drop, length-map, length-append, length-take, drop-of-length-le}
-use lib.Seq.{length-take-le, getD-take}
-use Rattle.lists.specs.Lists.{upFrom, each}
-use Rattle.lists.specs.Each.{All, All-keep, All-getD}
-use Rattle.lists.specs.UpFrom.{up-each}
-use Rattle.lists.specs.Prefix.{prefix-tails}
+use lib.ListN.{length, getD, take, drop, length-map}
 use Rattle.lists.specs.Choices.{and-intro}
 use Rattle.lists.specs.Tests.{same-test}
 use Rattle.lists.specs.Keys.{timesIn, times-le}
@@ -23,7 +16,7 @@ use Rattle.lists.specs.Pages.{Paged, paged-map}
 use Rattle.lists.specs.Ways.{Used, used-none, used-next, choices-ways}
 use Rattle.choices.specs.Widths.{widthsOf, Widths, widths-are}
 use Rattle.choices.specs.Words.{choiceWords}
-use Rattle.groups.specs.Groups.{Sized, Grouped, CountedFor, leftIn, firstsOn, Firsts}
+use Rattle.groups.specs.Groups.{Sized, Grouped, CountedFor, onFirst, leftIn}
 
 -- ---- numbers that are all shifted
 
@@ -52,7 +45,7 @@ getD-shift b (x ∷ xs) (suc j) h = getD-shift b xs j (omega arith)
 
 -- ---- the numbers of one group, taken out of its word
 
-module _ {ks : List ℕ} {b c d : ℕ} {counts : List ℕ} (h : Grouped ks b c d counts) where
+module _ {ks : List ℕ} {a b c d : ℕ} {counts : List ℕ} (h : Grouped ks a b c d counts) where
   times-few : (u : ℕ) → timesIn u ks ≤ 1024
   times-few u = omega (arith, times-le u ks, h .few)
 
@@ -66,14 +59,20 @@ module _ {ks : List ℕ} {b c d : ℕ} {counts : List ℕ} (h : Grouped ks b c d
     abbrev z : ℕ
     z = timesIn (g * 512 + d) ks
 
+    few-each : (x ≤ 1024) × (y ≤ 1024) × (z ≤ 1024) × (timesIn (g * 512 + a) ks ≤ 1024)
+    few-each = (times-few (g * 512 + b), times-few (g * 512 + c), times-few (g * 512 + d), times-few (g * 512 + a))
+
+    pub first-left : onFirst counts g ≡ timesIn (g * 512 + a) ks
+    first-left = omega (arith, h .each g low, few-each)
+
     second-left : getD counts g 0 % 1048576 ≡ x
-    second-left = omega (arith, h .each g low, times-few (g * 512 + b), times-few (g * 512 + c), times-few (g * 512 + d))
+    second-left = omega (arith, h .each g low, few-each)
 
     third-left : getD counts g 0 / 1048576 % 1048576 ≡ y
-    third-left = omega (arith, h .each g low, times-few (g * 512 + b), times-few (g * 512 + c), times-few (g * 512 + d))
+    third-left = omega (arith, h .each g low, few-each)
 
-    fourth-left : getD counts g 0 / 1099511627776 ≡ z
-    fourth-left = omega (arith, h .each g low, times-few (g * 512 + b), times-few (g * 512 + c), times-few (g * 512 + d))
+    fourth-left : getD counts g 0 / 1099511627776 % 4096 ≡ z
+    fourth-left = omega (arith, h .each g low, few-each)
 
     left-few : (j : ℕ) → getD (leftIn counts g) j 0 ≤ 1024
     left-few zero = omega arith
@@ -83,7 +82,7 @@ module _ {ks : List ℕ} {b c d : ℕ} {counts : List ℕ} (h : Grouped ks b c d
     left-few (suc (suc (suc (suc j)))) = omega arith
 
   pub grouped-sized : Sized counts
-  grouped-sized = record { size = h .size; few = left-few }
+  grouped-sized = record { size = h .size; few = left-few; firsts = λ g l. rw (first-left g l) (times-few (g * 512 + a)) }
 
 -- ---- one first place
 
@@ -211,56 +210,3 @@ shifted-as b (x ∷ y ∷ []) h = absurd (omega arith)
 shifted-as b (x ∷ y ∷ z ∷ []) h = absurd (omega arith)
 shifted-as b (x ∷ y ∷ z ∷ w ∷ []) h = refl
 shifted-as b (x ∷ y ∷ z ∷ w ∷ v ∷ r) h = absurd (omega arith)
-
--- ---- the loop over the first places
-
-module _ (ks : List ℕ) (k : ℕ) (some : 1 ≤ k) (most : k ≤ 4) (takes : List ℕ) (four : length takes ≡ 4) where
-  abbrev t₀ : ℕ
-  t₀ = getD takes 0 0
-
-  abbrev of : ℕ → List (List ℕ)
-  of p = choicesIn ks t₀ (restOf takes k) p
-
-  pub firsts-start : choicesByGroup ks (take k takes) ≡ each of (firstsOn ks t₀)
-  firsts-start = groups-start-of ks k some most takes four ∙ from-start of (λ p. eqb (getD ks p 0 % 512) t₀) (length ks)
-
-  -- each is on the port
-  each-on : All (λ p. (p < length ks) × (getD ks p 0 % 512 ≡ t₀)) (firstsOn ks t₀)
-  each-on = All-keep (λ p. (p < length ks) × (getD ks p 0 % 512 ≡ t₀)) (λ p. eqb (getD ks p 0 % 512) t₀) (upFrom 0 (length ks))
-      (up-each (λ p. eqb (getD ks p 0 % 512) t₀ ≡ true → (p < length ks) × (getD ks p 0 % 512 ≡ t₀)) 0 (length ks)
-      (λ p l u e. (omega arith, eqb-true (getD ks p 0 % 512) t₀ e)))
-
-  module _ {places : List ℕ} {m : ℕ} (fs : Firsts ks t₀ places m) where
-    abbrev goal : ℕ → ℕ
-    goal j = length (each of (drop j (take m places)))
-
-    pub firsts-whole : goal 0 ≡ length (choicesByGroup ks (take k takes))
-    firsts-whole = ap length (ap (each of) (fs .list) ∙ sym firsts-start)
-
-    pub firsts-end : (j : ℕ) → m ≤ j → goal j ≡ 0
-    firsts-end j h =
-        let short : length (take m places) ≤ j = rw length-take (omega (arith, min-le-left m (length places))) in
-        ap (λ (l : List ℕ). length (each of l)) (drop-of-length-le (take m places) short)
-
-    module _ (j : ℕ) (h : j < m) where
-      long : length (take m places) ≡ m
-      long = length-take-le m places (omega (arith, fs .few, fs .size))
-
-      pub first-at : (getD places j 0 < length ks) × (getD ks (getD places j 0) 0 % 512 ≡ t₀)
-      first-at =
-          let in′ : j < length (take m places) = rw long h in
-          subst (λ (p : ℕ). (p < length ks) × (getD ks p 0 % 512 ≡ t₀)) (getD-take m places j 0 h)
-          (All-getD (λ p. (p < length ks) × (getD ks p 0 % 512 ≡ t₀)) 0 (take m places) j (rw (fs .list) each-on) in′)
-
-      -- one place more, with this key
-      pub total-next : {counts : List ℕ} → CountedFor ks takes counts → {key : ℕ} → getD ks (getD places j 0) 0 ≡ key → key < 524288
-          → {w : ℕ} → w ≡ getD (widthsOf takes (leftIn counts (key / 512)) k) 0 0 → goal j ≡ w + goal (j + 1)
-      total-next {counts} counted {key} is below {w} e =
-          let (low, on) = first-at in
-          let small : getD ks (getD places j 0) 0 < 524288 = rw is below in
-          let i = in-group ks k some most takes four counted (getD places j 0) low small on in
-          let x : getD (widthsOf takes (leftIn counts (getD ks (getD places j 0) 0 / 512)) k) 0 0 ≡ w = rw is (sym e) in
-          let enough : m ≤ length places = omega (arith, fs .few, fs .size) in
-          ap (λ (l : List ℕ). length (each of l)) (prefix-tails 0 places m enough .more j h)
-          ∙ length-append (of (getD places j 0)) (each of (drop (j + 1) (take m places)))
-          ∙ ap (λ (y : ℕ). y + goal (j + 1)) (i .width ∙ x)

@@ -7,10 +7,24 @@ ghost use Rattle.lists.specs.Choosing.{choicesByGroup};
 ghost use Rattle.lists.specs.Pages.{Paged};
 ghost use Rattle.choices.specs.Widths.{widthsOf};
 ghost use Rattle.choices.specs.Words.{choiceWords};
-ghost use Rattle.groups.specs.Groups.{KeysBelow, CountedFor, Firsts, leftIn, Sized};
-use crate::counts::firsts;
+ghost use Rattle.groups.specs.Groups.{KeysBelow, CountedFor, TopGroup, leftIn, waysIn, Sized};
 use choices::fill;
 use choices::widths;
+
+// The ways below a first pick of group g.
+fn group_widths<'a>(takes: [u32; 4], k: usize, counts: &'a [u64; 1024], g: usize) -> [u64; 4]
+    requires { ⌜ Sized (now counts) × (g < 1024) ⌝ }
+    ensures { λ r. ⌜ r ≡ widthsOf takes (leftIn (now (counts .entry)) g) k ⌝ }
+{
+    let x = counts[g];
+    let left = [
+        0,
+        x % 1048576,
+        x / 1048576 % 1048576,
+        x / 1099511627776 % 4096,
+    ];
+    widths(takes, left, k)
+}
 
 // The ways below a first pick with this key: those of its group.
 fn widths_in<'a>(takes: [u32; 4], k: usize, counts: &'a [u64; 1024], key: u32) -> [u64; 4]
@@ -18,58 +32,38 @@ fn widths_in<'a>(takes: [u32; 4], k: usize, counts: &'a [u64; 1024], key: u32) -
     ensures { λ r. ⌜ r ≡ widthsOf takes (leftIn (now (counts .entry)) (key / 512)) k ⌝ }
 {
     let g = (key / 512) as usize;
-    let x = counts[g];
-    let left = [0, x % 1048576, x / 1048576 % 1048576, x / 1099511627776];
-    widths(takes, left, k)
+    group_widths(takes, k, counts, g)
 }
 
-// The same as one number.
-fn width_at<'a>(takes: [u32; 4], k: usize, counts: &'a [u64; 1024], key: u32) -> u64
-    requires { ⌜ Sized (now counts) × (key < 524288) ⌝ }
-    ensures { λ r. ⌜ (r ≤ 1073741824) × (r ≡ getD (widthsOf takes (leftIn (now (counts .entry)) (key / 512)) k) 0 0) ⌝ }
+// How many choices there are in group g.
+fn group_ways<'a>(takes: [u32; 4], k: usize, counts: &'a [u64; 1024], g: usize) -> u64
+    requires { ⌜ Sized (now counts) × (g < 1024) ⌝ }
+    ensures { λ r. ⌜ (r ≡ waysIn takes k (now (counts .entry)) g) × (r ≤ 1099511627776) ⌝ }
 {
-    let below = widths_in(takes, k, counts, key);
-    below[0]
+    let below = group_widths(takes, k, counts, g);
+    counts[g] / 4503599627370496 * below[0]
 }
 
-// How many choices there are for the first k ports, of which the first picks are the first m places.
-fn total_of<'a>(
-    keys: &'a [u32; 1024],
-    n: usize,
-    takes: [u32; 4],
-    k: usize,
-    counts: &'a [u64; 1024],
-    places: &'a [u16; 1024],
-    m: usize,
-) -> u64
-    requires { ⌜ KeysBelow n (now keys) × (1 ≤ k) × (k ≤ 4) × CountedFor (take n (now keys)) takes (now counts)
-        × Firsts (take n (now keys)) (getD takes 0 0) (now places) m ⌝ }
-    ensures { λ r. ⌜ (r ≡ length (choicesByGroup (take n (now (keys .entry))) (take k takes))) × (r ≤ 1099511627776) ⌝ }
-{
-    let mut total = 0;
-    let mut j = 0;
-    while j < m {
-        let p = places[j] as usize;
-        total += width_at(takes, k, counts, keys[p]);
-        j += 1;
-    }
-    total
-}
-
-// How many choices there are for the first k ports.
+// How many choices there are for the first k ports, group by group.
 pub fn group_total<'a>(
     keys: &'a [u32; 1024],
     n: usize,
     takes: [u32; 4],
     k: usize,
     counts: &'a [u64; 1024],
+    top: usize,
 ) -> u64
     requires { ⌜ KeysBelow n (now keys) × (1 ≤ k) × (k ≤ 4) × CountedFor (take n (now keys)) takes (now counts) ⌝ }
-    ensures { λ r. ⌜ (r ≡ length (choicesByGroup (take n (now (keys .entry))) (take k takes))) × (r ≤ 1099511627776) ⌝ }
+    requires { ⌜ TopGroup n (now keys) top × (getD takes 0 0 < 512) ⌝ }
+    ensures { λ r. ⌜ (r ≡ length (choicesByGroup (take n (now (keys .entry))) (take k takes))) × (r ≤ 1125899906842624) ⌝ }
 {
-    let mut places = [0u16; 1024];
-    let m = firsts(keys, n, takes[0], &mut places);
-    total_of(keys, n, takes, k, counts, &places, m)
+    let mut total = 0;
+    let mut g = 0;
+    while g < top {
+        total += group_ways(takes, k, counts, g);
+        g += 1;
+    }
+    total
 }
 
 fn shifted(takes: [u32; 4], base: u32) -> [u32; 4]

@@ -40,7 +40,7 @@ pub fn reactions<'a>(
     requires { ⌜ (count ≤ 256) × (5 * count ≤ length (now target)) ⌝ }
     ensures { λ p. ⌜ PartAs moveWords (reactionsBy ceiling (now (table .entry)) (at .len) (at .next) (take (at .len) (now (keys .entry))))
         first count 0 (now (target .entry)) (now (target .exit)) p ⌝ }
-    ensures { λ p. ⌜ p .length ≤ 70368744177664 ⌝ }
+    ensures { λ p. ⌜ p .length ≤ 72057594037927936 ⌝ }
 {
     let z = sizes_of(table);
     let rules = z.rules;

@@ -65,7 +65,7 @@ pub fn moves_by<'a>(
     requires { ⌜ (count ≤ 256) × (place + 5 * count ≤ length (now target)) ⌝ }
     ensures { λ p. ⌜ PartAs moveWords (movesBy ceiling (ruleIn rule) r (at .len) (at .next) (take (at .len) (now (keys .entry))))
         first count place (now (target .entry)) (now (target .exit)) p ⌝ }
-    ensures { λ p. ⌜ p .length ≤ 1099511627776 ⌝ }
+    ensures { λ p. ⌜ p .length ≤ 1125899906842624 ⌝ }
 {
     if !is_open(rule, at, ceiling) {
         return Part {

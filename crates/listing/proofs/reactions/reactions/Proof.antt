@@ -26,7 +26,7 @@ from ceiling t n next ks r = eachUp (λ r. movesBy ceiling (ruleAt (tableOf t) r
 
 abbrev Inv : tie.InvT-loop
 Inv table starts keys counts at ceiling first count target₀ rules length₀ skip₀ done₀ r₀ target length′ skip done r =
-    (r ≤ sizesOf table .rules) × (length′ ≤ r * 1099511627776)
+    (r ≤ sizesOf table .rules) × (length′ ≤ r * 1125899906842624)
     × Paging moveWords 5 (reactionsBy ceiling table (at .len) (at .next) (take (at .len) keys))
     (from ceiling table (at .len) (at .next) (take (at .len) keys) r) first count skip done 0 target₀ target
     × (length′ + length (from ceiling table (at .len) (at .next) (take (at .len) keys) r)

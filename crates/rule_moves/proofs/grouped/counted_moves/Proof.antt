@@ -5,7 +5,7 @@ use Rattle.rule_moves.proofs.grouped.counted_moves.Statement.{statement
 use Rattle.rule_moves.proofs.grouped.counted_moves.Tie as tie
 
 group-total-requires : tie.Need-group-total-requires
-group-total-requires c κs = let p = c .before .pre .0 in (p .0, p .2, p .3, p .4)
+group-total-requires c κs = let p = c .before .pre .0 in ((p .0, p .2, p .3, p .4), (p .5, omega (arith, p .1 0)))
 
 returns : tie.Need-returns
 returns c =

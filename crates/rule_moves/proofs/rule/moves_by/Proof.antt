@@ -68,7 +68,7 @@ returns-3 c =
     let g = c .before .before .plain-moves .ensures in (
       open-moves (a .r) _ (sym (asked .is-open .ensures) ∙ not-false _ (f .before .before .if1 .left))
           (rw (plain-choices (ruleIn (a .rule)) (take (a .at .len) (a .keys .now)) (c .before .before .before .before .if2 .left) (ports f)) at (g .0)),
-      g .1,
+      omega (arith, g .1),
     )
 
 pub moves-by-spec : {M : Type 1} → statement M
