@@ -11,4 +11,5 @@ pub struct Part {
 
 pub use page::fill;
 pub use page::put;
+pub use ways::less;
 pub use ways::widths;

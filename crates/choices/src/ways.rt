@@ -12,7 +12,8 @@ fn one_if(b: bool) -> u64
     if b { 1 } else { 0 }
 }
 
-fn less(x: u64, d: u64) -> u64
+// x less d, and 0 where d is the larger.
+pub fn less(x: u64, d: u64) -> u64
     ensures { λ r. ⌜ (r ≡ x - d) × (r ≤ x) ⌝ }
 {
     if x < d { 0 } else { x - d }

@@ -1,6 +1,6 @@
 // The reactions of all rules, one rule after another.
 ghost use mathlib.Core.Path.{_≡_};
-ghost use Prim.Native.Nat.{_-_, _*_, _≤_, _<_};
+ghost use Prim.Native.Nat.{_*_, _≤_};
 ghost use lib.ListN.{length, take};
 ghost use Rattle.semantics.specs.Table.{sizesOf, numbersOf};
 ghost use Rattle.semantics.specs.Answers.{tableVerdict};
@@ -12,17 +12,11 @@ ghost use Rattle.groups.specs.Groups.{KeysBelow};
 ghost use Rattle.eligible.specs.Ports.{PortCounts};
 ghost use Rattle.listing.specs.Listing.{reactionsBy};
 use choices::Part;
+use choices::less;
 use rule_moves::moves_by;
 use rules::decode::rule_at;
 use state::Extent;
 use table::parts::sizes_of;
-
-// What is left of a place behind a part of this length.
-pub fn less(x: u64, d: u64) -> u64
-    ensures { λ r. ⌜ r ≡ x - d ⌝ }
-{
-    if x < d { 0 } else { x - d }
-}
 
 pub fn reactions<'a>(
     table: &'a [u32],

@@ -43,7 +43,7 @@ returns c =
     let e = c .before .before .before .before .before .before .before .before .before .before .before .before .before in
     let f = c .before .before .before .before .before .before in
     part-append moveWords moveWords-length _ _ (e .reactions .result) (f .tail .result) (e .reactions .ensures .0)
-    (part-from-zero (e .reactions .result .written) (rw (f .before .before .before .before .less .ensures) at (f .tail .ensures .0)))
+    (part-from-zero (e .reactions .result .written) (rw (f .before .before .before .before .less .ensures .0) at (f .tail .ensures .0)))
 
 pub listed-spec : {M : Type 1} → statement M
 listed-spec =

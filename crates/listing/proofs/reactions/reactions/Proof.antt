@@ -88,7 +88,7 @@ loop-again c =
     let more = paging-more moveWords 5 moveWords-length (l .inv .2) _ _ _ _ next (from-zero (l .done) (part .paged)) in (
       omega (arith, below turn),
       omega (arith, l .inv .1, made .moves-by .ensures .1),
-      rw (c .before .less .ensures, part .total) more,
+      rw (c .before .less .ensures .0, part .total) more,
       more-length (reactionsBy (a .ceiling) (a .table .now) (a .at .len) (a .at .next) (take (a .at .len) (a .keys .now)))
           (from (a .ceiling) (a .table .now) (a .at .len) (a .at .next) (take (a .at .len) (a .keys .now)) (l .r))
           (movesBy (a .ceiling) (ruleAt (tableOf (a .table .now)) (l .r)) (l .r) (a .at .len) (a .at .next) (take (a .at .len) (a .keys .now)))

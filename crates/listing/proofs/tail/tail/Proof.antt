@@ -31,7 +31,7 @@ returns c =
     let e = c .before .before .before .before .before .before .before .before .before .before .before .before .before in
     let f = c .before .before .before .before .before .before in
     let first = part-map commit moveWords (e .ends .ensures .0) in
-    let second = rw (f .before .before .before .before .less .ensures) at (f .ends2 .ensures .0) in (
+    let second = rw (f .before .before .before .before .less .ensures .0) at (f .ends2 .ensures .0) in (
       part-append moveWords moveWords-length _ _ (e .ends .result) (f .ends2 .result) first (part-map abort moveWords second),
       omega (arith, e .ends .ensures .1, f .ends2 .ensures .1),
     )
