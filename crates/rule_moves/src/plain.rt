@@ -52,7 +52,8 @@ pub fn plain_moves<'a>(
     let left = counts_at(counts, takes);
     let below = widths(takes, left, k);
     let length = left[0] * below[0];
-    if length <= first {
+    // Most rules have no move on the page, and for them not even a first place is looked for.
+    if (count == 0) | (length <= first) {
         return Part { length, written: 0 };
     }
     let picks = [0u32; 4];

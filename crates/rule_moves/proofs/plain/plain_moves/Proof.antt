@@ -1,14 +1,17 @@
 -- `plain_moves` meets its contract: the count is a product (`PlainCount`), and the page is `fill`'s.
-use Prim.Native.Nat.{_*_, _≤_}
-use mathlib.Core.Path.{_≡_}
-use mathlib.Core.List.{[]}
+use Prim.Native.Nat.{ℕ, _*_, _≤_}
+use mathlib.Core.Bool.{Bool, true, _||_}
+use mathlib.Core.Path.{_≡_, sym, ap, _∙_}
+use mathlib.Core.List.{List, []}
 use native.Mathlib.Nat.{lt-of-le-of-lt}
 use native.Mathlib.Omega.{arith}
-use lib.Dec.{lit<}
+use borrow.Author.Tests.{eqb-true, leb-true}
+use lib.Dec.{lit<, eqb, leb}
 use lib.ListN.{length, getD, take}
 use lib.Seq.{length-take-le}
 use Rattle.lists.specs.Choosing.{choicesFrom}
-use Rattle.lists.specs.Pages.{paged-past, paged-length}
+use Rattle.lists.specs.Choices.{by-bool}
+use Rattle.lists.specs.Pages.{Paged, paged-past, paged-empty, paged-length}
 use Rattle.lists.specs.Ways.{used-none}
 use Rattle.rule_moves.proofs.PlainCount.{counts-few, left-few, plain-widths, plain-length, length-small}
 use borrow.Author.Needs.{needs}
@@ -50,10 +53,17 @@ total c =
     rw (c .widths .ensures, c .before .counts-at .ensures)
     (plain-length (take (s .args .n) (s .args .keys .now)) (s .args .counts .now) (s .args .takes) (few s) (p .2) (p .3) four (s .args .k) (p .4) (p .5))
 
+-- no room on the page, or the page begins behind the rule's choices
+unwritten : (words : List ℕ → List ℕ) (xs : List (List ℕ)) (len first count at : ℕ) (before : List ℕ) → len ≡ length xs
+    → eqb count 0 || leb len first ≡ true → Paged words 5 xs first count at before before 0
+unwritten words xs len first count at before t h = by-bool (eqb count 0)
+    (λ e. rw (eqb-true count 0 e) (paged-empty words 5 xs first at before))
+    (λ e. paged-past words 5 xs first count at before (rw (← t) (leb-true len first (sym (ap (λ (b : Bool). b || leb len first) e) ∙ h))))
+
 returns : tie.Need-returns
 returns c =
     let t = total (c .before) in
-    (record { total = t; paged = paged-past _ 5 _ _ _ _ _ (rw (← t) (c .if1 .taken)) }, bound (c .before))
+    (record { total = t; paged = unwritten _ _ _ _ _ _ _ t (c .if1 .taken) }, bound (c .before))
 
 fill-requires : tie.Need-fill-requires
 fill-requires c κs =
