@@ -134,7 +134,7 @@ coordinator_answer coordinator_serialize(const uint32_t *table, size_t table_len
  * there on. The target wants
  * COORDINATOR_PAGE_TARGET_WORDS(count) words in any case; with count 0 that is none, and the length
  * is the answer.
- * Refusals: 1, 2, 3, 4, 6. Stack: 67.6 KB. */
+ * Refusals: 1, 2, 3, 4, 6. Stack: 67.5 KB. */
 coordinator_page coordinator_list_moves(const uint32_t *table, size_t table_len,
                                         const uint32_t *state, size_t state_len,
                                         uint64_t first, uint32_t count,
