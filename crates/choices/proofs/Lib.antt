@@ -1,3 +1,4 @@
 pub mod Branches
+pub mod Level
 pub mod Words
 pub mod Passed

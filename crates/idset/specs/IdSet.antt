@@ -1,8 +1,8 @@
 -- A set of numbers below 65,536 as a list of 1024 words of 64 bits: what it holds, and what an insertion does.
 use mathlib.Core.Path.{_≡_, refl}
-use mathlib.Core.Bool.{Bool, false, _&&_, _||_}
+use mathlib.Core.Bool.{Bool, true, false, _&&_, _||_}
 use mathlib.Core.List.{List}
-use Prim.Native.Nat.{ℕ, zero, suc, _/_, _%_, _^_, _≤_, _<_}
+use Prim.Native.Nat.{ℕ, zero, suc, _+_, _*_, _/_, _%_, _^_, _≤_, _<_}
 use native.Mathlib.Nat.{zero-div}
 use native.Mathlib.Omega.{arith}
 use lib.ListN.{length, getD, replicate, List·getD-eq-default}
@@ -26,11 +26,13 @@ pub record InsertedIf (b : Bool) (v : ℕ) (before after : List ℕ) : Type 0 wh
   pub size : length after ≡ 1024
   pub holds : (u : ℕ) → has after u ≡ (b && eqb u v || has before u)
 
--- r is behind v and at most end, and no member lies between v and r.
+-- r is the least of these: the next member behind v, the first number of the next word, and end.
 pub record Behind (ws : List ℕ) (v end r : ℕ) : Type 0 where
   pub onward : v < r
   pub within : r ≤ end
+  pub in-word : r ≤ (v / 64 + 1) * 64
   pub none : (u : ℕ) → v < u → u < r → has ws u ≡ false
+  pub member : r < end → r < (v / 64 + 1) * 64 → has ws r ≡ true
 
 -- a set that can be lent and holds nothing
 pub record EmptySet (ws : List ℕ) : Type 0 where
