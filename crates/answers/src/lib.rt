@@ -27,6 +27,7 @@ pub fn number_of(refusal: Refusal) -> u32
         Refusal::BeginEmits => 14,
         Refusal::TransactionOpen => 15,
         Refusal::SerialTooManyEntries => 17,
+        Refusal::TransactionAborting => 18,
     }
 }
 

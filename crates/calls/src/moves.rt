@@ -39,7 +39,7 @@ fn store_made<'a>(
     Outcome::Written(state::store(owners, items, left, target))
 }
 
-// A move in order, with a target that is long enough: 7 to 12.
+// A move in order, with a target that is long enough: 7 to 12, 18.
 fn make_and_store<'a>(
     table: &'a [u32],
     starts: &'a [u32; 65],

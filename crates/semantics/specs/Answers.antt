@@ -14,7 +14,7 @@ use Rattle.semantics.specs.Enabled.{enabled, moveWords, pageCount, pageO
 use Rattle.semantics.specs.declared.Refusal.{Refusal}
 use Rattle.semantics.specs.declared.Refusal.the-variants.{TableSizes, TableContents, StateSizes, StateContents, MoveForm, TargetTooShort}
 use Rattle.semantics.specs.declared.Refusal.the-variants.{WrongPick, WrongOwner, NoTransaction, EndNotAllowed, NoMoreIds, TooManyEntries}
-use Rattle.semantics.specs.declared.Refusal.the-variants.{LogSizes, BeginEmits, TransactionOpen, SerialTooManyEntries}
+use Rattle.semantics.specs.declared.Refusal.the-variants.{LogSizes, BeginEmits, TransactionOpen, SerialTooManyEntries, TransactionAborting}
 use Rattle.semantics.specs.declared.Verdict.{Verdict}
 use Rattle.semantics.specs.declared.Verdict.the-variants.{Allowed, Denied}
 use Rattle.semantics.specs.declared.Outcome.{Outcome}
@@ -45,6 +45,7 @@ number NoMoreIds = 11
 number TooManyEntries = 12
 number TransactionOpen = 15
 number SerialTooManyEntries = 17
+number TransactionAborting = 18
 
 -- What C gets: 0 and the count of words written, or the refusal's number and nothing else; only 16 says more.
 abbrev pub answerOf : Outcome → Answer
@@ -131,7 +132,7 @@ steppedResult (refused r) = refuse r
 abbrev pub moveFaults : List ℕ → List ℕ → List ℕ → List ℕ → List Verdict
 moveFaults t s m target = stateVerdict t s ∷ unless (moveOk (tableOf t) m) MoveForm ∷ hasWords stateRoom target ∷ []
 
--- .. and then 7 to 12, of which the state decides
+-- .. and then 7 to 12 and 18, of which the state decides
 unfoldable pub moveResult : ℕ → List ℕ → List ℕ → List ℕ → List ℕ → Result
 moveResult ceiling t s m target =
     unlessDenied (firstFault (moveFaults t s m target)) (steppedResult (stepWords ceiling (tableOf t) 1 (stateOf s) m))

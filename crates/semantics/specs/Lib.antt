@@ -8,6 +8,7 @@ pub mod Enabled
 pub mod Answers
 pub mod Cases
 pub mod OddCases
+pub mod AbortingCases
 pub mod ListCases
 pub mod Program
 pub mod ProgramCases

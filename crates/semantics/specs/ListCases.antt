@@ -63,8 +63,8 @@ listCases =
 
 pub pageCases : List ListCase
 pageCases =
-    -- a stopped batch is joined still, and called off
-    case (page stopped 0 8 (replicate 40 0)) (lists 3 (rule2 2 4 6 ∷ rule2 2 6 4 ∷ callOff 2 ∷ []))
+    -- what is stopped is joined no more (M-105): it can be called off, and no other move is open
+    case (page stopped 0 8 (replicate 40 0)) (lists 1 (callOff 2 ∷ []))
     -- a page from the middle; one past the end; the largest first place
     ∷ case (page (reachedBy (take 2 logA)) 1 2 (replicate 40 0)) (lists 4 (rule1 1 4 ∷ rule1 3 1 ∷ []))
     ∷ case (page (reachedBy (take 2 logA)) 4 2 (replicate 40 0)) (lists 4 [])

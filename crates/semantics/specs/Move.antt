@@ -13,6 +13,7 @@ use Rattle.semantics.specs.declared.AtomValue.{AtomValue}
 use Rattle.semantics.specs.declared.AtomValue.the-variants.{Constant, Received}
 use Rattle.semantics.specs.declared.Refusal.{Refusal}
 use Rattle.semantics.specs.declared.Refusal.the-variants.{MoveForm, WrongPick, WrongOwner, NoTransaction, EndNotAllowed, NoMoreIds, TooManyEntries}
+use Rattle.semantics.specs.declared.Refusal.the-variants.{TransactionAborting}
 use Rattle.semantics.specs.declared.Verdict.{Verdict}
 use Rattle.semantics.specs.declared.Verdict.the-variants.{Allowed, Denied}
 
@@ -65,6 +66,15 @@ moveOf t m =
     (react (headNumber (getD m 0 0)) (take (picksUsed t (getD m 0 0)) (drop 1 m)))
     (cond (eqb (headKind (getD m 0 0)) 1) (commit (headNumber (getD m 0 0))) (abort (headNumber (getD m 0 0))))
 
+-- ---- what a transaction owns
+
+abbrev pub entriesIn : ℕ → State → List Entry
+entriesIn b s = keep (owned b) (s .entries)
+
+-- An abort must have been asked for by an abort mark.
+abbrev pub mayAbort : ℕ → State → Bool
+mayAbort b s = any isAbortMark (entriesIn b s)
+
 -- ---- a reaction
 
 -- stands for an entry past the last: of no kind
@@ -98,15 +108,20 @@ ownersFit class os =
     cond (eqb class 0) (all isZero os)
     (cond (eqb class 1) (all (λ o. ltb 0 o && eqb o (least os)) os) (all (λ o. ltb 0 o) os))
 
+-- 18 (02, M-105): a transaction that has an abort mark can only be aborted, so it takes part in no reaction. What is global is in no transaction.
+abbrev pub takesPart : State → ℕ → Bool
+takesPart s o = isZero o || not (mayAbort o s)
+
 -- 11: a begin needs an id, and 65,535 is the last
 abbrev pub hasId : Rule → State → Bool
 hasId r s = not (begins r) || ltb (s .next) 65536
 
--- 7, 8, 11
+-- 7, 8, 18, 11, each of all picks
 abbrev pub reactFaults : Rule → State → List ℕ → List Verdict
 reactFaults r s ps =
     unless (picksOk r s ps) WrongPick
     ∷ unless (ownersFit (r .class) (ownersAt s ps)) WrongOwner
+    ∷ unless (all (takesPart s) (ownersAt s ps)) TransactionAborting
     ∷ unless (hasId r s) NoMoreIds
     ∷ []
 
@@ -157,16 +172,9 @@ reacted r i s ps = record {
 abbrev pub isOpen : ℕ → State → Bool
 isOpen b s = ltb 0 b && any (owned b) (s .entries)
 
-abbrev pub entriesIn : ℕ → State → List Entry
-entriesIn b s = keep (owned b) (s .entries)
-
 -- A commit may not lose anything: no abort mark, and no message left on a port of the transaction's own.
 abbrev pub mayCommit : Table → ℕ → State → Bool
 mayCommit t b s = all (λ e. not (isAbortMark e) && (not (isMessage e) || ltb (e .port) (t .sizes .globals))) (entriesIn b s)
-
--- An abort must have been asked for by an abort mark.
-abbrev pub mayAbort : ℕ → State → Bool
-mayAbort b s = any isAbortMark (entriesIn b s)
 
 -- 9, 10: the end of transaction b, of which `may` says whether it is allowed where b is there
 abbrev pub endFaults : Bool → ℕ → State → List Verdict
@@ -185,7 +193,7 @@ ended p b s = record { next = s .next; entries = map (freed p b) (keep (λ e. no
 
 -- ---- a move
 
--- why a move is refused, before anything is changed (7 to 11)
+-- why a move is refused, before anything is changed (7 to 11, 18)
 unfoldable pub allowed : Table → State → Move → Verdict
 allowed t s (react r ps) = reactAllowed (ruleAt t r) s ps
 allowed t s (commit b) = firstFault (endFaults (mayCommit t b s) b s)
@@ -213,7 +221,7 @@ abbrev pub within : ℕ → Stepped → Stepped
 within ceiling (to s) = cond (leb (length (s .entries)) ceiling) (to s) (refused TooManyEntries)
 within ceiling (refused r) = refused r
 
--- a move in words: 5, then 7 to 12
+-- a move in words: 5, then 7 to 12 and 18
 unfoldable pub stepWords : ℕ → Table → ℕ → State → List ℕ → Stepped
 stepWords ceiling t i s m = cond (moveOk t m) (within ceiling (step t i s (moveOf t m))) (refused MoveForm)
 

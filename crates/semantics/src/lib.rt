@@ -18,6 +18,7 @@ pub enum Refusal {
     BeginEmits,
     TransactionOpen,
     SerialTooManyEntries,
+    TransactionAborting,
 }
 
 // What a single test says.

@@ -58,7 +58,7 @@ module _ {ceiling : ℕ} {t : Table} {i : ℕ} {w : List ℕ} {s : State} (k : W
   made-malformed v h = record { step = step-malformed ceiling t i (stateIn s) w h ∙ rw v; same = λ q e. refl; workable = k }
 
   module _ (form : moveOk t w ≡ true) where
-    -- 7 to 12
+    -- 7 to 12, 18
     pub made-refused : {q : Refusal} → made .verdict ≡ Denied q → moveVerdict ceiling t (stateIn s) (moveOf t w) ≡ Denied q → MadeAs made ceiling t i w s s
     made-refused v h = record { step = step-formed ceiling t i (stateIn s) w form ∙ rw (h, v); same = λ q e. refl; workable = k }
 

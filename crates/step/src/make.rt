@@ -107,7 +107,7 @@ fn make_end(
     Made { verdict, left }
 }
 
-// One move in words on lent columns: decided (5, 7 to 12) and, where it is allowed, made.
+// One move in words on lent columns: decided (5, 7 to 12, 18) and, where it is allowed, made.
 pub fn make<'a>(
     table: &'a [u32],
     starts: &'a [u32; 65],

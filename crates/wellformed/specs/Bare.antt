@@ -10,11 +10,11 @@ use Rattle.lists.specs.Parts.{keep-map, all-map, any-map, without-map}
 use Rattle.semantics.specs.Words.{itemWord}
 use Rattle.semantics.specs.Table.{Table, Rule, ruleAt, consumed, productAtoms, begins}
 use Rattle.semantics.specs.State.{Entry, State, isMessage, isAbortMark, isMemberMark, owned, stateWords, entryOk, isOwnMark, ownerOk, entriesOk}
-use Rattle.semantics.specs.Move.{unless, both, Move, react, commit, abort, nothing, picked, onPorts, ownersAt, ownersFit, hasId, merged, products}
-use Rattle.semantics.specs.Move.{reacted, entriesIn, toGlobal, freed, ended, allowed, applied}
+use Rattle.semantics.specs.Move.{unless, both, Move, react, commit, abort, nothing, picked, onPorts, ownersAt, ownersFit, isZero, hasId, merged, products}
+use Rattle.semantics.specs.Move.{reacted, entriesIn, mayAbort, takesPart, toGlobal, freed, ended, allowed, applied}
 use Rattle.semantics.specs.declared.Atom.{Atom}
 use Rattle.semantics.specs.declared.Sizes.{Sizes}
-use Rattle.semantics.specs.declared.Refusal.the-variants.{WrongPick, WrongOwner, NoTransaction, EndNotAllowed, NoMoreIds}
+use Rattle.semantics.specs.declared.Refusal.the-variants.{WrongPick, WrongOwner, NoTransaction, EndNotAllowed, NoMoreIds, TransactionAborting}
 
 -- an entry and a state without origins; two states with the same `bareState` differ in origins alone
 abbrev pub bare : Entry → Entry
@@ -64,18 +64,26 @@ ownersAt-bare s ps = ap (map (λ e. e .owner)) (picked-bare s ps) ∙ owners-bar
 valuesAt-bare : (s : State) (ps : List ℕ) → map (λ e. e .value) (picked (bareState s) ps) ≡ map (λ e. e .value) (picked s ps)
 valuesAt-bare s ps = ap (map (λ e. e .value)) (picked-bare s ps) ∙ values-bare (picked s ps)
 
+abort-bare : (s : State) (b : ℕ) → mayAbort b (bareState s) ≡ mayAbort b s
+abort-bare s b = ap (any isAbortMark) (keep-map bare (owned b) (s .entries)) ∙ any-map bare isAbortMark (entriesIn b s)
+
+part-bare : (s : State) (os : List ℕ) → all (takesPart (bareState s)) os ≡ all (takesPart s) os
+part-bare s os = λ k. all (λ o. isZero o || not (abort-bare s o k)) os
+
 pub allowed-bare : (t : Table) (s : State) (m : Move) → allowed t (bareState s) m ≡ allowed t s m
 unfolding allowed
 allowed-bare t s (react r ps) = λ k.
     both (unless (distinct ps && (ap (onPorts (consumed (ruleAt t r))) (picked-bare s ps) ∙ onPorts-bare (consumed (ruleAt t r)) (picked s ps)) k) WrongPick)
-    (both (unless (ownersFit (ruleAt t r .class) (ownersAt-bare s ps k)) WrongOwner) (unless (hasId (ruleAt t r) s) NoMoreIds))
+    (both (unless (ownersFit (ruleAt t r .class) (ownersAt-bare s ps k)) WrongOwner)
+    (both (unless ((ap (all (takesPart (bareState s))) (ownersAt-bare s ps) ∙ part-bare s (ownersAt s ps)) k) TransactionAborting)
+    (unless (hasId (ruleAt t r) s) NoMoreIds)))
 allowed-bare t s (commit b) = λ k.
     both (unless (ltb 0 b && any-map bare (owned b) (s .entries) k) NoTransaction)
     (unless ((ap (all (λ e. not (isAbortMark e) && (not (isMessage e) || ltb (e .port) (t .sizes .globals)))) (keep-map bare (owned b) (s .entries))
     ∙ all-map bare (λ e. not (isAbortMark e) && (not (isMessage e) || ltb (e .port) (t .sizes .globals))) (entriesIn b s)) k) EndNotAllowed)
 allowed-bare t s (abort b) = λ k.
     both (unless (ltb 0 b && any-map bare (owned b) (s .entries) k) NoTransaction)
-    (unless ((ap (any isAbortMark) (keep-map bare (owned b) (s .entries)) ∙ any-map bare isAbortMark (entriesIn b s)) k) EndNotAllowed)
+    (unless (abort-bare s b k) EndNotAllowed)
 
 -- ---- what a move leaves
 

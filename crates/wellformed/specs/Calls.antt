@@ -1,7 +1,7 @@
--- The same of the public calls: the words that an accepted move or run wrote are an accepted state, and a run's refused move has an own number 5 or 7 to 12.
-use Prim.Native.Nat.{ℕ, _≤_}
+-- The same of the public calls: the words that an accepted move or run wrote are an accepted state, and a run's refused move has an own number 5,
+-- 7 to 12, or 18.
+use Prim.Native.Nat.{ℕ}
 use mathlib.Core.List.{List}
-use mathlib.Core.Logic.{_⊎_}
 use mathlib.Core.Path.{_≡_, ap}
 use native.Mathlib.Omega.{arith}
 use lib.ListN.{take}
@@ -12,6 +12,7 @@ use Rattle.semantics.specs.declared.Verdict.the-variants.{Allowed}
 use Rattle.wellformed.specs.Results.{write-accepted, move-refused, written}
 use Rattle.wellformed.specs.MoveKeeps.{move-keeps}
 use Rattle.wellformed.specs.RunKeeps.{run-keeps, run-refused}
+use Rattle.wellformed.specs.OwnNumbers.{OwnNumber}
 
 check-passes : (T S : List ℕ) → stateVerdict T S ≡ Allowed → checkState T S .number ≡ 0
 unfolding checkState
@@ -34,7 +35,7 @@ runLog-keeps T S L target h =
     rw (written x target ws e) (check-passes T ws (run-keeps lineCeiling (omega arith) T S L target ws e .0))
 
 pub runLog-own : (T S L target : List ℕ) → runLog T S L target .number ≡ 16
-    → (runLog T S L target .own ≡ 5) ⊎ ((7 ≤ runLog T S L target .own) × (runLog T S L target .own ≤ 12))
+    → OwnNumber (runLog T S L target .own)
 unfolding runLog
 runLog-own T S L target h =
     let (i, r, e) = move-refused (runResult lineCeiling T S L target) h in

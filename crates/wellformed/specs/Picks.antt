@@ -15,8 +15,8 @@ use Rattle.lists.specs.Smallest.{least-among}
 use Rattle.lists.specs.Removed.{keep-without, length-without}
 use Rattle.semantics.specs.Table.{Rule, consumed}
 use Rattle.semantics.specs.State.{Entry, State, isMessage, isMemberMark}
-use Rattle.semantics.specs.Move.{isZero, nothing, entryAt, picked, onPorts, picksOk, ownersAt, ownersFit, hasId, reactFaults, reactAllowed}
-use Rattle.semantics.specs.declared.Refusal.the-variants.{WrongPick, WrongOwner, NoMoreIds}
+use Rattle.semantics.specs.Move.{isZero, nothing, entryAt, picked, onPorts, picksOk, ownersAt, ownersFit, takesPart, hasId, reactFaults, reactAllowed}
+use Rattle.semantics.specs.declared.Refusal.the-variants.{WrongPick, WrongOwner, NoMoreIds, TransactionAborting}
 use Rattle.semantics.specs.declared.Verdict.the-variants.{Allowed}
 use Rattle.wellformed.specs.Verdicts.{unless-allowed, passed-each}
 
@@ -51,17 +51,19 @@ module _ (R : Rule) (s : State) (ps : List ℕ) where
     pub different : distinct ps ≡ true
     pub ports : onPorts (consumed R) (picked s ps) ≡ true
     pub owners : ownersFit (R .class) (ownersAt s ps) ≡ true
+    pub part : all (takesPart s) (ownersAt s ps) ≡ true
     pub ids : hasId R s ≡ true
 
   pub react-given : reactAllowed R s ps ≡ Allowed → ReactGiven
   react-given h =
-      let (a, (b, (c, _))) = passed-each (reactFaults R s ps) h in
+      let (a, (b, (c, (d, _)))) = passed-each (reactFaults R s ps) h in
       let k = unless-allowed (picksOk R s ps) WrongPick a in
       record {
         different = and-left (distinct ps) (onPorts (consumed R) (picked s ps)) k;
         ports = and-right (distinct ps) (onPorts (consumed R) (picked s ps)) k;
         owners = unless-allowed (ownersFit (R .class) (ownersAt s ps)) WrongOwner b;
-        ids = unless-allowed (hasId R s) NoMoreIds c;
+        part = unless-allowed (all (takesPart s) (ownersAt s ps)) TransactionAborting c;
+        ids = unless-allowed (hasId R s) NoMoreIds d;
       }
 
 module _ {R : Rule} {s : State} {ps : List ℕ} (g : ReactGiven R s ps) where

@@ -9,7 +9,7 @@ use Rattle.semantics.specs.Answers.{number, answerOf, Result, write, refuse, re
 use Rattle.semantics.specs.declared.Refusal.{Refusal}
 use Rattle.semantics.specs.declared.Refusal.the-variants.{TableSizes, TableContents, StateSizes, StateContents, MoveForm, TargetTooShort, WrongPick}
 use Rattle.semantics.specs.declared.Refusal.the-variants.{WrongOwner, NoTransaction, EndNotAllowed, NoMoreIds, TooManyEntries, LogSizes, BeginEmits}
-use Rattle.semantics.specs.declared.Refusal.the-variants.{TransactionOpen, SerialTooManyEntries}
+use Rattle.semantics.specs.declared.Refusal.the-variants.{TransactionOpen, SerialTooManyEntries, TransactionAborting}
 use Rattle.semantics.specs.declared.Verdict.{Verdict}
 use Rattle.semantics.specs.declared.Verdict.the-variants.{Allowed, Denied}
 
@@ -41,6 +41,7 @@ number-own LogSizes = omega arith
 number-own BeginEmits = omega arith
 number-own TransactionOpen = omega arith
 number-own SerialTooManyEntries = omega arith
+number-own TransactionAborting = omega arith
 
 pub write-accepted : (x : Result) → answerOf (outcomeOf x) .number ≡ 0 → (ws : List ℕ) × (x ≡ write ws)
 write-accepted (write ws) h = (ws, refl)

@@ -1,4 +1,4 @@
--- An accepted run's words pass the state check; a refused one's own number is 5, or 7 to 12.
+-- An accepted run's words pass the state check; a refused one's own number is 5, 7 to 12, or 18.
 use Prim.Native.Nat.{ℕ, _≤_}
 use mathlib.Core.List.{List}
 use mathlib.Core.Path.{_≡_, refl, ap, _∙_}
@@ -9,7 +9,7 @@ use Rattle.semantics.specs.State.{State, entryCount, stateOf, stateWords}
 use Rattle.semantics.specs.Move.{unless, both}
 use Rattle.semantics.specs.Log.{movesOf, logSizesOk, Ran, completed, stopped, run}
 use Rattle.semantics.specs.Answers.{stateVerdict, answerOf, Result, write, refuseMove, outcomeOf, unlessDenied, hasWords, ranResult, logVerdict}
-use Rattle.semantics.specs.Answers.{runOf, runResult}
+use Rattle.semantics.specs.Answers.{number, runOf, runResult}
 use Rattle.semantics.specs.declared.Refusal.{Refusal}
 use Rattle.semantics.specs.declared.Refusal.the-variants.{LogSizes}
 use Rattle.semantics.specs.declared.Verdict.{Verdict}
@@ -46,7 +46,7 @@ run-keeps ceiling c T S L target ws h =
     let held = run-holds T table ceiling 0 (stateOf S) (movesOf L) s c (stateOf-held T S state) e in
     (rw w at (words-pass T table s held), rw (← w, entryCount-stateWords s) (held .few), ap (λ (r : Result). answerOf (outcomeOf r) .words) h)
 
-pub run-refused : (ceiling : ℕ) (T S L target : List ℕ) (i : ℕ) (r : Refusal) → runResult ceiling T S L target ≡ refuseMove i r → OwnNumber r
+pub run-refused : (ceiling : ℕ) (T S L target : List ℕ) (i : ℕ) (r : Refusal) → runResult ceiling T S L target ≡ refuseMove i r → OwnNumber (number r)
 unfolding runResult
 run-refused ceiling T S L target i r h =
     stopped-number ceiling (tableOf T) 0 (stateOf S) (movesOf L) i r
@@ -55,7 +55,7 @@ run-refused ceiling T S L target i r h =
 -- so have single calls one after another: no later one is refused for its table, its state or its target (1 to 4, 6)
 pub one-by-one-refused : (ceiling : ℕ) → ceiling ≤ 1024 → (T S target : List ℕ) → stateVerdict T S ≡ Allowed → 2050 ≤ length target
     → (ms : List (List ℕ)) (i : ℕ) (r : Refusal)
-    → oneByOne ceiling T S ms target ≡ refuseMove i r → OwnNumber r
+    → oneByOne ceiling T S ms target ≡ refuseMove i r → OwnNumber (number r)
 one-by-one-refused ceiling c T S target h l ms i r e =
     stopped-number ceiling (tableOf T) 0 (stateOf S) ms i r
     (ranResult-refuse (run ceiling (tableOf T) 0 (stateOf S) ms) i r (run-one-by-one ceiling c T S target h l ms ∙ e))
