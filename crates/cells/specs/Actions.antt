@@ -95,25 +95,25 @@ Whole t f b os (react r ps) = Unit
 Whole t f b os (commit c) = ((o : Origin) (e : Entry) → f o ≡ some e → e .owner ≡ b → mayLeave t e ≡ true) × AllMarks f b os
 Whole t f b os (abort c) = ((o : Origin) × (e : Entry) × (f o ≡ some e) × (e .owner ≡ b) × (isAbortMark e ≡ true)) × AllMarks f b os
 
--- whether a cell holds a member mark of one of the transactions bs
-abbrev pub markIn : List ℕ → Option Entry → Bool
-markIn bs none = false
-markIn bs (some e) = isIn (e .owner) bs && isMemberMark e
+-- whether a cell holds a mark of this kind, an abort mark (2) or a member mark (3), of one of the transactions bs
+abbrev pub markIn : ℕ → List ℕ → Option Entry → Bool
+markIn kind bs none = false
+markIn kind bs (some e) = isIn (e .owner) bs && eqb (e .kind) kind
 
--- the members ms of a reaction that begins nothing are those of the transactions bs that it touches
+-- the members ms of a reaction that begins nothing are those of the transactions bs that it touches, and none of these has an abort mark
 abbrev pub Inside : Table → Cells → List ℕ → List Origin → Move → Type 0
-Inside t f bs ms (react r ps) = begins (ruleAt t r) ≡ false → (o : Origin) → markIn bs (f o) ≡ isInO o ms
+Inside t f bs ms (react r ps) = begins (ruleAt t r) ≡ false → (o : Origin) → (markIn 3 bs (f o) ≡ isInO o ms) × (markIn 2 bs (f o) ≡ false)
 Inside t f bs ms (commit b) = Unit
 Inside t f bs ms (abort b) = Unit
 
 -- it goes by the entries of these transactions alone
-pub mark-same : (bs : List ℕ) (x y : Option Entry) → ((e : Entry) → x ≡ some e → isIn (e .owner) bs ≡ true → y ≡ some e)
-    → ((e : Entry) → y ≡ some e → isIn (e .owner) bs ≡ true → x ≡ some e) → markIn bs x ≡ markIn bs y
-mark-same bs none none forth back = refl
-mark-same bs none (some e) forth back = by-bool (isIn (e .owner) bs) (λ k. absurd (none-some (back e refl k))) (λ k. rw k)
-mark-same bs (some e) none forth back = by-bool (isIn (e .owner) bs) (λ k. absurd (none-some (forth e refl k))) (λ k. rw k)
-mark-same bs (some e) (some d) forth back =
-    by-bool (isIn (e .owner) bs) (λ k. ap (λ (z : Entry). isIn (z .owner) bs && isMemberMark z) (sym (some-inj (forth e refl k))))
+pub mark-same : (kind : ℕ) (bs : List ℕ) (x y : Option Entry) → ((e : Entry) → x ≡ some e → isIn (e .owner) bs ≡ true → y ≡ some e)
+    → ((e : Entry) → y ≡ some e → isIn (e .owner) bs ≡ true → x ≡ some e) → markIn kind bs x ≡ markIn kind bs y
+mark-same kind bs none none forth back = refl
+mark-same kind bs none (some e) forth back = by-bool (isIn (e .owner) bs) (λ k. absurd (none-some (back e refl k))) (λ k. rw k)
+mark-same kind bs (some e) none forth back = by-bool (isIn (e .owner) bs) (λ k. absurd (none-some (forth e refl k))) (λ k. rw k)
+mark-same kind bs (some e) (some d) forth back =
+    by-bool (isIn (e .owner) bs) (λ k. ap (λ (z : Entry). isIn (z .owner) bs && eqb (z .kind) kind) (sym (some-inj (forth e refl k))))
     (λ k. by-bool (isIn (d .owner) bs)
     (λ l. absurd (clash l (subst (λ (z : Entry). isIn (z .owner) bs ≡ false) (some-inj (back d refl l)) k))) (λ l. rw (k, l)))
 

@@ -18,7 +18,8 @@ use Rattle.cells.specs.Origins.{orElse, bindO, isInO, look, some-inj, is
 use Rattle.cells.specs.Rules.{values}
 use Rattle.cells.specs.Deeds.{Deed}
 use Rattle.cells.specs.Cells.{Cells, Action, apply, mine, Local, frame-keep, frame-from, not-in, swap-cells}
-use Rattle.cells.specs.Actions.{Seen, cellValue, received, actionBy, actionOf, astep, later, room, Tests, AllMarks, Whole, Inside, mark-same, Ok, mine-in, one-in, act-local}
+use Rattle.cells.specs.Actions.{Seen, cellValue, received, actionBy, actionOf, astep, later, room, Tests, AllMarks, Whole, markIn, Inside, mark-same, Ok, mine-in}
+use Rattle.cells.specs.Actions.{one-in, act-local}
 
 -- they touch no transaction in common, and neither takes what the other takes
 pub record Apart (m x : Deed) : Type 0 where
@@ -128,8 +129,11 @@ module _ (t : Table) (F : Seen) (m x : Deed) (P : Apart m x) (km : Ok t F m) (kx
   inside-after : Inside t f2 (m .touched) (m .members) (m .move)
   inside-after = go (m .move) (km .inside)
     where
+      same : (kind : ℕ) (o : Origin) → markIn kind (m .touched) (f2 o) ≡ markIn kind (m .touched) (F .cell o)
+      same kind o = mark-same kind (m .touched) (f2 o) (F .cell o) (λ e h k. theirs-before o e h k) (λ e h k. theirs-after o e h k)
+
       go : (mv : Move) → Inside t (F .cell) (m .touched) (m .members) mv → Inside t f2 (m .touched) (m .members) mv
-      go (react r ps) w = λ b o. mark-same (m .touched) (f2 o) (F .cell o) (λ e h k. theirs-before o e h k) (λ e h k. theirs-after o e h k) ∙ w b o
+      go (react r ps) w = λ b o. (same 3 o ∙ w b o .0, same 2 o ∙ w b o .1)
       go (commit b) w = tt
       go (abort b) w = tt
 

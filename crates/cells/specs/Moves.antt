@@ -140,7 +140,7 @@ react-passes t s r ps h = react-given (ruleAt t r) s ps h
 
 pub react-allowed : (t : Table) (s : State) (r : ℕ) (ps : List ℕ) → ReactGiven (ruleAt t r) s ps → allowed t s (react r ps) ≡ Allowed
 unfolding allowed
-react-allowed t s r ps p = rw (p .different, p .ports, p .owners, p .ids)
+react-allowed t s r ps p = rw (p .different, p .ports, p .owners, p .part, p .ids)
 
 pub commit-passes : (t : Table) (s : State) (b : ℕ) → allowed t s (commit b) ≡ Allowed → (isOpen b s ≡ true) × (mayCommit t b s ≡ true)
 unfolding allowed

@@ -10,24 +10,25 @@ use native.Mathlib.Omega.{arith}
 use lib.Dec.{eqb, ltb}
 use borrow.Author.Tests.{eqb-true, eqb-false, eq-eqb, ne-eqb}
 use lib.ListN.{length}
-use Rattle.lists.specs.Lists.{isIn, least}
+use Rattle.lists.specs.Lists.{all, isIn, least}
 use Rattle.lists.specs.Choices.{by-bool, clash, is-false}
-use Rattle.lists.specs.Numbers.{least-in, least-some, least-pos, isIn-map, isIn-unmap}
+use Rattle.lists.specs.Numbers.{all-isIn, least-in, least-some, least-pos, isIn-map, isIn-unmap}
 use Rattle.lists.specs.Each.{All}
 use Rattle.semantics.specs.Table.{Table, Rule, ruleAt, consumed, productAtoms, begins}
 use Rattle.semantics.specs.State.{Origin, Entry, State}
-use Rattle.semantics.specs.Move.{react, picked, onPorts, ownersAt, ownersFit, merged, reacted}
+use Rattle.semantics.specs.Move.{react, picked, onPorts, ownersAt, ownersFit, takesPart, merged, reacted}
 use Rattle.semantics.specs.Serial.{originsOf, membersOf}
 use Rattle.wellformed.specs.Picks.{ReactGiven}
 use Rattle.cells.specs.Origins.{orElse, omap, bindO, isInO, distinctO, look, none-some, is-none}
 use Rattle.cells.specs.ByOrigin.{look-map, ports-messages, picks-distinct}
-use Rattle.cells.specs.Rules.{Shape, plain, begin, inner, Shaped, owners, values, touchedBy, touched-plain, touched-begin, touched-inner, touched-merge, make}
+use Rattle.cells.specs.Rules.{Shape, plain, begin, inner, Shaped, owners, values, zeros, global-fit}
+use Rattle.cells.specs.Rules.{touchedBy, touched-plain, touched-begin, touched-inner, touched-merge, make}
 use Rattle.cells.specs.Deeds.{Deed, withMove}
 use Rattle.cells.specs.Cells.{apply, apply-inv}
 use Rattle.cells.specs.Actions.{Seen, strip, received, reactAction, actionBy, later, Tests, markIn, Ok}
 use Rattle.cells.specs.Commute.{values-found}
 use Rattle.cells.specs.Moves.{productsOf, look-reacted, uniq-reacted}
-use Rattle.cells.specs.Simulation.{view, view-cell, cell-eq, mark-nowhere, marks-listed}
+use Rattle.cells.specs.Simulation.{view, view-cell, cell-eq, mark-nowhere, marks-listed, cells-part}
 use Rattle.cells.specs.Marks.{From, came, owner-live}
 use Rattle.cells.specs.Steps.{later-le}
 use Rattle.cells.specs.Rename.{rename, Live, Rel, ports-rename, owners-rename, values-rename, fit-rename, make-rename, cell-rename, back-again, nowAt, picked-again, live-zero}
@@ -79,14 +80,6 @@ module _ (t : Table) (sd : Shaped t) (c : State) (F : Seen) (ρ : ℕ → ℕ) (
 
   fit-c : ownersFit (R .class) os′ ≡ true
   fit-c = ap (ownersFit (R .class)) owners-c ∙ fit-rename ρ (R .class) (owners es) (rel .zero-is) (λ v q x. live-zero c F ρ rel v (owner-of v q) x) (T .1)
-
-  pub passes : ReactGiven R c qs
-  passes = record {
-    different = picks-distinct (c .entries) qs (rel .uniq) (seen-again .2) ∙ ap distinctO (seen-again .1) ∙ T .3;
-    ports = ap (onPorts (consumed R)) (seen-again .0) ∙ ports-rename ρ (consumed R) es ∙ T .0;
-    owners = fit-c;
-    ids = ap (λ (n : ℕ). not (begins R) || ltb n 65536) (rel .next-is) ∙ K .roomy;
-  }
 
   -- the new name
   abbrev pub ρ′ : ℕ → ℕ
@@ -148,26 +141,51 @@ module _ (t : Table) (sd : Shaped t) (c : State) (F : Seen) (ρ : ℕ → ℕ) (
           (λ x. isIn-map ρ v bs x ∙ sym x)
           (λ x. is-false (isIn (ρ v) (map ρ bs)) (λ y. other x (isIn-unmap ρ (ρ v) bs y) (bs-inner z b)) ∙ sym x)
 
-  -- ---- the members
+  -- ---- the members, and abort marks
 
-  mark-named : (o : Origin) → markIn bs′ (omap (rename ρ) (F .cell o)) ≡ markIn bs (F .cell o)
-  mark-named o = go (F .cell o) refl
+  mark-named : (kind : ℕ) (o : Origin) → markIn kind bs′ (omap (rename ρ) (F .cell o)) ≡ markIn kind bs (F .cell o)
+  mark-named kind o = go (F .cell o) refl
     where
-      go : (x : Option Entry) → F .cell o ≡ x → markIn bs′ (omap (rename ρ) x) ≡ markIn bs x
+      go : (x : Option Entry) → F .cell o ≡ x → markIn kind bs′ (omap (rename ρ) x) ≡ markIn kind bs x
       go none h = refl
       go (some e) h = rw (touched-same o e h)
 
   -- made in the same members
   pub members-again : begins R ≡ false → (o : Origin) → isInO o (membersOf t (a .place) c (react r qs)) ≡ isInO o (a .members)
-  members-again bare o = members ∙ ap (markIn bs′) (rel .cells o) ∙ mark-named o ∙ K .inside bare o
+  members-again bare o = members ∙ ap (markIn 3 bs′) (rel .cells o) ∙ mark-named 3 o ∙ K .inside bare o .0
     where
-      members : isInO o (membersOf t (a .place) c (react r qs)) ≡ markIn bs′ (view c .cell o)
+      members : isInO o (membersOf t (a .place) c (react r qs)) ≡ markIn 3 bs′ (view c .cell o)
       members = go (sd r)
         where
-          go : Shape R → isInO o (membersOf t (a .place) c (react r qs)) ≡ markIn bs′ (view c .cell o)
-          go (plain z b h) = rw (z, b) (sym (mark-nowhere (view c .cell o)))
+          go : Shape R → isInO o (membersOf t (a .place) c (react r qs)) ≡ markIn 3 bs′ (view c .cell o)
+          go (plain z b h) = rw (z, b) (sym (mark-nowhere 3 (view c .cell o)))
           go (begin z b h m rest x w k) = absurd (clash b bare)
           go (inner z b h k) = rw (z, b) (sym (marks-listed os′ c (rel .uniq) o))
+
+  -- ---- allowed
+
+  -- and none of them has an abort mark
+  part-again : all (takesPart c) os′ ≡ true
+  part-again = go (sd r)
+    where
+      global : R .class ≡ 0 → all (takesPart c) os′ ≡ true
+      global z = all-isIn (takesPart c) os′ (λ v i. rw (eq-eqb v 0 (zeros os′ (global-fit R os′ z fit-c) v i)))
+
+      go : Shape R → all (takesPart c) os′ ≡ true
+      go (plain z b h) = global z
+      go (begin z b h m rest x w k) = global z
+      go (inner z b h k) = cells-part os′ c (rel .uniq) (λ o.
+          sym (ap (λ (l : List ℕ). markIn 2 l (view c .cell o)) (touched-inner R (c .next) os′ z b))
+          ∙ ap (markIn 2 bs′) (rel .cells o) ∙ mark-named 2 o ∙ K .inside b o .1)
+
+  pub passes : ReactGiven R c qs
+  passes = record {
+    different = picks-distinct (c .entries) qs (rel .uniq) (seen-again .2) ∙ ap distinctO (seen-again .1) ∙ T .3;
+    ports = ap (onPorts (consumed R)) (seen-again .0) ∙ ports-rename ρ (consumed R) es ∙ T .0;
+    owners = fit-c;
+    part = part-again;
+    ids = ap (λ (n : ℕ). not (begins R) || ltb n 65536) (rel .next-is) ∙ K .roomy;
+  }
 
   -- ---- the cells afterwards
 

@@ -1,6 +1,6 @@
 -- An allowed move of a log is allowed on the state's cells, and leaves the cells that it leaves.
 use mathlib.Core.Path.{_≡_, refl, sym, ap, subst, _∙_, fun-ext}
-use mathlib.Core.Bool.{Bool, true, false, cond, _&&_, false≢true}
+use mathlib.Core.Bool.{Bool, true, false, cond, not, _&&_, false≢true}
 use mathlib.Core.Option.{Option, none, some}
 use mathlib.Core.List.{List, [], _∷_, map}
 use Prim.Native.Nat.{ℕ, suc, _≤_, _<_}
@@ -9,18 +9,20 @@ use lib.Dec.{eqb, ltb}
 use borrow.Author.Tests.{eqb-true, eq-eqb, ne-eqb, ltb-true}
 use lib.ListN.{length}
 use Rattle.lists.specs.Lists.{all, any, isEmpty, isIn, keep, least}
-use Rattle.lists.specs.Tests.{same-test}
-use Rattle.lists.specs.Choices.{clash, and-left, and-right, and-intro}
-use Rattle.lists.specs.Numbers.{isIn-head, isIn-cons, isIn-one}
+use Rattle.lists.specs.Tests.{same-test, or-right-true}
+use Rattle.lists.specs.Choices.{clash, is-false, and-left, and-right, and-intro}
+use Rattle.lists.specs.Numbers.{isIn-head, isIn-cons, isIn-one, all-use, all-isIn}
 use Rattle.lists.specs.Each.{All, All-map, All-keep, all-kept}
 use Rattle.semantics.specs.Table.{Table, Rule, ruleAt, consumed, productAtoms, begins}
 use Rattle.semantics.specs.State.{Origin, Entry, State, isMessage, isAbortMark, isMemberMark, owned}
-use Rattle.semantics.specs.Move.{Move, react, commit, abort, isZero, entryAt, picked, onPorts, ownersFit, merged, reacted, toGlobal, isOpen, entriesIn, mayCommit, mayAbort, ended, allowed, applied}
+use Rattle.semantics.specs.Move.{Move, react, commit, abort, isZero, entryAt, picked, onPorts, ownersFit, takesPart, merged, reacted, toGlobal}
+use Rattle.semantics.specs.Move.{isOpen, entriesIn, mayCommit, mayAbort, ended, allowed, applied}
 use Rattle.semantics.specs.Serial.{originsOf, marksIn, membersOf}
 use Rattle.semantics.specs.declared.Verdict.the-variants.{Allowed}
 use Rattle.wellformed.specs.Picks.{ReactGiven}
 use Rattle.cells.specs.Origins.{orElse, orElse-none, omap, bindO, isInO, look, none-some, look-all, is-none, omap-some}
-use Rattle.cells.specs.ByOrigin.{look-map, Uniq, look-head, look-deeper, look-at, uniq-keep, ports-head, ports-tail, ports-messages, ports-range, picks-distinct, any-look, look-kept, kept-look, origin-look, look-isIn}
+use Rattle.cells.specs.ByOrigin.{look-map, Uniq, look-head, look-deeper, look-at, uniq-keep, ports-head, ports-tail, ports-messages, ports-range, picks-distinct, any-look}
+use Rattle.cells.specs.ByOrigin.{look-any, look-kept, kept-look, origin-look, look-isIn}
 use Rattle.cells.specs.Rules.{Shape, plain, begin, inner, Shaped, owners, values, touchedBy, global-fit, touched-begin, touched-inner, touched-least, touched-positive, touched-merge, make}
 use Rattle.cells.specs.Deeds.{touched, handled, deedAt}
 use Rattle.cells.specs.Cells.{Cells, apply, mine}
@@ -66,36 +68,64 @@ pub record Sim (t : Table) (i k : ℕ) (s : State) (m : Move) : Type 0 where
 
 -- ---- reactions
 
-mark-strip : (bs : List ℕ) (x : Option Entry) → markIn bs (omap strip x) ≡ markIn bs x
-mark-strip bs none = refl
-mark-strip bs (some e) = refl
+mark-strip : (kind : ℕ) (bs : List ℕ) (x : Option Entry) → markIn kind bs (omap strip x) ≡ markIn kind bs x
+mark-strip kind bs none = refl
+mark-strip kind bs (some e) = refl
 
-pub mark-nowhere : (x : Option Entry) → markIn [] x ≡ false
-mark-nowhere none = refl
-mark-nowhere (some e) = refl
+pub mark-nowhere : (kind : ℕ) (x : Option Entry) → markIn kind [] x ≡ false
+mark-nowhere kind none = refl
+mark-nowhere kind (some e) = refl
 
--- the marks of some transactions, listed
-pub marks-listed : (bs : List ℕ) (s : State) → Uniq (s .entries) → (o : Origin) → markIn bs (view s .cell o) ≡ isInO o (marksIn bs s)
+-- the member marks of some transactions, listed
+pub marks-listed : (bs : List ℕ) (s : State) → Uniq (s .entries) → (o : Origin) → markIn 3 bs (view s .cell o) ≡ isInO o (marksIn bs s)
 marks-listed bs s u o =
-    ap (markIn bs) (view-cell s o) ∙ mark-strip bs (look o (s .entries)) ∙ same-test (markIn bs (look o (s .entries))) (isInO o (marksIn bs s)) forth back
+    ap (markIn 3 bs) (view-cell s o) ∙ mark-strip 3 bs (look o (s .entries)) ∙ same-test (markIn 3 bs (look o (s .entries))) (isInO o (marksIn bs s)) forth back
   where
     p : Entry → Bool
     p e = isMemberMark e && isIn (e .owner) bs
 
-    there : (x : Option Entry) → look o (s .entries) ≡ x → markIn bs x ≡ true → isInO o (marksIn bs s) ≡ true
+    there : (x : Option Entry) → look o (s .entries) ≡ x → markIn 3 bs x ≡ true → isInO o (marksIn bs s) ≡ true
     there none w h = absurd (false≢true h)
     there (some e) w h =
         look-isIn o (keep p (s .entries)) e (look-kept p o (s .entries) e u w
         (and-intro (and-right (isIn (e .owner) bs) (isMemberMark e) h) (and-left (isIn (e .owner) bs) (isMemberMark e) h)))
 
-    forth : markIn bs (look o (s .entries)) ≡ true → isInO o (marksIn bs s) ≡ true
+    forth : markIn 3 bs (look o (s .entries)) ≡ true → isInO o (marksIn bs s) ≡ true
     forth h = there (look o (s .entries)) refl h
 
-    back : isInO o (marksIn bs s) ≡ true → markIn bs (look o (s .entries)) ≡ true
+    back : isInO o (marksIn bs s) ≡ true → markIn 3 bs (look o (s .entries)) ≡ true
     back h =
         let q = origin-look o (keep p (s .entries)) h in
         let k = kept-look p o (s .entries) (q .0) u (q .1) in
         rw (k .0) (and-intro (and-right (isMemberMark (q .0)) (isIn (q .0 .owner) bs) (k .1)) (and-left (isMemberMark (q .0)) (isIn (q .0 .owner) bs) (k .1)))
+
+-- 18 on cells: no cell holds an abort mark of these transactions
+pub part-cells : (bs : List ℕ) (s : State) → Uniq (s .entries) → isIn 0 bs ≡ false → all (takesPart s) bs ≡ true → (o : Origin)
+    → markIn 2 bs (view s .cell o) ≡ false
+part-cells bs s u n h o = ap (markIn 2 bs) (view-cell s o) ∙ mark-strip 2 bs (look o (s .entries)) ∙ go (look o (s .entries)) refl
+  where
+    marked-no : (e : Entry) → look o (s .entries) ≡ some e → isIn (e .owner) bs ≡ true → isAbortMark e ≡ true → ⊥
+    marked-no e w i m =
+        let b = e .owner in
+        let z : isZero b ≡ false = ne-eqb b 0 (λ q. clash i (rw q n)) in
+        let k : mayAbort b s ≡ true = look-any isAbortMark o (entriesIn b s) e (look-kept (owned b) o (s .entries) e u w (eq-eqb b b refl)) m in
+        false≢true (sym (rw (z, k)) ∙ all-use (takesPart s) bs b h i)
+
+    go : (x : Option Entry) → look o (s .entries) ≡ x → markIn 2 bs x ≡ false
+    go none w = refl
+    go (some e) w = is-false (markIn 2 bs (some e))
+        (λ m. marked-no e w (and-left (isIn (e .owner) bs) (isAbortMark e) m) (and-right (isIn (e .owner) bs) (isAbortMark e) m))
+
+-- .. and back
+pub cells-part : (bs : List ℕ) (s : State) → Uniq (s .entries) → ((o : Origin) → markIn 2 bs (view s .cell o) ≡ false) → all (takesPart s) bs ≡ true
+cells-part bs s u h = all-isIn (takesPart s) bs (λ v i. or-right-true (isZero v) (ap not (is-false (mayAbort v s) (marked-no v i))))
+  where
+    marked-no : (v : ℕ) → isIn v bs ≡ true → mayAbort v s ≡ true → ⊥
+    marked-no v i m =
+        let q = any-look isAbortMark (entriesIn v s) (uniq-keep (owned v) (s .entries) u) m in
+        let k = kept-look (owned v) (q .0) (s .entries) (q .1) u (q .2) in
+        let j : isIn (q .1 .owner) bs ≡ true = rw (eqb-true (q .1 .owner) v (k .1)) i in
+        clash (and-intro j (q .3)) (sym (ap (markIn 2 bs) (view-look s (q .0) (q .1) (k .0))) ∙ h (q .0))
 
 pub view-found : (ts : List ℕ) (l : List Entry) (ps : List ℕ) → Uniq l → onPorts ts (map (entryAt l) ps) ≡ true
     → map (λ o. look o (map strip l)) (originsOf (map (entryAt l) ps)) ≡ map some (map (entryAt l) ps)
@@ -158,13 +188,17 @@ module _ (t : Table) (sd : Shaped t) (i k : ℕ) (s : State) (r : ℕ) (ps : Lis
   pub fresh-list : (o : Origin) → o .maker ≡ suc i → look o (s .entries) ≡ none
   fresh-list o h = is-none (look o (s .entries)) (λ e q. none-some (sym (fresh-view o h) ∙ view-look s o e q))
 
-  inside-react : begins R ≡ false → (o : Origin) → markIn bs (view s .cell o) ≡ isInO o (membersOf t i s (react r ps))
+  no-zero : isIn 0 bs ≡ false
+  unfolding view
+  no-zero = touched-positive R (s .next) (owners es) (sd r) (P .owners) (g .pos)
+
+  inside-react : begins R ≡ false → (o : Origin) → (markIn 3 bs (view s .cell o) ≡ isInO o (membersOf t i s (react r ps))) × (markIn 2 bs (view s .cell o) ≡ false)
   inside-react bare o = go (sd r)
     where
-      go : Shape R → markIn bs (view s .cell o) ≡ isInO o (membersOf t i s (react r ps))
-      go (plain c b h) = rw (c, b) (mark-nowhere (view s .cell o))
+      go : Shape R → (markIn 3 bs (view s .cell o) ≡ isInO o (membersOf t i s (react r ps))) × (markIn 2 bs (view s .cell o) ≡ false)
+      go (plain c b h) = rw (c, b) (mark-nowhere 3 (view s .cell o), mark-nowhere 2 (view s .cell o))
       go (begin c b h m rest q w x) = absurd (clash b bare)
-      go (inner c b h x) = rw (c, b) (marks-listed (owners es) s u o)
+      go (inner c b h x) = rw (c, b) (marks-listed (owners es) s u o, part-cells (owners es) s u (rw (c, b) at no-zero) (P .part) o)
 
   pub ok-react : Ok t (view s) (deedAt t i k s (react r ps))
   unfolding view handled touched
@@ -173,7 +207,7 @@ module _ (t : Table) (sd : Shaped t) (i k : ℕ) (s : State) (r : ℕ) (ps : Lis
     found = view-found (consumed R) (s .entries) ps u (P .ports);
     tests = (P .ports, P .owners, touched-least R (s .next) (owners es), sym (picks-distinct (s .entries) ps u rng) ∙ P .different);
     own = own-react R (sd r) (s .next) es (P .owners);
-    noZero = touched-positive R (s .next) (owners es) (sd r) (P .owners) (g .pos);
+    noZero = no-zero;
     roomy = P .ids;
     fresh = fresh-view;
     unused = λ op o e h. unused-react R (s .next) (e .owner) (owners es) op (g .below o e h);

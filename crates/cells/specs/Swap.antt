@@ -15,7 +15,8 @@ use Rattle.cells.specs.Origins.{isInO, look, some-inj, found-at, map-fra
 use Rattle.cells.specs.Deeds.{Deed}
 use Rattle.cells.specs.Cells.{Cells, Action, apply, mine, Local, Inner, frame-keep, frame-back, frame-lives, not-in}
 use Rattle.cells.specs.Commute.{Apart, room-down, room-up, gone-picked, ok-after, same-either}
-use Rattle.cells.specs.Actions.{Seen, received, actionBy, actionOf, astep, Tests, AllMarks, Whole, Inside, mark-same, Ok, one-in, act-local, act-inner}
+use Rattle.cells.specs.Actions.{Seen, received, actionBy, actionOf, astep, Tests, AllMarks, Whole, markIn, Inside, mark-same, Ok, one-in}
+use Rattle.cells.specs.Actions.{act-local, act-inner}
 
 -- two moves of the log, the first of which may be made after the second
 pub record Swap (t : Table) (m x : Deed) : Type 0 where
@@ -107,8 +108,11 @@ module _ (t : Table) (F : Seen) (m x : Deed) (S : Swap t m x) (km : Ok t F m) (k
       back : (o : Origin) (e : Entry) → f1 o ≡ some e → isIn (e .owner) (x .touched) ≡ true → F .cell o ≡ some e
       back o e h l = frame-back (F .cell) A (m .touched) (m .place) LA IA o e h (is-false (isIn (e .owner) (m .touched)) (λ k. S .apart (e .owner) k l))
 
+      same : (kind : ℕ) (o : Origin) → markIn kind (x .touched) (F .cell o) ≡ markIn kind (x .touched) (f1 o)
+      same kind o = mark-same kind (x .touched) (F .cell o) (f1 o) (λ e h l. keep-x o e h l) (λ e h l. back o e h l)
+
       go : (mv : Move) → Inside t f1 (x .touched) (x .members) mv → Inside t (F .cell) (x .touched) (x .members) mv
-      go (react r ps) w = λ b o. mark-same (x .touched) (F .cell o) (f1 o) (λ e h l. keep-x o e h l) (λ e h l. back o e h l) ∙ w b o
+      go (react r ps) w = λ b o. (same 3 o ∙ w b o .0, same 2 o ∙ w b o .1)
       go (commit b) w = tt
       go (abort b) w = tt
 
