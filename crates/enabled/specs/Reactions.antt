@@ -8,26 +8,26 @@ use native.Mathlib.Omega.{arith}
 use borrow.Author.Tests.{leb-true, le-leb, ltb-false, eqb-true, eqb-false, eq-eqb, ne-eqb}
 use lib.Dec.{leb, ltb, eqb}
 use lib.ListN.{length, getD, length-map}
-use Rattle.lists.specs.Lists.{given, all, keep, distinct, tuples}
-use Rattle.lists.specs.Tests.{and-after, same-test}
-use Rattle.lists.specs.Choices.{by-bool, cond-false, and-left, and-right}
+use Rattle.lists.specs.Lists.{given, all, keep, distinct, least, tuples}
+use Rattle.lists.specs.Tests.{and-after, and-swap, and-turn, same-test}
+use Rattle.lists.specs.Choices.{by-bool, cond-false, and-left, and-right, and-three}
 use Rattle.lists.specs.Each.{All, All-map, keep-cond}
-use Rattle.lists.specs.Members.{among-map, among-keep, getD-among}
+use Rattle.lists.specs.Members.{Among, among-map, among-keep, getD-among}
 use Rattle.lists.specs.Splits.{All-every}
 use Rattle.lists.specs.Smallest.{all-least}
 use Rattle.lists.specs.Parts.{keep-map}
-use Rattle.lists.specs.Counting.{length-parts}
+use Rattle.lists.specs.Counting.{length-parts, all-and}
 use Rattle.lists.specs.Beside.{allBeside, beside-same}
 use Rattle.lists.specs.Choosing.{groupBase, choicesFrom, choicesByGroup}
 use Rattle.lists.specs.KeyedTuples.{tuples-same, haveKeys, keep-keys, haveGroup, keep-group}
 use Rattle.semantics.specs.Table.{Table, Rule, sizesOf, portCount, classOf, tableOf, ruleAt, hasRole, consumed}
 use Rattle.semantics.specs.State.{Entry, State, isMessage, owned, stateOf}
-use Rattle.semantics.specs.Move.{unless, both, firstFault, react, isZero, nothing, entryAt, picked, onPorts, picksOk, ownersAt, ownersFit, hasId}
+use Rattle.semantics.specs.Move.{unless, both, firstFault, react, isZero, nothing, entryAt, picked, onPorts, picksOk, ownersAt, ownersFit, takesPart, hasId}
 use Rattle.semantics.specs.Move.{reacted, allowed, applied, moveVerdict}
 use Rattle.semantics.specs.Enabled.{reactionsOf, isAllowed}
 use Rattle.semantics.specs.Answers.{tableVerdict, stateVerdict}
 use Rattle.semantics.specs.declared.Sizes.{Sizes}
-use Rattle.semantics.specs.declared.Refusal.the-variants.{WrongPick, WrongOwner, NoMoreIds, TooManyEntries}
+use Rattle.semantics.specs.declared.Refusal.the-variants.{WrongPick, WrongOwner, NoMoreIds, TooManyEntries, TransactionAborting}
 use Rattle.semantics.specs.declared.Verdict.the-variants.{Allowed}
 use Rattle.wellformed.specs.Tables.{well-formed}
 use Rattle.wellformed.specs.States.{state-given}
@@ -57,29 +57,38 @@ room-same ceiling {R} {S} {ps} g =
     (λ h. let l = leb-true left ceiling h in le-leb before most (omega arith))
     (λ h. let l = leb-true before most h in le-leb left ceiling (omega arith))
 
-four-tests : (a b c d : Bool) {e : Bool} → (a ≡ true → b ≡ true → c ≡ true → d ≡ e)
-    → isAllowed (both (firstFault (unless a WrongPick ∷ unless b WrongOwner ∷ unless c NoMoreIds ∷ [])) (unless d TooManyEntries)) ≡ a && b && (c && e)
-four-tests false b c d f = refl
-four-tests true false c d f = refl
-four-tests true true false d f = refl
-four-tests true true true true f = f refl refl refl
-four-tests true true true false f = f refl refl refl
+five-tests : (a b p c d : Bool) {e : Bool} → (a ≡ true → b ≡ true → p ≡ true → c ≡ true → d ≡ e)
+    → isAllowed
+    (both (firstFault (unless a WrongPick ∷ unless b WrongOwner ∷ unless p TransactionAborting ∷ unless c NoMoreIds ∷ [])) (unless d TooManyEntries))
+    ≡ a && (b && p) && (c && e)
+five-tests false b p c d f = refl
+five-tests true false p c d f = refl
+five-tests true true false c d f = refl
+five-tests true true true false d f = refl
+five-tests true true true true true f = f refl refl refl refl
+five-tests true true true true false f = f refl refl refl refl
 
--- 7 and 8
+-- 8 and 18: owners from which a rule of class c may consume
+abbrev mayConsume : ℕ → State → List ℕ → Bool
+mayConsume c S os = ownersFit c os && all (takesPart S) os
+
+-- 7, 8 and 18
 abbrev picksFit : Rule → State → List ℕ → Bool
-picksFit R S ps = picksOk R S ps && ownersFit (R .class) (ownersAt S ps)
+picksFit R S ps = picksOk R S ps && mayConsume (R .class) S (ownersAt S ps)
 
--- only 7 and 8 look at the picks
+-- only they look at the picks
 verdict-is : (ceiling : ℕ) (T : Table) (S : State) (r : ℕ) (ps : List ℕ)
     → isAllowed (moveVerdict ceiling T S (react r ps)) ≡ picksFit (ruleAt T r) S ps && (hasId (ruleAt T r) S && hasRoom ceiling (ruleAt T r) S)
 unfolding moveVerdict allowed applied
 verdict-is ceiling T S r ps =
     let R = ruleAt T r in
-    four-tests (picksOk R S ps) (ownersFit (R .class) (ownersAt S ps)) (hasId R S) (leb (length (reacted R 0 S ps .entries)) ceiling)
-    (λ a b c. room-same ceiling (record {
+    five-tests (picksOk R S ps) (ownersFit (R .class) (ownersAt S ps)) (all (takesPart S) (ownersAt S ps)) (hasId R S)
+    (leb (length (reacted R 0 S ps .entries)) ceiling)
+    (λ a b p c. room-same ceiling (record {
       different = and-left (distinct ps) (onPorts (consumed R) (picked S ps)) a;
       ports = and-right (distinct ps) (onPorts (consumed R) (picked S ps)) a;
       owners = b;
+      part = p;
       ids = c;
     }))
 
@@ -99,18 +108,17 @@ ports-owners ok S [] (p ∷ ps) = refl
 ports-owners ok S (t ∷ ts) [] = refl
 ports-owners ok S (t ∷ ts) (p ∷ ps) =
     let e = entryAt (S .entries) p in
-    rw (← (ports-owners ok S ts ps)) (turn (isMessage e && eqb (e .port) t) (onPorts ts (picked S ps)) (ok (e .owner)) (all ok (ownersAt S ps)))
-  where
-    turn : (a b c d : Bool) → a && b && (c && d) ≡ a && c && (b && d)
-    turn true true c d = refl
-    turn true false true d = refl
-    turn true false false d = refl
-    turn false b c d = refl
+    rw (← (ports-owners ok S ts ps)) (and-turn (isMessage e && eqb (e .port) t) (onPorts ts (picked S ps)) (ok (e .owner)) (all ok (ownersAt S ps)))
 
-module _ {z : Sizes} {next : ℕ} {e : Entry} (right : EntryRight z next e) where
+-- .. and takes part
+abbrev ownerMay : (ℕ → Bool) → ℕ → ℕ → Bool
+ownerMay part c o = ownerWanted c o && part o
+
+module _ {z : Sizes} {next : ℕ} {e : Entry} (right : EntryRight z next e) (part : ℕ → Bool) where
   -- what may be consumed has an owner as the class of its port wants it
-  takeable-owner : takeable z e ≡ isMessage e && ownerWanted (classOf z (e .port)) (e .owner)
-  takeable-owner = go (ltb (e .port) (z .globals)) refl (ltb (e .port) (z .globals + z .locals))
+  takeable-owner : takeable z part e ≡ isMessage e && ownerMay part (classOf z (e .port)) (e .owner)
+  takeable-owner = ap (λ (b : Bool). b && part (e .owner)) (go (ltb (e .port) (z .globals)) refl (ltb (e .port) (z .globals + z .locals)))
+      ∙ and-assoc (isMessage e) (ownerWanted (classOf z (e .port)) (e .owner)) (part (e .owner))
     where
       inner : ltb (e .port) (z .globals) ≡ false → ltb 0 (e .owner) ≡ true
       inner q = by-bool (ltb 0 (e .owner)) (λ h. h) (λ h.
@@ -125,12 +133,13 @@ module _ {z : Sizes} {next : ℕ} {e : Entry} (right : EntryRight z next e) wher
       go false q true = rw (inner q)
       go false q false = rw (inner q)
 
-  takeable-on : (t c : ℕ) → classOf z t ≡ c → takeableOn z t e ≡ isWanted (ownerWanted c) t e
+  takeable-on : (t c : ℕ) → classOf z t ≡ c → takeableOn z part t e ≡ isWanted (ownerMay part c) t e
   takeable-on t c h = go (eqb (e .port) t) (λ q. rw (← h, ← (eqb-true (e .port) t q)) takeable-owner)
     where
-      go : (b : Bool) → (b ≡ true → takeable z e ≡ isMessage e && ownerWanted c (e .owner)) → takeable z e && b ≡ isMessage e && b && ownerWanted c (e .owner)
-      go true f = rw (and-true (takeable z e), and-true (isMessage e)) (f refl)
-      go false f = rw (and-false (takeable z e), and-false (isMessage e))
+      go : (b : Bool) → (b ≡ true → takeable z part e ≡ isMessage e && ownerMay part c (e .owner))
+          → takeable z part e && b ≡ isMessage e && b && ownerMay part c (e .owner)
+      go true f = rw (and-true (takeable z part e), and-true (isMessage e)) (f refl)
+      go false f = rw (and-false (takeable z part e), and-false (isMessage e))
 
 -- ---- the ports of a rule
 
@@ -160,10 +169,20 @@ consumed-below t h r l = All-map {Q = λ p. p < 256} (λ p k. k .0) (consumed (r
 abbrev pub choicesOf : Rule → List ℕ → List (List ℕ)
 choicesOf R ks = cond (eqb (R .class) 1) (choicesByGroup ks (consumed R)) (choicesFrom ks [] (consumed R))
 
-owners-each : (c : ℕ) → (c ≡ 1 → ⊥) → (os : List ℕ) → all (ownerWanted c) os ≡ ownersFit c os
-owners-each c n os = by-bool (eqb c 0) (λ h. rw h) (λ h. rw (h, ne-eqb c 1 n))
+owners-each : (S : State) (c : ℕ) → (c ≡ 1 → ⊥) → (os : List ℕ) → all (ownerMay (takesPart S) c) os ≡ mayConsume c S os
+owners-each S c n os = all-and (ownerWanted c) (takesPart S) os ∙ ap (λ (b : Bool). b && all (takesPart S) os) wanted
+  where
+    wanted : all (ownerWanted c) os ≡ ownersFit c os
+    wanted = by-bool (eqb c 0) (λ h. rw h) (λ h. rw (h, ne-eqb c 1 n))
 
-module _ {z : Sizes} {S : State} {ks : List ℕ} (few : portCount z ≤ 256) (state : StateRight z S) (keyed : Keyed z (S .entries) ks) where
+-- .. and of a local rule, with any one of them for all
+owners-one : (S : State) (os : List ℕ) (one : ℕ) → Among one os → all (λ o. ownerMay (takesPart S) 1 o && eqb o one) os ≡ mayConsume 1 S os
+owners-one S os one m =
+    all-least (ownerMay (takesPart S) 1) os one m
+    ∙ (λ k. all (λ o. and-swap (ltb 0 o) (takesPart S o) (eqb o (least os)) k) os)
+    ∙ all-and (λ o. ltb 0 o && eqb o (least os)) (takesPart S) os
+
+module _ {z : Sizes} {S : State} {ks : List ℕ} (few : portCount z ≤ 256) (state : StateRight z S) (keyed : Keyed z (takesPart S) (S .entries) ks) where
   abbrev n : ℕ
   n = length (S .entries)
 
@@ -173,55 +192,57 @@ module _ {z : Sizes} {S : State} {ks : List ℕ} (few : portCount z ≤ 256) (st
   at-right : (p : ℕ) → p < n → EntryRight z (S .next) (at p)
   at-right p h = state .each (at p) (getD-among nothing (S .entries) p h)
 
-  small : (p : ℕ) → p < n → takeable z (at p) ≡ true → at p .port < 256
+  small : (p : ℕ) → p < n → takeable z (takesPart S) (at p) ≡ true → at p .port < 256
   small p h q =
-      let k = and-left (isMessage (at p)) (given (ltb (at p .port) (z .globals)) (owned 0 (at p))) q in
+      let (k, _, _) = and-three (isMessage (at p)) (given (ltb (at p .port) (z .globals)) (owned 0 (at p))) (takesPart S (at p .owner)) q in
       let l = at-right p h .message (eqb-true (at p .kind) 0 k) in
       omega arith
 
   -- ports and owners of the picks of a rule that is not local
   plain-fits : (c : ℕ) → (c ≡ 1 → ⊥) → (ts ps : List ℕ) → All (OfClass z c) ts → All (λ p. p < n) ps
-      → onPorts ts (picked S ps) && ownersFit c (ownersAt S ps) ≡ haveKeys ks ts ps
+      → onPorts ts (picked S ps) && mayConsume c S (ownersAt S ps) ≡ haveKeys ks ts ps
   plain-fits c other ts ps h k =
-      rw (← (owners-each c other (ownersAt S ps))) (ports-owners (ownerWanted c) S ts ps)
-      ∙ beside-same (λ t p. isWanted (ownerWanted c) t (at p)) (λ t p. eqb (getD ks p 0) t)
-      (λ t p (l, e) m. sym (plain-key keyed t l (λ q. other (sym e ∙ q)) p m ∙ takeable-on (at-right p m) t c e)) ts ps h k
+      rw (← (owners-each S c other (ownersAt S ps))) (ports-owners (ownerMay (takesPart S) c) S ts ps)
+      ∙ beside-same (λ t p. isWanted (ownerMay (takesPart S) c) t (at p)) (λ t p. eqb (getD ks p 0) t)
+      (λ t p (l, e) m. sym (plain-key keyed t l (λ q. other (sym e ∙ q)) p m ∙ takeable-on (at-right p m) (takesPart S) t c e)) ts ps h k
 
   -- and of one that is
-  group-fits : (ts ps : List ℕ) → All (OfClass z 1) ts → All (λ p. p < n) ps → onPorts ts (picked S ps) && ownersFit 1 (ownersAt S ps) ≡ haveGroup ks ts ps
+  group-fits : (ts ps : List ℕ) → All (OfClass z 1) ts → All (λ p. p < n) ps
+      → onPorts ts (picked S ps) && mayConsume 1 S (ownersAt S ps) ≡ haveGroup ks ts ps
   group-fits [] [] h k = refl
   group-fits [] (p ∷ ps) h k = refl
   group-fits (t ∷ ts) [] h k = refl
   group-fits (t ∷ ts) (p ∷ ps) ((l, c), h) (k, m) =
-      rw (← (all-least (ltb 0) (ownersAt S (p ∷ ps)) (at p .owner) (inl refl)), ports-owners same S (t ∷ ts) (p ∷ ps), ← first)
+      rw (← (owners-one S (ownersAt S (p ∷ ps)) (at p .owner) (inl refl)), ports-owners same S (t ∷ ts) (p ∷ ps), ← first)
       (and-after (eqb (getD ks p 0 % 512) t) (λ w. beside-same (λ u q. isWanted same u (at q)) (λ u q. eqb (getD ks q 0) (u + groupBase ks t p))
       (λ u q (i, d) j. sym (other (sym on ∙ w) u i d q j)) ts ps h m))
     where
       same : ℕ → Bool
-      same o = ltb 0 o && eqb o (at p .owner)
+      same o = ownerMay (takesPart S) 1 o && eqb o (at p .owner)
 
-      on : eqb (getD ks p 0 % 512) t ≡ takeableOn z t (at p)
+      on : eqb (getD ks p 0 % 512) t ≡ takeableOn z (takesPart S) t (at p)
       on = local-key keyed small t l c p k
 
       first : eqb (getD ks p 0 % 512) t ≡ isWanted same t (at p)
-      first = on ∙ takeable-on (at-right p k) t 1 c ∙ rw (eq-eqb (at p .owner) (at p .owner) refl, and-true (ltb 0 (at p .owner)))
+      first = on ∙ takeable-on (at-right p k) (takesPart S) t 1 c
+          ∙ rw (eq-eqb (at p .owner) (at p .owner) refl, and-true (ownerMay (takesPart S) 1 (at p .owner)))
 
-      other : takeableOn z t (at p) ≡ true → (u : ℕ) → u < 256 → classOf z u ≡ 1 → (q : ℕ) → q < n
+      other : takeableOn z (takesPart S) t (at p) ≡ true → (u : ℕ) → u < 256 → classOf z u ≡ 1 → (q : ℕ) → q < n
           → eqb (getD ks q 0) (u + groupBase ks t p) ≡ isWanted same u (at q)
       other w u i d q j =
           group-key keyed small t u l i c d p q k j w
-          ∙ rw (takeable-on (at-right q j) u 1 d)
-          (and-assoc (isMessage (at q) && eqb (at q .port) u) (ltb 0 (at q .owner)) (eqb (at q .owner) (at p .owner)))
+          ∙ rw (takeable-on (at-right q j) (takesPart S) u 1 d)
+          (and-assoc (isMessage (at q) && eqb (at q .port) u) (ownerMay (takesPart S) 1 (at q .owner)) (eqb (at q .owner) (at p .owner)))
 
   abbrev fit : ℕ → List ℕ → List ℕ → Bool
-  fit c ts ps = distinct ps && onPorts ts (picked S ps) && ownersFit c (ownersAt S ps)
+  fit c ts ps = distinct ps && onPorts ts (picked S ps) && mayConsume c S (ownersAt S ps)
 
   -- choices that fit by a test of ports and owners
   fit-same : (c : ℕ) (ts : List ℕ) (test : List ℕ → Bool)
-      → ((ps : List ℕ) → All (λ p. p < n) ps → onPorts ts (picked S ps) && ownersFit c (ownersAt S ps) ≡ test ps)
+      → ((ps : List ℕ) → All (λ p. p < n) ps → onPorts ts (picked S ps) && mayConsume c S (ownersAt S ps) ≡ test ps)
       → keep (fit c ts) (tuples n (length ts)) ≡ keep (λ ps. distinct ps && test ps) (tuples (length ks) (length ts))
   fit-same c ts test f = rw (keyed .size) (tuples-same (fit c ts) (λ ps. distinct ps && test ps) n (length ts)
-      (λ ps (e, k). and-assoc (distinct ps) (onPorts ts (picked S ps)) (ownersFit c (ownersAt S ps)) ∙ ap (λ (b : Bool). distinct ps && b) (f ps k)))
+      (λ ps (e, k). and-assoc (distinct ps) (onPorts ts (picked S ps)) (mayConsume c S (ownersAt S ps)) ∙ ap (λ (b : Bool). distinct ps && b) (f ps k)))
 
   choices-are : (c : ℕ) (ts : List ℕ) → All (OfClass z c) ts
       → keep (fit c ts) (tuples n (length ts)) ≡ cond (eqb c 1) (choicesByGroup ks ts) (choicesFrom ks [] ts)
@@ -233,7 +254,7 @@ module _ {z : Sizes} {S : State} {ks : List ℕ} (few : portCount z ≤ 256) (st
 -- ---- the open reactions by a rule
 
 pub reactions-open : (t s : List ℕ) → stateVerdict t s ≡ Allowed → (r : ℕ) → r < sizesOf t .rules → (ceiling : ℕ) {ks : List ℕ}
-    → Keyed (sizesOf t) (stateOf s .entries) ks
+    → Keyed (sizesOf t) (takesPart (stateOf s)) (stateOf s .entries) ks
     → keep (λ m. isAllowed (moveVerdict ceiling (tableOf t) (stateOf s) m)) (reactionsOf (tableOf t) (length (stateOf s .entries)) r)
     ≡ map (react r)
     (cond (hasId (ruleAt (tableOf t) r) (stateOf s) && hasRoom ceiling (ruleAt (tableOf t) r) (stateOf s)) (choicesOf (ruleAt (tableOf t) r) ks) [])

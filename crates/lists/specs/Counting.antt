@@ -1,14 +1,16 @@
 -- Laws of `countIf`, `keep`, `all` and `any`.
 use Prim.Native.Nat.{ℕ, suc, _+_, _≤_}
 use mathlib.Core.List.{List, [], _∷_, _++_, map}
-use mathlib.Core.Bool.{Bool, true, false, _||_, not}
+use mathlib.Core.Bool.{Bool, true, false, _&&_, _||_, not}
 use mathlib.Core.Path.{_≡_, refl, sym, ap, _∙_}
 use native.Mathlib.Omega.{arith}
 use borrow.Author.Tests.{le-leb}
 use lib.Dec.{leb}
 use lib.ListN.{length}
 use Rattle.lists.specs.Lists.{all, any, keep, keepIf, countIf, oneIf}
-use Rattle.lists.specs.Tests.{and-both}
+use Rattle.lists.specs.Tests.{and-both, and-turn}
+use Rattle.lists.specs.Choices.{is-false, clash}
+use Rattle.lists.specs.Neither.{or-left-false, or-right-false}
 
 module _ {A : Type 0} (p : A → Bool) where
   pub count-le : (xs : List A) → countIf p xs ≤ length xs
@@ -80,6 +82,12 @@ module _ {A : Type 0} (p q : A → Bool) where
       more true c h = omega arith
       more false c h = omega arith
 
+-- ---- of both of two tests
+module _ {A : Type 0} (p q : A → Bool) where
+  pub all-and : (xs : List A) → all (λ x. p x && q x) xs ≡ all p xs && all q xs
+  all-and [] = refl
+  all-and (x ∷ xs) = rw (all-and xs) (and-turn (p x) (q x) (all p xs) (all q xs))
+
 -- ---- of two tests, of which the first holds only where the second does
 module _ {A : Type 0} (p q : A → Bool) (f : (x : A) → p x ≡ true → q x ≡ true) where
   pub all-weaker : (xs : List A) → all p xs ≡ true → all q xs ≡ true
@@ -87,6 +95,11 @@ module _ {A : Type 0} (p q : A → Bool) (f : (x : A) → p x ≡ true → q x �
   all-weaker (x ∷ xs) h =
       let (a, b) = and-both (p x) (all p xs) h in
       rw (f x a, all-weaker xs b)
+
+  pub any-weaker : (xs : List A) → any q xs ≡ false → any p xs ≡ false
+  any-weaker [] h = refl
+  any-weaker (x ∷ xs) h =
+      rw (is-false (p x) (λ e. clash (f x e) (or-left-false (q x) (any q xs) h)), any-weaker xs (or-right-false (q x) (any q xs) h))
 
   pub count-weaker : (xs : List A) → countIf p xs ≤ countIf q xs
   count-weaker [] = omega arith

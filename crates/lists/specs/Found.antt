@@ -29,6 +29,10 @@ module _ {A : Type 0} where
   pub finding-start : (p : A → Bool) (f : ℕ → A) (n : ℕ) → Finding p (rowsFrom f n) n false 0 (any p (rows f 0 n))
   finding-start p f n = record { ahead = rw (← rows-whole f n) (ahead-start (rowsFrom f n) n (any p)) }
 
+  -- .. or from place i on
+  pub finding-from : (p : A → Bool) (f : ℕ → A) (n i : ℕ) → i ≤ n → Finding p (rowsFrom f n) n false i (any p (rowsFrom f n i))
+  finding-from p f n i l = record { ahead = record { within = l; so-far = refl } }
+
   module _ {p : A → Bool} {at : ℕ → A} {rest : ℕ → List A} {n : ℕ} (t : Tails at rest n) {b : Bool} {i : ℕ} {goal : Bool} (a : Finding p rest n b i goal) where
     pub finding-next : i < n → Finding p rest n (b || p (at i)) (i + 1) goal
     finding-next l = record { ahead = ahead-next t (a .ahead) l _ (λ xs. regroup b (p (at i)) (any p xs)) }

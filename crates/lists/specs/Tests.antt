@@ -1,5 +1,5 @@
 -- Laws of Bool-valued tests.
-use mathlib.Core.Bool.{Bool, true, false, _&&_, _||_, false≢true}
+use mathlib.Core.Bool.{Bool, true, false, _&&_, _||_, false≢true, and-true, and-false}
 use mathlib.Core.Path.{_≡_, refl, sym}
 use Prim.Native.Nat.{ℕ}
 use lib.Dec.{eqb}
@@ -19,6 +19,18 @@ and-right-false false e = refl
 pub and-after : (a : Bool) {b c : Bool} → (a ≡ true → b ≡ c) → a && b ≡ a && c
 and-after true f = f refl
 and-after false f = refl
+
+-- conjunctions in another order
+pub and-swap : (a b c : Bool) → a && b && c ≡ a && c && b
+and-swap true true c = sym (and-true c)
+and-swap true false c = sym (and-false c)
+and-swap false b c = refl
+
+pub and-turn : (a b c d : Bool) → a && b && (c && d) ≡ a && c && (b && d)
+and-turn true true c d = refl
+and-turn true false true d = refl
+and-turn true false false d = refl
+and-turn false b c d = refl
 
 -- both parts of a conjunction that holds
 pub and-both : (a b : Bool) → a && b ≡ true → (a ≡ true) × (b ≡ true)

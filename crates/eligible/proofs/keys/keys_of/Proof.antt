@@ -5,16 +5,17 @@ use mathlib.Core.List.{List, []}
 use native.Mathlib.Omega.{arith}
 use lib.ListN.{length, getD, length-set}
 use Rattle.state.specs.Working.{rowOf}
-use Rattle.eligible.specs.KeyColumn.{KeyColumn}
+use Rattle.eligible.specs.KeyColumn.{outside, KeyColumn}
 use Rattle.eligible.proofs.KeyCases.{column-more}
 use Rattle.eligible.proofs.keys.keys_of.Statement.{statement}
 use Rattle.eligible.proofs.keys.keys_of.Tie as tie
 
 abbrev Inv : tie.InvT-loop
-Inv z owners items n ids m keys₀ p₀ keys p = (p ≤ n) × (length keys ≡ 1024) × ((gs : List ℕ) → KeyColumn z ids m (rowOf owners items gs) p keys)
+Inv z owners items n ids m aborting keys₀ p₀ keys p =
+    (p ≤ n) × (length keys ≡ 1024) × ((gs : List ℕ) → KeyColumn z (outside aborting) ids m (rowOf owners items gs) p keys)
 
 abbrev μ : tie.MeasureT-loop
-μ z owners items n ids m keys₀ p₀ keys p = n - p
+μ z owners items n ids m aborting keys₀ p₀ keys p = n - p
 
 few : (c : tie.In-loop Inv μ) → c .before .loop .p < 1024
 few c = omega (arith, c .loop-test .taken, c .before .before .pre .3 .fits)
@@ -27,7 +28,7 @@ key-of-requires c κs =
     let turn = c .before .before in
     let s = turn .before .before in
     let p = turn .before .loop .p in
-    (s .pre .0, s .pre .1, s .pre .2, λ origin l. s .pre .5 [] p (turn .loop-test .taken) l)
+    (s .pre .0, s .pre .1, s .pre .2, (λ origin l. s .pre .5 [] p (turn .loop-test .taken) l), s .pre .6)
 
 loop-again : tie.Need-loop-again Inv μ
 loop-again c =

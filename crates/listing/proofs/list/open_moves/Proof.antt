@@ -8,7 +8,7 @@ use Rattle.idset.specs.IdSet.{zeros-empty}
 use Rattle.ready.specs.Ready.{ready-table}
 use Rattle.state.specs.Parts.{loadable}
 use Rattle.transactions.specs.Ids.{ids-ascend}
-use Rattle.listing.proofs.Loaded.{columns, next-within, ids-few, places, keys-within, all-listed}
+use Rattle.listing.proofs.Loaded.{columns, next-within, ids-few, places, none-global, keys-within, all-listed}
 use borrow.Author.Needs.{needs}
 use Rattle.listing.proofs.list.open_moves.Statement.{statement}
 use Rattle.listing.proofs.list.open_moves.Tie as tie
@@ -57,6 +57,8 @@ keys-of-requires c κs =
       search needs,
       rw sizes (places (s .args .table .now) (s .args .state .now) _ _ _ (l .load .result) (s .pre .0 .accepted) (l .load .ensures)
           (z .sizes-of .result .globals) (globals z) (v .survey .ensures) ids),
+      none-global (s .args .table .now) (s .args .state .now) _ _ _ (l .load .result) (s .pre .0 .accepted) (l .load .ensures)
+          (z .sizes-of .result .globals) (globals z) (v .survey .ensures),
     )
 
 listed-requires : tie.Need-listed-requires
