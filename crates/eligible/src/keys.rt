@@ -70,7 +70,7 @@ pub fn keys_of<'a>(
 )
     requires { ⌜ (portCount z ≤ 256) × (m ≤ 1024) × Ascending (now ids) m × Columns (now owners) (now items) n × (length (now keys) ≡ 1024)
         × ((gs : List ℕ) (p : ℕ) → p < n → isLocal z (outside (now aborting)) (rowOf (now owners) (now items) gs p) ≡ true
-            → PlaceIn (now ids) (getD (now owners) p 0) 0 m)
+        → PlaceIn (now ids) (getD (now owners) p 0) 0 m)
         × (has (now aborting) 0 ≡ false) ⌝ }
     ensures { λ _. ⌜ ((gs : List ℕ) → KeyColumn z (outside (now (aborting .entry))) (now (ids .entry)) m
         (rowOf (now (owners .entry)) (now (items .entry)) gs) n (now (keys .exit))) ⌝ }

@@ -106,16 +106,7 @@ pub fn open_moves<'a>(
     let mut ids = [0u16; 1024];
     let m = ids_of(&present, at.next, &mut ids);
     let mut keys = [0u32; 1024];
-    keys_of(
-        z,
-        &owners,
-        &items,
-        at.len,
-        &ids,
-        m,
-        &aborting,
-        &mut keys,
-    );
+    keys_of(z, &owners, &items, at.len, &ids, m, &aborting, &mut keys);
     listed(
         table,
         starts,
