@@ -1,3 +1,4 @@
 pub mod Pairs
 pub mod Picking
 pub mod Refusing
+pub mod Aborting

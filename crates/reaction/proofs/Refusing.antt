@@ -6,12 +6,12 @@ use mathlib.Core.List.{List}
 use borrow.Author.Tests.{leb-true, lt-ltb, le-ltb, leb-false, lt-leb, le-leb}
 use lib.Dec.{leb, ltb}
 use lib.ListN.{length}
-use Rattle.lists.specs.Lists.{distinct}
+use Rattle.lists.specs.Lists.{all, distinct}
 use Rattle.lists.specs.Tests.{and-both}
 use Rattle.lists.specs.Choices.{by-bool}
 use Rattle.semantics.specs.Table.{consumed, begins}
-use Rattle.semantics.specs.Move.{picked, onPorts, picksOk, ownersAt, ownersFit, hasId, reacted}
-use Rattle.semantics.specs.declared.Refusal.the-variants.{WrongPick, WrongOwner, NoMoreIds, TooManyEntries}
+use Rattle.semantics.specs.Move.{picked, onPorts, picksOk, ownersAt, ownersFit, takesPart, hasId, reacted}
+use Rattle.semantics.specs.declared.Refusal.the-variants.{WrongPick, WrongOwner, NoMoreIds, TooManyEntries, TransactionAborting}
 use Rattle.semantics.specs.declared.Verdict.the-variants.{Allowed, Denied}
 use Rattle.wellformed.specs.Picks.{ReactGiven}
 use Rattle.rules.specs.declared.decode.Rule.{Rule}
@@ -41,17 +41,23 @@ module _ (ceiling : ℕ) (r : rules.Rule) (s : semantics.State) (ps : List ℕ) 
   unfolding reactVerdict
   wrong-owner h k = rw (h, k)
 
-  pub no-more-ids : picksOk r s ps ≡ true → ownersFit (r .class) (ownersAt s ps) ≡ true → hasId r s ≡ false → Denied NoMoreIds ≡ reactVerdict ceiling r s ps
+  pub aborting : picksOk r s ps ≡ true → ownersFit (r .class) (ownersAt s ps) ≡ true → all (takesPart s) (ownersAt s ps) ≡ false
+      → Denied TransactionAborting ≡ reactVerdict ceiling r s ps
   unfolding reactVerdict
-  no-more-ids h k l = rw (h, k, l)
+  aborting h k p = rw (h, k, p)
+
+  pub no-more-ids : picksOk r s ps ≡ true → ownersFit (r .class) (ownersAt s ps) ≡ true → all (takesPart s) (ownersAt s ps) ≡ true → hasId r s ≡ false
+      → Denied NoMoreIds ≡ reactVerdict ceiling r s ps
+  unfolding reactVerdict
+  no-more-ids h k p l = rw (h, k, p, l)
 
   pub too-many : ReactGiven r s ps → ceiling < length (reacted r 0 s ps .entries) → Denied TooManyEntries ≡ reactVerdict ceiling r s ps
   unfolding reactVerdict
-  too-many g h = rw (g .different, g .ports, g .owners, g .ids, lt-leb _ _ h)
+  too-many g h = rw (g .different, g .ports, g .owners, g .part, g .ids, lt-leb _ _ h)
 
   pub allowed-is : ReactGiven r s ps → length (reacted r 0 s ps .entries) ≤ ceiling → Allowed ≡ reactVerdict ceiling r s ps
   unfolding reactVerdict
-  allowed-is g h = rw (g .different, g .ports, g .owners, g .ids, le-leb _ _ h)
+  allowed-is g h = rw (g .different, g .ports, g .owners, g .part, g .ids, le-leb _ _ h)
 
 -- 11: the code's test, and the definition's
 pub id-test : (x : Rule) → Decodes x (ruleIn x) → (s : semantics.State) → hasId (ruleIn x) s ≡ not (x .begins && leb 65536 (s .next))

@@ -67,6 +67,12 @@ place-at n k picks h l i m =
     let low : i < length (take k picks) = omega (arith, length-take-le k picks l) in
     rw (← getD-take k picks i 0 m) (h (getD (take k picks) i 0) (getD-among 0 (take k picks) i low))
 
+-- what is found at the first k picks, out of its array
+pub take-found : (k : ℕ) (xs picks : List ℕ) → k ≤ length picks → take k (fourAt xs (take k picks)) ≡ column xs (take k picks)
+take-found k xs picks l =
+    let e : k ≡ length (column xs (take k picks)) = sym (length-map (take k picks) (λ p. getD xs p 0) ∙ length-take-le k picks l) in
+    ap (λ (j : ℕ). take j (fourAt xs (take k picks))) e ∙ take-padded 4 0 (column xs (take k picks))
+
 module _ (x : Rule) (d : Decodes x (ruleIn x)) (picks : List ℕ) (four : length picks ≡ 4) where
   abbrev ps : List ℕ
   ps = take (x .consumes) picks
@@ -88,5 +94,4 @@ module _ (x : Rule) (d : Decodes x (ruleIn x)) (picks : List ℕ) (four : length
     -- 8: the owners found there
     pub owners-found : {found : List ℕ} → found ≡ fourAt os ps → Places n ps → take (x .consumes) found ≡ ownersAt σ ps
     owners-found e h =
-        let k : x .consumes ≡ length (column os ps) = sym (length-map ps (λ p. getD os p 0) ∙ count-picks) in
-        ap (take (x .consumes)) e ∙ ap (λ (j : ℕ). take j (fourAt os ps)) k ∙ take-padded 4 0 (column os ps) ∙ sym (owners-at os ws gs n ps h)
+        ap (take (x .consumes)) e ∙ take-found (x .consumes) os picks (omega (arith, d .legal .most)) ∙ sym (owners-at os ws gs n ps h)

@@ -29,7 +29,7 @@ use Rattle.semantics.specs.Table as rules
 abbrev pub ownerFits : ℕ → ℕ → ℕ → Bool
 ownerFits class one o = cond (eqb class 0) (eqb o 0) (cond (eqb class 1) (ltb 0 o && eqb o one) (ltb 0 o))
 
--- 7, 8, 11, 12 of a reaction
+-- 7, 8, 18, 11, 12 of a reaction
 unfoldable pub reactVerdict : ℕ → rules.Rule → State → List ℕ → Verdict
 reactVerdict ceiling r s ps = both (reactAllowed r s ps) (unless (leb (length (reacted r 0 s ps .entries)) ceiling) TooManyEntries)
 

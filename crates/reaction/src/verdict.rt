@@ -1,14 +1,15 @@
 // When a reaction is allowed.
 ghost use Prim.Native.Nat.{ℕ, _≤_, _<_};
 ghost use mathlib.Core.Path.{_≡_};
-ghost use mathlib.Core.Bool.{true, _&&_};
+ghost use mathlib.Core.Bool.{true, _&&_, not};
 ghost use mathlib.Core.List.{List, map};
 ghost use lib.Dec.{eqb};
 ghost use lib.ListN.{length, take};
+ghost use Rattle.lists.specs.Lists.{all};
 ghost use Rattle.lists.specs.Rows.{rows};
 ghost use Rattle.semantics.specs.State.{isMessage};
 ghost use Rattle.semantics.specs.Table.{consumed};
-ghost use Rattle.semantics.specs.Move.{entryAt, onPorts, ownersFit};
+ghost use Rattle.semantics.specs.Move.{entryAt, onPorts, ownersFit, takesPart};
 ghost use Rattle.rules.specs.Decode.{Decodes};
 ghost use Rattle.state.specs.Working.{rowOf};
 ghost use Rattle.reaction.specs.Decoded.{ruleIn};
@@ -16,6 +17,9 @@ ghost use Rattle.state.specs.Lent.{stateFrom, Columns};
 ghost use Rattle.reaction.specs.Verdict.{reactVerdict, ownerFits};
 ghost use Rattle.reaction.specs.Places.{Places, column};
 use crate::picks::all_differ;
+use crate::picks::owners_at;
+use crate::picks::repeated;
+use abort_marks::any_aborting;
 use rules::decode::Rule;
 use semantics::Refusal;
 use semantics::Verdict;
@@ -94,6 +98,28 @@ fn owners_fit(class: u32, owners: &[u16; 1024], picks: [u32; 4], k: usize) -> bo
     true
 }
 
+// Whether a pick is in a transaction that has an abort mark. The picks of a global rule are in none, so no entry is looked at.
+fn picks_aborting<'a>(
+    class: u32,
+    owners: &'a [u16; 1024],
+    items: &'a [u32; 1024],
+    at: Extent,
+    picks: [u32; 4],
+    k: usize,
+) -> bool
+    requires { ⌜ Columns (now owners) (now items) (at .len) × (1 ≤ k) × (k ≤ 4) × Places 1024 (take k picks)
+        × (ownersFit class (column (now owners) (take k picks)) ≡ true) ⌝ }
+    ensures { λ r. ⌜ ((gs : List ℕ) → r ≡ not (all (takesPart (stateFrom (now (owners .entry)) (now (items .entry)) gs at))
+        (column (now (owners .entry)) (take k picks)))) ⌝ }
+{
+    if class == 0 {
+        return false;
+    }
+    let found = owners_at(owners, picks, k);
+    let ids = repeated(found, k);
+    any_aborting(owners, items, at, ids[0], ids[1], ids[2], ids[3])
+}
+
 // Why a reaction is refused. The other column, of origins, does not matter.
 pub fn react_verdict<'a>(
     owners: &'a [u16; 1024],
@@ -114,6 +140,9 @@ pub fn react_verdict<'a>(
     }
     if !owners_fit(rule.class, owners, picks, k) {
         return Verdict::Denied(Refusal::WrongOwner);
+    }
+    if picks_aborting(rule.class, owners, items, at, picks, k) {
+        return Verdict::Denied(Refusal::TransactionAborting);
     }
     if rule.begins & (State::MAX_NEXT <= at.next) {
         return Verdict::Denied(Refusal::NoMoreIds);

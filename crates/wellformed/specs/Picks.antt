@@ -46,6 +46,21 @@ message-within es p h = by-bool (ltb p (length es)) (ltb-true p (length es))
 pub picks-within : (ports : List ℕ) (es : List Entry) (ps : List ℕ) → onPorts ports (map (entryAt es) ps) ≡ true → (p : ℕ) → Among p ps → p < length es
 picks-within ports es ps h p m = message-within es p (onPorts-messages ports (map (entryAt es) ps) h (entryAt es p) (map-among (entryAt es) ps p m))
 
+-- ---- owners that fit a rule's class (8)
+
+module _ (class : ℕ) (os : List ℕ) (fit : ownersFit class os ≡ true) where
+  pub fit-zero : class ≡ 0 → (o : ℕ) → Among o os → o ≡ 0
+  fit-zero c o m = eqb-true o 0 (all-each isZero os (rw (eq-eqb class 0 c) at fit) o m)
+
+  pub fit-positive : (class ≡ 0 → ⊥) → (o : ℕ) → Among o os → 1 ≤ o
+  fit-positive c o m = go (eqb class 1) (rw (ne-eqb class 0 c) at fit)
+    where
+      go : (b : Bool) → cond b (all (λ o. ltb 0 o && eqb o (least os)) os) (all (λ o. ltb 0 o) os) ≡ true → 1 ≤ o
+      go true h = ltb-true 0 o (and-left (ltb 0 o) (eqb o (least os)) (all-each (λ o. ltb 0 o && eqb o (least os)) os h o m))
+      go false h = ltb-true 0 o (all-each (λ o. ltb 0 o) os h o m)
+
+-- ---- what an allowed reaction has passed
+
 module _ (R : Rule) (s : State) (ps : List ℕ) where
   pub record ReactGiven : Type 0 where
     pub different : distinct ps ≡ true
@@ -92,15 +107,10 @@ module _ {R : Rule} {s : State} {ps : List ℕ} (g : ReactGiven R s ps) where
   -- ---- owners
 
   pub owners-zero : R .class ≡ 0 → (o : ℕ) → Among o (ownersAt s ps) → o ≡ 0
-  owners-zero c o m = eqb-true o 0 (all-each isZero (ownersAt s ps) (rw (eq-eqb (R .class) 0 c) at (g .owners)) o m)
+  owners-zero = fit-zero (R .class) (ownersAt s ps) (g .owners)
 
   pub owners-positive : (R .class ≡ 0 → ⊥) → (o : ℕ) → Among o (ownersAt s ps) → 1 ≤ o
-  owners-positive c o m = go (eqb (R .class) 1) (rw (ne-eqb (R .class) 0 c) at (g .owners))
-    where
-      go : (b : Bool) → cond b (all (λ o. ltb 0 o && eqb o (least (ownersAt s ps))) (ownersAt s ps)) (all (λ o. ltb 0 o) (ownersAt s ps)) ≡ true → 1 ≤ o
-      go true h =
-          ltb-true 0 o (and-left (ltb 0 o) (eqb o (least (ownersAt s ps))) (all-each (λ o. ltb 0 o && eqb o (least (ownersAt s ps))) (ownersAt s ps) h o m))
-      go false h = ltb-true 0 o (all-each (λ o. ltb 0 o) (ownersAt s ps) h o m)
+  owners-positive = fit-positive (R .class) (ownersAt s ps) (g .owners)
 
   pub home-zero : R .class ≡ 0 → least (ownersAt s ps) ≡ 0
   home-zero c = go (ownersAt s ps) (owners-zero c)

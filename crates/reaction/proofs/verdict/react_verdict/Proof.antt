@@ -7,13 +7,14 @@ use native.Mathlib.Omega.{arith}
 use borrow.Author.Needs.{needs}
 use borrow.Author.Tests.{not-true, not-false}
 use lib.ListN.{length, take}
+use Rattle.lists.specs.Lists.{all}
 use Rattle.semantics.specs.State.{State}
-use Rattle.semantics.specs.Move.{picksOk, ownersAt, ownersFit, reacted}
+use Rattle.semantics.specs.Move.{picksOk, ownersAt, ownersFit, takesPart, reacted}
 use Rattle.wellformed.specs.Picks.{ReactGiven}
 use Rattle.reaction.specs.Decoded.{ruleIn, consumes-within}
 use Rattle.state.specs.Lent.{stateFrom}
 use Rattle.reaction.specs.Places.{Places, owners-at, places}
-use Rattle.reaction.proofs.Refusing.{picks-found, picks-parts, wrong-pick, wrong-owner, no-more-ids, too-many, allowed-is, id-test}
+use Rattle.reaction.proofs.Refusing.{picks-found, picks-parts, wrong-pick, wrong-owner, aborting, no-more-ids, too-many, allowed-is, id-test}
 use Rattle.reaction.specs.Verdict.{picks-fit, count-left}
 use Rattle.reaction.proofs.verdict.react_verdict.Statement.{statement}
 use Rattle.reaction.proofs.verdict.react_verdict.Tie as tie
@@ -32,8 +33,11 @@ tested c = c .before .before .before
 abbrev placed : tie.After-owners-fit → tie.Start
 placed c = tested (c .before .before)
 
-abbrev allowed : tie.Else3 → tie.Start
-allowed c = placed (c .before .before .before .before)
+abbrev asked : tie.After-picks-aborting → tie.Start
+asked c = placed (c .before .before)
+
+abbrev allowed : tie.Else4 → tie.Start
+allowed c = asked (c .before .before .before .before)
 
 -- ---- what each test says
 
@@ -58,18 +62,33 @@ owners c gs =
     c .owners-fit .ensures ∙ ap (ownersFit (a .rule .class)) (sym
     (owners-at (a .owners .now) (a .items .now) gs (a .at .len) (ps (placed c)) (in-place (c .before))))
 
-given : (c : tie.Else3) (gs : List ℕ) → ReactGiven (ruleIn (allowed c .args .rule)) (σ (allowed c) gs) (ps (allowed c))
+owners-pass : (c : tie.Else2) (gs : List ℕ) → ownersFit (placed (c .before) .args .rule .class) (ownersAt (σ (placed (c .before)) gs) (ps (placed (c .before)))) ≡ true
+owners-pass c gs = sym (owners (c .before) gs) ∙ not-false _ (c .if2 .left)
+
+taking : (c : tie.After-picks-aborting) (gs : List ℕ) → c .picks-aborting .result ≡ not (all (takesPart (σ (asked c) gs)) (ownersAt (σ (asked c) gs) (ps (asked c))))
+taking c gs =
+    let a = asked c .args in
+    c .picks-aborting .ensures gs ∙ ap (λ (os : List ℕ). not (all (takesPart (σ (asked c) gs)) os)) (sym
+    (owners-at (a .owners .now) (a .items .now) gs (a .at .len) (ps (asked c)) (in-place (c .before .before .before))))
+
+part-pass : (c : tie.Else3) (gs : List ℕ) → all (takesPart (σ (asked (c .before)) gs)) (ownersAt (σ (asked (c .before)) gs) (ps (asked (c .before)))) ≡ true
+part-pass c gs = not-false _ (sym (taking (c .before) gs) ∙ c .if3 .left)
+
+given : (c : tie.Else4) (gs : List ℕ) → ReactGiven (ruleIn (allowed c .args .rule)) (σ (allowed c) gs) (ps (allowed c))
 given c gs =
     let start = allowed c in
-    let (a, b) = picks-parts (ruleIn (start .args .rule)) (σ start gs) (ps start) (picks-pass (c .before .before .before .before .before) gs) in
+    let free = c .before .before .before in
+    let fit = free .before .before in
+    let (a, b) = picks-parts (ruleIn (start .args .rule)) (σ start gs) (ps start) (picks-pass (fit .before .before) gs) in
     record {
       different = a;
       ports = b;
-      owners = sym (owners (c .before .before .before .before) gs) ∙ not-false _ (c .before .before .before .if2 .left);
-      ids = id-test (start .args .rule) (start .pre .1) (σ start gs) ∙ ap not (c .if3 .left);
+      owners = owners-pass fit gs;
+      part = part-pass free gs;
+      ids = id-test (start .args .rule) (start .pre .1) (σ start gs) ∙ ap not (c .if4 .left);
     }
 
-left : (c : tie.Else3) (gs : List ℕ)
+left : (c : tie.Else4) (gs : List ℕ)
     → length (reacted (ruleIn (allowed c .args .rule)) 0 (σ (allowed c) gs) (ps (allowed c)) .entries)
     ≡ allowed c .args .at .len - allowed c .args .rule .consumes + (allowed c .args .rule .count - allowed c .args .rule .consumes)
 left c gs =
@@ -88,26 +107,38 @@ owners-fit-requires c κs = (search needs, search needs, search needs, λ p m. l
 returns-2 : tie.Need-returns-2
 returns-2 c = λ gs. wrong-owner _ _ _ _ (picks-pass (c .before .before) gs) (sym (owners (c .before) gs) ∙ not-true _ (c .if2 .taken))
 
+picks-aborting-requires : tie.Need-picks-aborting-requires
+picks-aborting-requires c κs =
+    let start = placed (c .before) in
+    let (a, b, _, p) = owners-fit-requires (c .before .before) κs in
+    (start .pre .0, a, b, p, sym (c .before .owners-fit .ensures) ∙ not-false _ (c .if2 .left))
+
 returns-3 : tie.Need-returns-3
 returns-3 c = λ gs.
-    let start = placed (c .before .before .before .before) in
-    no-more-ids _ _ _ _ (picks-pass (c .before .before .before .before .before) gs) (sym (owners (c .before .before .before .before) gs)
-    ∙ not-false _ (c .before .before .before .if2 .left))
-    (id-test (start .args .rule) (start .pre .1) (σ start gs) ∙ ap not (c .if3 .taken))
+    let fit = c .before .before in
+    aborting _ _ _ _ (picks-pass (fit .before .before) gs) (owners-pass fit gs) (not-true _ (sym (taking (c .before) gs) ∙ c .if3 .taken))
 
-fits : (c : tie.Else3) → allowed c .args .rule .consumes ≤ allowed c .args .at .len
+returns-4 : tie.Need-returns-4
+returns-4 c = λ gs.
+    let free = c .before .before .before in
+    let fit = free .before .before in
+    let start = asked (free .before) in
+    no-more-ids _ _ _ _ (picks-pass (fit .before .before) gs) (owners-pass fit gs) (part-pass free gs)
+    (id-test (start .args .rule) (start .pre .1) (σ start gs) ∙ ap not (c .if4 .taken))
+
+fits : (c : tie.Else4) → allowed c .args .rule .consumes ≤ allowed c .args .at .len
 fits c =
     let start = allowed c in
     let a = start .args in
     picks-fit (a .rule) (start .pre .1) (a .picks) (search needs) (a .owners .now) (a .items .now) [] (a .at) (given c [])
 
-sub-if4-2 : tie.Need-sub-if4-2
-sub-if4-2 c = let start = allowed c in omega (arith, consumes-within (start .args .rule) (start .pre .1))
+sub-if5-2 : tie.Need-sub-if5-2
+sub-if5-2 c = let start = allowed c in omega (arith, consumes-within (start .args .rule) (start .pre .1))
 
 pub react-verdict-spec : {M : Type 1} → statement M
 react-verdict-spec =
     tie.close
-    (tie.spec (λ c κs. search needs) (λ c κs. search needs) (λ c κs. search needs) returns owners-fit-requires returns-2 returns-3
-    (λ c. omega (arith, fits c)) sub-if4-2 (λ c. search needs)
-    (λ c gs. too-many _ _ _ _ (given (c .before) gs) (omega (arith, left (c .before) gs, c .if4 .taken)))
-    (λ c gs. allowed-is _ _ _ _ (given (c .before) gs) (omega (arith, left (c .before) gs, c .if4 .left))))
+    (tie.spec (λ c κs. search needs) (λ c κs. search needs) (λ c κs. search needs) returns owners-fit-requires returns-2 picks-aborting-requires returns-3
+    returns-4 (λ c. omega (arith, fits c)) sub-if5-2 (λ c. search needs)
+    (λ c gs. too-many _ _ _ _ (given (c .before) gs) (omega (arith, left (c .before) gs, c .if5 .taken)))
+    (λ c gs. allowed-is _ _ _ _ (given (c .before) gs) (omega (arith, left (c .before) gs, c .if5 .left))))
