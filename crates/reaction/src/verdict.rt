@@ -112,12 +112,12 @@ fn picks_aborting<'a>(
     ensures { λ r. ⌜ ((gs : List ℕ) → r ≡ not (all (takesPart (stateFrom (now (owners .entry)) (now (items .entry)) gs at))
         (column (now (owners .entry)) (take k picks)))) ⌝ }
 {
-    if class == 0 {
-        return false;
+    if class != 0 {
+        let found = owners_at(owners, picks, k);
+        let ids = repeated(found, k);
+        return any_aborting(owners, items, at, ids[0], ids[1], ids[2], ids[3]);
     }
-    let found = owners_at(owners, picks, k);
-    let ids = repeated(found, k);
-    any_aborting(owners, items, at, ids[0], ids[1], ids[2], ids[3])
+    false
 }
 
 // Why a reaction is refused. The other column, of origins, does not matter.

@@ -19,26 +19,20 @@ abbrev σ : tie.Start → List ℕ → State
 abbrev os : tie.Start → List ℕ
 os c = column (c .args .owners .now) (take (c .args .k) (c .args .picks))
 
-returns-2 : tie.Need-returns-2
-returns-2 c gs =
+returns : tie.Need-returns
+returns c gs =
     let s = c .before .before .before .before in
     let a = s .args in
     let r = c .before .repeated in
     let found = ap (take (a .k)) (c .before .before .owners-at .ensures) ∙ take-found (a .k) (a .owners .now) (a .picks) (search needs) in
     c .any-aborting .ensures gs
-    ∙ inner-part (σ s gs) (a .class) (os s) (s .pre .4) (c .before .before .before .if1 .left) (r .result) (search needs)
+    ∙ inner-part (σ s gs) (a .class) (os s) (s .pre .4) (c .before .before .before .if1 .taken) (r .result) (search needs)
     (λ x. r .ensures x ∙ ap (isIn x) found)
 
 pub picks-aborting-spec : {M : Type 1} → statement M
 picks-aborting-spec =
     tie.close
     (tie.spec
-    (λ c gs. let s = c .before in ap not (sym (global-part (σ s gs) (s .args .class) (os s) (s .pre .4) (c .if1 .taken))))
-    (λ c κs. search needs)
-    (λ c κs. search needs)
-    (λ c. search needs)
-    (λ c. search needs)
-    (λ c. search needs)
-    (λ c. search needs)
-    (λ c κs. search needs)
-    returns-2)
+    (λ c κs. search needs) (λ c κs. search needs) (λ c. search needs) (λ c. search needs) (λ c. search needs) (λ c. search needs) (λ c κs. search needs)
+    returns
+    (λ c gs. let s = c .before in ap not (sym (global-part (σ s gs) (s .args .class) (os s) (s .pre .4) (c .if1 .left)))))
