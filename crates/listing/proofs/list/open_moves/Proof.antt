@@ -43,7 +43,7 @@ ids-of-requires c κs =
 
 keys-of-requires : tie.Need-keys-of-requires
 keys-of-requires c κs =
-    let i = c .before .before .before .before in
+    let i = c .before .before .before .before .before in
     let v = i .before .before .before in
     let z = v .before .before .before .before .before .before in
     let l = z .before in
@@ -64,7 +64,7 @@ keys-of-requires c κs =
 listed-requires : tie.Need-listed-requires
 listed-requires c κs =
     let k = c .before .before .before .before .before in
-    let i = k .before .before .before .before .before in
+    let i = k .before .before .before .before .before .before in
     let v = i .before .before .before in
     let z = v .before .before .before .before .before .before in
     let l = z .before in
@@ -85,7 +85,7 @@ listed-requires c κs =
 returns : tie.Need-returns
 returns c =
     let k = c .before .before .before .before .before .before .before .before in
-    let i = k .before .before .before .before .before in
+    let i = k .before .before .before .before .before .before in
     let v = i .before .before .before in
     let z = v .before .before .before .before .before .before in
     let l = z .before in
