@@ -84,12 +84,13 @@ extern "C" {
 #define COORDINATOR_TRANSACTION_OPEN 15u /* a transaction is open before or after the log (serialize only) */
 #define COORDINATOR_MOVE_REFUSED 16u     /* one of the log's moves is refused: place and own tell which and why */
 #define COORDINATOR_SERIAL_TOO_MANY_ENTRIES 17u /* a state along the serial log would have more than 1,024 entries */
+#define COORDINATOR_TRANSACTION_ABORTING 18u /* the transaction of a picked message has an abort mark: abort it */
 
 typedef struct coordinator_answer {
     uint32_t number; /* one of the numbers above */
     uint32_t words;  /* accepted: the words written, 0 by a check; else 0 */
     uint32_t place;  /* COORDINATOR_MOVE_REFUSED: the move's place in the log, from 0; else 0 */
-    uint32_t own;    /* COORDINATOR_MOVE_REFUSED: the move's own number, 5 or 7 to 12; else 0 */
+    uint32_t own;    /* COORDINATOR_MOVE_REFUSED: the move's own number, 5, 7 to 12, or 18; else 0 */
 } coordinator_answer;
 
 typedef struct coordinator_page {
@@ -108,7 +109,7 @@ coordinator_answer coordinator_check_state(const uint32_t *table, size_t table_l
                                            const uint32_t *state, size_t state_len);
 
 /* The state after one move.
- * Refusals: 1, 2, 3, 4, 5, 6, 7, 8, 9, 10, 11, 12. Stack: 25.4 KB. */
+ * Refusals: 1, 2, 3, 4, 5, 6, 7, 8, 18, 9, 10, 11, 12. Stack: 25.4 KB. */
 coordinator_answer coordinator_move(const uint32_t *table, size_t table_len,
                                     const uint32_t *state, size_t state_len,
                                     const uint32_t *move, size_t move_len,

@@ -5,14 +5,14 @@ use crate::words::page_target;
 pub enum Answer {
     /// The words written; 0 for a check.
     Accepted(u32),
-    /// 01's number, other than 16.
+    /// 01's or 02's number, other than 16.
     Refused(u32),
     /// Number 16: the move at `place` is refused with its `own` number.
     MoveRefused { place: u32, own: u32 },
 }
 
 impl Answer {
-    /// 01's number, 0 for an accepted call.
+    /// 01's or 02's number, 0 for an accepted call.
     pub fn number(self) -> u32 {
         match self {
             Answer::Accepted(_) => 0,
@@ -76,7 +76,7 @@ pub fn page_on_target(call: OnPage, table: &[u32], state: &[u32], asked: &[u32],
 pub mod order {
     pub const CHECK_TABLE: [u32; 2] = [1, 2];
     pub const CHECK_STATE: [u32; 4] = [1, 2, 3, 4];
-    pub const MOVE: [u32; 12] = [1, 2, 3, 4, 5, 6, 7, 8, 9, 10, 11, 12];
+    pub const MOVE: [u32; 13] = [1, 2, 3, 4, 5, 6, 7, 8, 18, 9, 10, 11, 12];
     pub const RUN: [u32; 7] = [1, 2, 3, 4, 13, 6, 16];
     pub const SERIALIZE: [u32; 11] = [1, 2, 3, 4, 13, 6, 14, 15, 16, 15, 17];
     pub const LIST_MOVES: [u32; 5] = [1, 2, 3, 4, 6];

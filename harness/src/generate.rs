@@ -20,6 +20,7 @@ macro_rules! faults {
     };
 }
 
+pub mod aborting;
 pub mod lists;
 pub mod logs;
 pub mod moves;
@@ -27,4 +28,5 @@ pub mod state_faults;
 pub mod states;
 pub mod table_faults;
 pub mod tables;
+pub mod tally;
 pub mod workloads;

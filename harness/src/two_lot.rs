@@ -60,6 +60,19 @@ pub fn case_c() -> Vec<Move> {
 
 pub const END_C: [u32; 10] = [4, 3, 1, 1, 0, 1, 0x0300_0001, 0x0100_0007, 0x0000_0009, 0x0003_0007];
 
+/// A state like that after four moves of (c): transaction 2 has an abort mark, and here also a message on
+/// port 3. Transaction 1 has one there too, so that but for the mark rule 2 would merge them.
+pub fn aborting() -> Vec<u32> {
+    let mut words = vec![7, 3, 1, 1, 2, 2, 1, 2, 2];
+    words.extend([0x0300_0001, 0x0100_0007, 0x0300_0002, 0x0100_0009, 0x0003_0007, 0x0200_0000, 0x0003_0009]);
+    words
+}
+
+/// The merge that is refused there with 18.
+pub fn merge_with_aborting() -> Move {
+    Move::react(2, &[4, 6])
+}
+
 pub fn case_d() -> Vec<Move> {
     vec![
         Move::react(0, &[0]),

@@ -145,6 +145,7 @@ fn generated() -> BTreeMap<String, String> {
         ("log d".into(), apart::log(&log_words(&case_d()), None)),
         ("lists a".into(), lists()),
         ("page".into(), page()),
+        ("abort mark".into(), abort_mark()),
         ("refusals".into(), refusals()),
         ("order".into(), orders()),
     ]);
@@ -197,6 +198,21 @@ fn page() -> String {
     let moves: Vec<Move> = words.chunks_exact(5).map(|mv| Move::from_words(mv).unwrap()).collect();
     let asked = format!("after move 1, first {first}, count {count}: number 0, words {written}, length {length}\n");
     asked + apart::MOVES_HEAD + &apart::moves(first as usize, &moves)
+}
+
+/// A transaction with an abort mark: a merge with it is refused, and the list has its abort alone.
+fn abort_mark() -> String {
+    let (table, state, mv) = (two_lot::table(), two_lot::aborting(), two_lot::merge_with_aborting());
+    // The state after four moves of (c), with one message more.
+    let (_, words) = run(&table, &two_lot::start(), &log_words(&case_c()[..4]));
+    let mut after_c = State::from_words(&words).unwrap();
+    after_c.entries.push(Entry::message(2, 3, 9));
+    assert_eq!(state, after_c.words());
+    let (answer, _) = make_move(&table, &state, &mv.words());
+    let (page, words) = Asked::new(0, 256).of(&table, &state);
+    let list: Vec<Move> = words.chunks_exact(5).map(|mv| Move::from_words(mv).unwrap()).collect();
+    let refused = format!("refused with {}\nlist_moves: length {}\n", answer.number(), page.length);
+    apart::state(&state) + &apart::one_move(mv) + &refused + apart::MOVES_HEAD + &apart::moves(0, &list)
 }
 
 fn orders() -> String {
@@ -256,6 +272,11 @@ fn refusals() -> String {
             "on 1024 entries: a begin that takes 4, a move that adds 1, the commit",
             serialize(&shrinking.words(), &large.words(), &log_words(&outgrown)).0,
         ),
+        (
+            "move",
+            "rule 2 with picks 4 6, where transaction 2 has an abort mark",
+            moved(&two_lot::aborting(), two_lot::merge_with_aborting()),
+        ),
     ];
     let line = |(number, (call, what, answer)): (usize, (&str, &str, Answer))| {
         assert_eq!(answer.number() as usize, number, "{call}: {what}");
@@ -273,7 +294,7 @@ fn refusals() -> String {
 fn the_guide_has_every_number() {
     let (guide, header) = (file(GUIDE), file("include/coordinator.h"));
     let rows = rows(&prose(&guide), "| number | name | it means | look at |");
-    assert_eq!(rows.len(), 18);
+    assert_eq!(rows.len(), 19);
     for (number, row) in rows.iter().enumerate() {
         let name = row[1].trim_matches('`');
         assert_eq!(row[0], number.to_string());

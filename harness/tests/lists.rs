@@ -3,15 +3,16 @@ mod common;
 
 use common::Asked;
 use harness::answer::{order, Answer, Page};
-use harness::generate::lists::{listed, Tally};
+use harness::generate::lists::{listed, met};
 use harness::generate::state_faults::StateFault;
 use harness::generate::states::state;
 use harness::generate::table_faults::TableFault;
 use harness::generate::tables::{table, Shape};
+use harness::generate::tally::Tally;
 use harness::generate::workloads::{fours, spread};
 use harness::random::Random;
 use harness::two_lot::{self, case_a, lists_a};
-use harness::words::{log_words, role, Atom, Entry, Move, State, Table, STATE_TARGET};
+use harness::words::{kind, log_words, role, Atom, Entry, Move, State, Table, STATE_TARGET};
 use harness::{library, model};
 
 /// The words of moves, one after another.
@@ -54,23 +55,30 @@ fn lists_after_each_move_of_a() {
     }
 }
 
-// Catches a transaction that is left out because it aborts, or that could be committed all the same.
+// Catches a transaction with an abort mark that still reacts, merges or is committed, one that is not
+// aborted, and one without a mark that is left out with it.
 #[test]
-fn an_aborting_transaction_is_merged_and_aborted() {
-    let state = State {
-        next: 3,
-        entries: vec![
-            Entry::member_mark(1, 1),
-            Entry::compensation(1, 0, 7),
-            Entry::member_mark(2, 2),
-            Entry::compensation(2, 0, 9),
-            Entry::message(1, 3, 7),
-            Entry::abort_mark(2),
-            Entry::message(2, 3, 9),
-        ],
+fn an_aborting_transaction_is_only_aborted() {
+    let table = two_lot::table();
+    let mut entries = State::from_words(&two_lot::aborting()).unwrap().entries;
+    let mut list = |more: &[Entry]| {
+        entries.extend(more);
+        Asked::new(0, 256).of(&table, &State { next: 3, entries: entries.clone() }.words())
     };
-    let list = [Move::react(2, &[4, 6]), Move::react(2, &[6, 4]), Move::abort(2)];
-    gives(Asked::new(0, 8).of(&two_lot::table(), &state.words()), &list, 3);
+    gives(list(&[]), &[Move::abort(2)], 1);
+    gives(list(&[Entry::message(2, 2, 9)]), &[Move::abort(2)], 1);
+    let merges = [Move::react(2, &[4, 8]), Move::react(2, &[8, 4]), Move::abort(2)];
+    gives(list(&[Entry::message(1, 3, 5)]), &merges, 3);
+    let more = [
+        Move::react(0, &[10]),
+        Move::react(1, &[9]),
+        Move::react(2, &[4, 8]),
+        Move::react(2, &[8, 4]),
+        Move::react(3, &[9]),
+        Move::abort(2),
+    ];
+    gives(list(&[Entry::message(1, 2, 5), Entry::message(0, 0, 5)]), &more, 6);
+    gives(list(&[Entry::abort_mark(1)]), &[Move::react(0, &[10]), Move::abort(1), Move::abort(2)], 3);
 }
 
 // Catches ids in the order of entries instead of their own, and a merged member taken for an open
@@ -165,7 +173,7 @@ fn pages_together_are_the_list() {
         let paged = in_pages(&table_words, &state_words, count);
         assert_eq!(paged, words(&list), "{table:?} {state:?}");
         assert!(rises(&paged), "{table:?} {state:?}");
-        tally.add(&mut random, &table, &state, &list);
+        tally.add(met(&mut random, &table, &state, &list));
     }
     tally.has_all(40);
 }
@@ -200,10 +208,17 @@ fn every_page_of_short_lists() {
 #[test]
 fn a_move_is_listed_exactly_if_it_is_accepted() {
     let mut random = Random::new(903);
-    let (mut listed, mut others) = (0, 0);
-    for _ in 0..120 {
-        let table = table(&mut random, Shape::Small);
+    let (mut listed, mut others, mut stopped) = (0, 0, 0);
+    for round in 0..120 {
+        let table = table(&mut random, if round % 2 == 0 { Shape::Small } else { Shape::EveryClass });
         let mut state = state(&mut random, &table, 4, true);
+        if round % 2 == 1 {
+            // Transaction 1 with an abort mark and transaction 2, each with messages.
+            let message = |id| Entry::message(id, random.between(table.global, table.ports() - 1), 5);
+            let messages: Vec<Entry> = [1, 1, 2].map(message).to_vec();
+            let marks = [Entry::member_mark(1, 1), Entry::abort_mark(1), Entry::member_mark(2, 2)];
+            state = State { next: 3, entries: [messages, marks.to_vec()].concat() };
+        }
         if state.next > 8 {
             state.next = 65_536;
         }
@@ -218,13 +233,15 @@ fn a_move_is_listed_exactly_if_it_is_accepted() {
                 let pick = |level: u32| picks / (n + 1).pow(level) % (n + 1);
                 let mv = [head, pick(3), pick(2), pick(1), pick(0)];
                 let found = list.chunks_exact(5).any(|other| other == mv);
-                assert_eq!(found, makes(&table, &state, &mv), "{mv:x?} of {table:x?} {state:x?}");
+                let number = library::make_move(&table, &state, &mv, &mut [0; STATE_TARGET]).number();
+                assert_eq!(found, number == 0, "{mv:x?} of {table:x?} {state:x?}");
                 listed += usize::from(found);
                 others += usize::from(!found);
+                stopped += usize::from(number == 18);
             }
         }
     }
-    assert!(listed > 200 && others > 100_000, "{listed} {others}");
+    assert!(listed > 200 && others > 100_000 && stopped > 100, "{listed} {others} {stopped}");
 }
 
 /// One message for another: as many moves as there are messages.
@@ -394,18 +411,29 @@ fn full_page(table: &[u32], state: &[u32], first: u64, length: u64) -> Vec<u32> 
 #[test]
 fn long_lists() {
     let mut random = Random::new(906);
-    for (class, open, ports) in [
-        (0, 0, [8, 4, 4]),
-        (0, 0, [200, 0, 0]),
-        (1, 300, [8, 4, 4]),
-        (1, 3, [1, 12, 0]),
-        (1, 1, [0, 1, 0]),
-        (1, 600, [0, 1, 0]),
-        (2, 300, [8, 4, 4]),
-        (2, 900, [0, 0, 1]),
+    for (class, open, ports, marked) in [
+        (0, 0, [8, 4, 4], 0),
+        (0, 0, [200, 0, 0], 0),
+        (1, 300, [8, 4, 4], 0),
+        (1, 3, [1, 12, 0], 0),
+        (1, 1, [0, 1, 0], 0),
+        (1, 600, [0, 1, 0], 0),
+        (2, 300, [8, 4, 4], 0),
+        (2, 900, [0, 0, 1], 0),
+        (1, 300, [8, 4, 4], 100),
+        (1, 3, [1, 12, 0], 2),
+        (2, 300, [8, 4, 4], 250),
+        (2, 900, [0, 0, 1], 300),
     ] {
         let table = fours(&mut random, ports, class);
-        let state = spread(&mut random, &table, class, 1_024, open);
+        let mut state = spread(&mut random, &table, class, 1_024, open);
+        // So many transactions get an abort mark in place of their first message.
+        for id in 1..=marked {
+            let message = |entry: &&mut Entry| entry.owner == id && entry.kind == kind::MESSAGE;
+            if let Some(entry) = state.entries.iter_mut().find(message) {
+                *entry = Entry::abort_mark(id);
+            }
+        }
         let borders = borders(&table, &state.words());
         let (table, state) = (table.words(), state.words());
         let length = Asked::new(0, 0).of_long(&table, &state).0.length;

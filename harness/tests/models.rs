@@ -4,13 +4,14 @@ mod common;
 use std::collections::BTreeMap;
 
 use harness::answer::Answer;
-use harness::generate::lists::{listed, Tally};
+use harness::generate::lists::{listed, met};
 use harness::generate::logs::{accepted, closed};
 use harness::generate::moves::open;
 use harness::generate::states::{messages, state};
 use harness::generate::tables::{table, Shape};
+use harness::generate::tally::Tally;
 use harness::model::colours;
-use harness::model::definitions::{Channel, Definitions};
+use harness::model::definitions::{Channel, Definition, Definitions, Output, Product, Term};
 use harness::model::ordered::{Made, Ordered};
 use harness::model::solution::{Message, Origin, Solution};
 use harness::random::Random;
@@ -90,6 +91,41 @@ fn example_8_aborts() {
     assert_eq!(solution.commit(1), Err(10));
     solution.abort(1).unwrap();
     assert_eq!(values(&solution.messages), [(Q, 10), (Q, 20)]);
+    assert!(solution.transactions.is_empty());
+}
+
+// Catches a merge with a party in which an abort floats, and a begin, an end or another transaction that
+// the abort keeps from going on: failure goes first, and only where it is.
+#[test]
+fn failure_goes_first() {
+    // Example 8 with `c1⟨x⟩ ▷ [a⟨x⟩ | abort : q⟨x⟩]` besides, and `a ▶ a`.
+    let mut definitions = example_8().rules;
+    let Product::Global(Some(begin)) = &mut definitions[0].product else { unreachable!() };
+    begin.abort = true;
+    let again = Output { channel: Channel::Merge(A), term: Term::Received(0) };
+    definitions.push(Definition {
+        pattern: vec![Channel::Merge(A)],
+        emits: vec![again],
+        product: Product::Merge { abort: false },
+    });
+    definitions.extend(example_8().rules.into_iter().take(1));
+    let [failing, other, joins, aborts, alone, going] = &definitions[..] else { unreachable!() };
+    let mut solution = start(&[(C1, 10), (C2, 20), (C1, 30)]);
+    solution.fire(failing, &[Origin::Start(0)], 0).unwrap();
+    solution.fire(other, &[Origin::Start(1)], 1).unwrap();
+    let [failed, waiting] = [0, 1].map(|by| Origin::Made { by, product: 1 });
+    let before = solution.clone();
+    for (rule, names) in [(joins, &[failed, waiting][..]), (aborts, &[failed, waiting]), (alone, &[failed])] {
+        assert_eq!(solution.fire(rule, names, 2).map(|_| ()), Err(18));
+    }
+    assert_eq!(solution.commit(1), Err(10));
+    assert_eq!(solution, before, "a refusal leaves the solution as it was");
+    // Others begin, merge and end beside it.
+    solution.fire(going, &[Origin::Start(2)], 2).unwrap();
+    solution.fire(joins, &[Origin::Made { by: 2, product: 1 }, waiting], 3).unwrap();
+    solution.commit(2).unwrap();
+    solution.abort(1).unwrap();
+    assert_eq!(values(&solution.messages), [(OK, 0), (Q, 10)]);
     assert!(solution.transactions.is_empty());
 }
 
@@ -241,7 +277,7 @@ fn the_plain_code_lists_the_models_moves() {
         let Some(expected) = model::enabled_moves(&table_words, &state_words, most).unwrap() else { continue };
         let count = random.pick(&[1, 7, 255, 256, u32::MAX]);
         assert_eq!(plain_list(&table_words, &state_words, count), expected, "{table:?} {state:?}");
-        tally.add(&mut random, &table, &state, &expected);
+        tally.add(met(&mut random, &table, &state, &expected));
     }
     tally.has_all(40);
 }

@@ -3,9 +3,11 @@ mod common;
 
 use common::{check_state, gives, make_move, on_target, refused, MAKE_MOVE};
 use harness::answer::{order, Answer};
-use harness::generate::moves::{allowed, changed, consumes};
+use harness::generate::aborting::{marked, met, number, reaction_among};
+use harness::generate::moves::{aborting, allowed, changed, consumes};
 use harness::generate::states::state;
 use harness::generate::tables::{table, Shape};
+use harness::generate::tally::Tally;
 use harness::random::Random;
 use harness::two_lot::{self, case_a};
 use harness::words::{act, role, Atom, Entry, Move, State, Table};
@@ -51,7 +53,7 @@ fn a_merge_takes_everything_of_each_transaction() {
             Entry::message(7, 3, 70),
             Entry::member_mark(4, 4),
             Entry::message(0, 1, 1),
-            Entry::abort_mark(7),
+            Entry::compensation(4, 1, 3),
             Entry::member_mark(7, 7),
             Entry::message(4, 3, 40),
             Entry::member_mark(7, 8),
@@ -65,7 +67,7 @@ fn a_merge_takes_everything_of_each_transaction() {
         entries: vec![
             Entry::member_mark(4, 4),
             Entry::message(0, 1, 1),
-            Entry::abort_mark(4),
+            Entry::compensation(4, 1, 3),
             Entry::member_mark(4, 7),
             Entry::member_mark(4, 8),
             Entry::compensation(4, 0, 5),
@@ -76,11 +78,100 @@ fn a_merge_takes_everything_of_each_transaction() {
         ],
     };
     gives(make_move(&table, &state.words(), &react(2, &[0, 5])), &expected.words());
-    // An aborting transaction may still react and merge; after it only the smallest id names it.
-    refused(make_move(&table, &expected.words(), &Move::abort(7).words()), 9);
-    let ended =
-        State { next: 9, entries: vec![Entry::message(0, 1, 1), Entry::message(0, 0, 5), Entry::member_mark(2, 2)] };
-    gives(make_move(&table, &expected.words(), &Move::abort(4).words()), &ended.words());
+    // Only the smallest id names it now, and its abort frees the compensations of both.
+    let (_, stopped) = make_move(&table, &expected.words(), &react(3, &[6]));
+    refused(make_move(&table, &stopped, &Move::abort(7).words()), 9);
+    let freed =
+        vec![Entry::message(0, 1, 1), Entry::message(0, 1, 3), Entry::message(0, 0, 5), Entry::member_mark(2, 2)];
+    gives(make_move(&table, &stopped, &Move::abort(4).words()), &State { next: 9, entries: freed }.words());
+}
+
+/// A begin with an abort mark inside, a local rule, merge rules of one to four consumes, and a global rule.
+fn with_aborts() -> Table {
+    let merge = |picks: usize| [vec![Atom::consume(2); picks], vec![Atom::received(role::EMIT, 2, 0)]].concat();
+    let begin = vec![
+        Atom::consume(0),
+        Atom::BEGIN,
+        Atom::received(role::BODY, 1, 0),
+        Atom::received(role::BODY, 2, 0),
+        Atom::received(role::COMPENSATE, 0, 0),
+        Atom::ABORT,
+    ];
+    let local = vec![Atom::consume(1), Atom::received(role::EMIT, 1, 0)];
+    let global = vec![Atom::consume(0), Atom::received(role::EMIT, 0, 0)];
+    Table { global: 1, local: 1, merge: 1, rules: vec![begin, local, merge(1), merge(2), merge(3), merge(4), global] }
+}
+
+// Catches an abort mark that is looked for only in the first, the last or the smallest transaction of a
+// merge, or where none of the picked ones has it: every choice of transactions with a mark.
+#[test]
+fn no_pick_is_in_an_aborting_transaction() {
+    let table = with_aborts().words();
+    for marks in 0..1u32 << 4 {
+        let marked = |id: u32| marks >> (id - 1) & 1 == 1;
+        // Ids fall, so that the first pick is not in the smallest transaction.
+        let mut entries: Vec<Entry> = (1..=4).rev().map(|id| Entry::message(id, 2, id)).collect();
+        entries.extend((1..=4).map(|id| Entry::message(id, 1, id)));
+        entries.extend((1..=4).map(|id| Entry::member_mark(id, id)));
+        entries.push(Entry::message(0, 0, 9));
+        entries.extend((1..=4).filter(|&id| marked(id)).map(Entry::abort_mark));
+        let n = entries.len() as u32;
+        let state = State { next: 5, entries }.words();
+        // The last merge consumes the messages on port 2 of transactions 4, 3, 2 and 1, those before it the
+        // first of them.
+        for (rule, picks) in [(2, 1), (3, 2), (4, 3), (5, 4)] {
+            for first in 0..=4 - picks {
+                let places: Vec<u32> = (first..first + picks).collect();
+                let stopped = places.iter().any(|place| marked(4 - place));
+                for places in [places.clone(), places.into_iter().rev().collect()] {
+                    let (answer, _) = make_move(&table, &state, &react(rule, &places));
+                    let expected = if stopped { Answer::Refused(18) } else { Answer::Accepted(4 + 2 * (n - picks)) };
+                    assert_eq!(answer, expected, "{marks:04b} {places:?}");
+                }
+            }
+        }
+        for id in 1..=4 {
+            let (answer, _) = make_move(&table, &state, &react(1, &[3 + id]));
+            assert_eq!(answer.number(), if marked(id) { 18 } else { 0 }, "{marks:04b} {id}");
+            // Its end is decided as before: a commit wants no mark and no other messages, an abort wants a mark.
+            refused(make_move(&table, &state, &Move::commit(id).words()), 10);
+            let (answer, _) = make_move(&table, &state, &Move::abort(id).words());
+            assert_eq!(answer.number(), if marked(id) { 0 } else { 10 }, "{marks:04b} {id}");
+        }
+        // Global rules go on, also one that begins with an abort mark inside.
+        for rule in [0, 6] {
+            assert_eq!(make_move(&table, &state, &react(rule, &[12])).0.number(), 0, "{marks:04b} {rule}");
+        }
+    }
+}
+
+// Catches a begin that is refused for the abort mark inside it, and a reaction in what it began.
+#[test]
+fn a_transaction_begun_with_an_abort_mark_only_aborts() {
+    let table = with_aborts().words();
+    let start = State { next: 1, entries: vec![Entry::message(0, 0, 7)] }.words();
+    let (answer, begun) = make_move(&table, &start, &react(0, &[0]));
+    assert_eq!(answer, Answer::Accepted(12));
+    refused(make_move(&table, &begun, &react(1, &[1])), 18);
+    refused(make_move(&table, &begun, &react(2, &[2])), 18);
+    refused(make_move(&table, &begun, &Move::commit(1).words()), 10);
+    gives(make_move(&table, &begun, &Move::abort(1).words()), &[1, 2, 0, 7]);
+}
+
+// Catches any difference on reactions whose picks fit but for abort marks, in every mixture of
+// transactions with and without one.
+#[test]
+fn random_reactions_beside_abort_marks() {
+    let mut random = Random::new(306);
+    let mut tally = Tally::default();
+    for _ in 0..20_000 {
+        let (table, state) = marked(&mut random);
+        let Some(mv) = reaction_among(&mut random, &table, &state) else { continue };
+        let (answer, _) = make_move(&table.words(), &state.words(), &mv.words());
+        assert_eq!(answer.number(), number(&table, &state, &mv), "{mv:?} of {table:?} {state:?}");
+        tally.add(met(&table, &state, &mv));
+    }
+    tally.has_all(50);
 }
 
 // Catches a commit that drops or moves messages, keeps compensations, or looks at the wrong class.
@@ -126,7 +217,7 @@ fn owners_and_kinds_of_picks() {
         Entry::message(1, 1, 5),
         Entry::message(2, 1, 5),
         Entry::message(1, 1, 6),
-        Entry::abort_mark(1),
+        Entry::abort_mark(2),
     ];
     let (table, state) = (table.words(), State { next: 3, entries }.words());
     refused(make_move(&table, &state, &react(0, &[2])), 8);
@@ -173,6 +264,7 @@ fn products_of_a_begin() {
 fn random_allowed_moves() {
     let mut random = Random::new(301);
     let mut made = [0; 3];
+    let mut beside = 0;
     for round in 0..12_000 {
         let table = table(&mut random, if round % 4 == 0 { Shape::Any } else { Shape::Small });
         let most = random.pick(&[6, 20, 60, 1_024]);
@@ -183,13 +275,14 @@ fn random_allowed_moves() {
             Answer::Accepted(_) => {
                 assert_eq!(check_state(&table.words(), &words), Answer::Accepted(0));
                 made[mv.kind as usize] += 1;
+                beside += usize::from(mv.kind == act::REACT && !aborting(&state).is_empty());
             }
             // Only the limits may refuse it.
             Answer::Refused(number) => assert!([11, 12].contains(&number), "{number}"),
             Answer::MoveRefused { .. } => unreachable!(),
         }
     }
-    assert!(made.iter().all(|&count| count > 400), "{made:?}");
+    assert!(made.iter().all(|&count| count > 400) && beside > 400, "{made:?} {beside}");
 }
 
 // Catches a result that depends on where entries stand: the same move on a shuffled state leaves
@@ -229,7 +322,7 @@ fn the_order_of_entries_is_free() {
 #[test]
 fn random_changed_moves() {
     let mut random = Random::new(302);
-    let mut answers = [0; 13];
+    let mut answers = [0; 19];
     for round in 0..40_000 {
         let table = table(&mut random, if round % 6 == 0 { Shape::Any } else { Shape::Small });
         let most = random.pick(&[6, 20, 60, 1_024]);
@@ -240,7 +333,7 @@ fn random_changed_moves() {
         let mv = changed(&mut random, &table, &state);
         answers[make_move(&table.words(), &state.words(), &mv).0.number() as usize] += 1;
     }
-    for number in [0, 5, 7, 8, 9, 10, 11, 12] {
+    for number in [0, 5, 7, 8, 9, 10, 11, 12, 18] {
         assert!(answers[number] > 100, "{number}: {answers:?}");
     }
 }
@@ -323,8 +416,31 @@ fn targets_of_a_move() {
     }
 }
 
-/// Input of a move that has exactly the faults asked for: 1 to 6 and those of its kind of move.
-fn faulty(faults: &[u32], reaction: bool) -> ([Vec<u32>; 3], usize) {
+/// A move that faults are put into.
+#[derive(Clone, Copy, Debug, PartialEq, Eq)]
+enum Kind {
+    Begin,
+    Local,
+    Merge,
+    Commit,
+}
+
+impl Kind {
+    /// The faults that a move of this kind can have besides 1 to 6. Only a begin can lack an id, and it picks
+    /// nothing inside a transaction, so 18 and 11 never meet. Messages on merge ports are always inside
+    /// transactions, so a merge has no 8. 9 and 10 are of ends.
+    fn faults(self) -> &'static [u32] {
+        match self {
+            Kind::Begin => &[7, 8, 11, 12],
+            Kind::Local => &[7, 8, 18, 12],
+            Kind::Merge => &[7, 18, 12],
+            Kind::Commit => &[9, 10],
+        }
+    }
+}
+
+/// Input of a move of this kind that has exactly the faults asked for; `wrong` is the pick with fault 7.
+fn faulty(faults: &[u32], kind: Kind, wrong: usize) -> ([Vec<u32>; 3], usize) {
     let has = |number| faults.contains(&number);
     let begin = vec![
         Atom::consume(0),
@@ -333,8 +449,9 @@ fn faulty(faults: &[u32], reaction: bool) -> ([Vec<u32>; 3], usize) {
         Atom::constant(role::BODY, 1, 0),
         Atom::constant(role::BODY, 1, 0),
     ];
+    let grow = |port| [vec![Atom::consume(port); 2], vec![Atom::constant(role::EMIT, port, 0); 3]].concat();
     let other = vec![Atom::new(role::CONSUME, if has(2) { 1 } else { 0 }, 0, 0)];
-    let mut table = Table { global: 1, local: 1, merge: 0, rules: vec![begin, other] }.words();
+    let mut table = Table { global: 1, local: 1, merge: 1, rules: vec![begin, grow(1), grow(2), other] }.words();
     if has(1) {
         table.push(0);
     }
@@ -343,45 +460,63 @@ fn faulty(faults: &[u32], reaction: bool) -> ([Vec<u32>; 3], usize) {
         Entry::message(if has(8) { 3 } else { 0 }, 0, 2),
         Entry::member_mark(3, 3),
         Entry::message(3, if has(10) { 1 } else { 0 }, 2),
+        Entry::member_mark(5, 5),
+        Entry::member_mark(6, 6),
+        Entry::message(5, 1, 3),
+        Entry::message(if has(8) { 6 } else { 5 }, 1, 4),
+        Entry::message(6, 2, 5),
+        Entry::message(5, 2, 6),
     ];
+    if has(18) {
+        entries.push(Entry::abort_mark(5));
+    }
     let n = if has(12) { 1_024 } else { 900 };
     entries.resize(n, Entry::message(0, 0, 9));
     if has(4) {
         entries[n - 1].kind = 4;
     }
-    let mut state = State { next: if has(11) { 65_536 } else { 4 }, entries }.words();
+    let mut state = State { next: if has(11) { 65_536 } else { 7 }, entries }.words();
     if has(3) {
         state.pop();
     }
-    let mut mv = if reaction {
-        react(0, &[if has(7) { 1_024 } else { 0 }, 1])
-    } else {
-        Move::commit(if has(9) { 2 } else { 3 }).words()
+    let mut mv = match kind {
+        Kind::Begin => react(0, &[0, 1]),
+        Kind::Local => react(1, &[6, 7]),
+        Kind::Merge => react(2, &[8, 9]),
+        Kind::Commit => Move::commit(if has(9) { 2 } else { 3 }).words(),
     };
+    if has(7) {
+        mv[1 + wrong] = 1_024;
+    }
     if has(5) {
         mv[4] = 1;
     }
     ([table, state, mv], if has(6) { 2_049 } else { 2_050 })
 }
 
-// Catches refusals in another order than 01's: every set of faults that can meet in one move.
+// Catches refusals in another order than 01's and 02's: every set of faults that can meet in one move, and
+// with them those of others that this move does not have. Picks are tested all for 7, then for 8, then for
+// 18: the pick with 7 stands before or behind one in a transaction with an abort mark.
 #[test]
 fn the_first_fault_counts() {
-    let kinds: [(&[u32], bool); 3] = [
-        (&[1, 2, 3, 4, 5, 6, 7, 8, 11, 12], true),
-        (&[1, 2, 3, 4, 5, 6, 9, 12], false),
-        (&[1, 2, 3, 4, 5, 6, 10, 11], false),
+    let kinds: [(Kind, &[u32]); 5] = [
+        (Kind::Begin, &[1, 2, 3, 4, 5, 6, 7, 8, 18, 11, 12]),
+        (Kind::Local, &[1, 2, 3, 4, 5, 6, 7, 8, 18, 11, 12]),
+        (Kind::Merge, &[1, 2, 3, 4, 5, 6, 7, 18, 11, 12]),
+        (Kind::Commit, &[1, 2, 3, 4, 5, 6, 9, 18, 12]),
+        (Kind::Commit, &[1, 2, 3, 4, 5, 6, 10, 18, 11]),
     ];
-    for (numbers, reaction) in kinds {
+    for (kind, numbers) in kinds {
         for set in 0..1u32 << numbers.len() {
             let faults: Vec<u32> =
                 (0..numbers.len()).filter(|bit| set >> bit & 1 == 1).map(|bit| numbers[bit]).collect();
-            let ([table, state, mv], room) = faulty(&faults, reaction);
-            let (answer, _) = on_target(MAKE_MOVE, [&table, &state, &mv], room);
-            // A full state and a used-up id are no faults of a commit.
-            let counts = |number: &u32| faults.contains(number) && (reaction || *number < 11);
+            let counts = |number: &u32| faults.contains(number) && (*number <= 6 || kind.faults().contains(number));
             let first = order::MOVE.into_iter().find(counts).unwrap_or(0);
-            assert_eq!(answer.number(), first, "{faults:?}");
+            for wrong in if faults.contains(&7) { 0..2 } else { 0..1 } {
+                let ([table, state, mv], room) = faulty(&faults, kind, wrong);
+                let (answer, _) = on_target(MAKE_MOVE, [&table, &state, &mv], room);
+                assert_eq!(answer.number(), first, "{kind:?} {faults:?}");
+            }
         }
     }
 }

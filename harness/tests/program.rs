@@ -9,7 +9,7 @@ use std::thread;
 use std::time::Duration;
 
 use harness::answer::order;
-use harness::generate::logs::{accepted, closed};
+use harness::generate::logs::{accepted, broken_off, closed};
 use harness::generate::moves::changed;
 use harness::generate::state_faults::StateFault;
 use harness::generate::states::{messages, state};
@@ -300,7 +300,7 @@ fn nothing_follows_a_refused_move() {
         let before = lines[1..=case.after].concat();
         prints(&plant(&log), &format!("moves {} entries 2 next 1\n{before}{last}\n", log.len()));
     }
-    // A message still inside a transaction: 8. N = 65,536: 11. A full state: 12.
+    // A message still inside a transaction: 8. N = 65,536: 11. A full state: 12. An abort mark: 18.
     let table = two_lot::table();
     let inside = [2, 2, 1, 1, 0x0300_0001, 7];
     prints(&input(&table, &inside, &log_words(&[Move::react(0, &[1])])), "moves 1 entries 2 next 2\n0 8 2 2\n");
@@ -310,6 +310,8 @@ fn nothing_follows_a_refused_move() {
     );
     let full = State { next: 1, entries: vec![Entry::message(0, 0, 7); 1_024] };
     prints(&input(&table, &full.words(), &log_words(&case_a()[..1])), "moves 1 entries 1024 next 1\n0 12 1024 1\n");
+    let log = log_words(&[two_lot::merge_with_aborting(), Move::abort(2)]);
+    prints(&input(&table, &two_lot::aborting(), &log), "moves 2 entries 7 next 3\n0 18 7 3\n");
 }
 
 // Catches n and N that are not those after the move: case (c) ends with a transaction open.
@@ -345,11 +347,11 @@ fn the_largest_input() {
 }
 
 // Catches any other difference: random tables, states and logs, right ones and ones with a move
-// changed, a planted fault, a changed or lost word, or bytes behind.
+// changed, one in a transaction with an abort mark, a planted fault, a changed or lost word, or bytes behind.
 #[test]
 fn random_inputs() {
     let mut random = Random::new(703);
-    let mut seen = [0; 18];
+    let mut seen = [0; 19];
     let (mut whole, mut broken) = (0, 0);
     for round in 0..900 {
         let table = table(&mut random, [Shape::Small, Shape::Closable, Shape::Any][round % 3]);
@@ -361,6 +363,9 @@ fn random_inputs() {
             let other = Move::from_words(&changed(&mut random, &table, &start)).unwrap();
             let at = random.index(log.len() + 1);
             log.insert(at, other);
+        }
+        if round % 8 == 4 {
+            log = broken_off(&mut random, &table, &start, 20).map_or(log, |(broken, _)| broken);
         }
         let mut parts = [table.words(), start.words(), log_words(&log)];
         match round % 8 {
@@ -398,7 +403,7 @@ fn random_inputs() {
             }
         }
     }
-    for number in [1, 2, 3, 4, 5, 7, 9, 10, 13] {
+    for number in [1, 2, 3, 4, 5, 7, 9, 10, 13, 18] {
         assert!(seen[number] > 0, "{number}: {seen:?}");
     }
     assert!(whole > 150 && broken > 60, "{whole} {broken}");

@@ -3,13 +3,13 @@ mod common;
 
 use common::{check_state, gives, make_move, on_target, refused, run, RUN};
 use harness::answer::{order, Answer};
-use harness::generate::logs::accepted;
-use harness::generate::moves::changed;
+use harness::generate::logs::{accepted, broken_off};
+use harness::generate::moves::{changed, consumes};
 use harness::generate::states::{messages, state};
 use harness::generate::tables::{table, Shape};
 use harness::random::Random;
 use harness::two_lot::{self, case_a};
-use harness::words::{log_words, role, Atom, Entry, Move, State, Table};
+use harness::words::{act, log_words, role, Atom, Entry, Move, State, Table};
 
 // Catches a run that makes only its first move, gives the start back, has one fixed end, or goes on
 // after a refused move.
@@ -75,7 +75,7 @@ fn long_logs_get_one_answer() {
 #[test]
 fn a_changed_move_is_named() {
     let mut random = Random::new(403);
-    let mut own_numbers = [0; 13];
+    let mut own_numbers = [0; 19];
     let mut places = 0;
     for round in 0..12_000 {
         let table = table(&mut random, if round % 2 == 0 { Shape::Small } else { Shape::Closable });
@@ -101,11 +101,66 @@ fn a_changed_move_is_named() {
             answer => assert!(matches!(answer, Answer::Accepted(_)), "{answer:?}"),
         }
     }
-    for own in 0..13 {
-        let possible = [5, 7, 8, 9, 10, 11, 12].contains(&own);
+    for own in 0..19 {
+        let possible = [5, 7, 8, 9, 10, 11, 12, 18].contains(&own);
         assert_eq!(own_numbers[own] > 20, possible, "{own}: {own_numbers:?}");
     }
     assert!(places > 500, "{places}");
+}
+
+/// Whether a move is a reaction by a rule with this atom.
+fn has_atom(table: &Table, mv: &Move, atom: Atom) -> bool {
+    mv.kind == act::REACT && table.rules[mv.number as usize].contains(&atom)
+}
+
+// Catches a run that goes on in a transaction with an abort mark, one that stops before, and another place
+// or number: the mark was there at the start, came with the begin, or by a reaction before.
+#[test]
+fn a_log_breaks_off_at_an_abort_mark() {
+    let mut random = Random::new(405);
+    let (mut at_start, mut by_begin, mut by_reaction, mut late, mut merges) = (0, 0, 0, 0, 0);
+    for round in 0..6_000 {
+        let table = table(&mut random, if round % 2 == 0 { Shape::EveryClass } else { Shape::Closable });
+        let open = round % 3 == 0;
+        let start = state(&mut random, &table, 30, open);
+        let Some((log, place)) = broken_off(&mut random, &table, &start, 25) else { continue };
+        let (table_words, start_words) = (table.words(), start.words());
+        let (answer, before) = run(&table_words, &start_words, &log_words(&log[..place]));
+        assert_eq!(answer.number(), 0);
+        let refused = Answer::MoveRefused { place: place as u32, own: 18 };
+        assert_eq!(run(&table_words, &start_words, &log_words(&log)).0, refused, "{table:?} {start:?} {log:?}");
+        // Where the first pick with a mark is, and how that transaction began.
+        let entries = State::from_words(&before).unwrap().entries;
+        let marked = |id: u32| entries.contains(&Entry::abort_mark(id));
+        let picks = &log[place].picks[..consumes(&table.rules[log[place].number as usize]).len()];
+        let owners: Vec<u32> = picks.iter().map(|&pick| entries[pick as usize].owner).collect();
+        let id = *owners.iter().find(|&&id| marked(id)).unwrap();
+        let begins: Vec<&Move> = log[..place].iter().filter(|mv| has_atom(&table, mv, Atom::BEGIN)).collect();
+        match id.checked_sub(start.next) {
+            None => at_start += 1,
+            Some(begun) if has_atom(&table, begins[begun as usize], Atom::ABORT) => by_begin += 1,
+            Some(_) => by_reaction += 1,
+        }
+        late += usize::from(place > 8);
+        merges += usize::from(owners.iter().any(|&owner| owner != owners[0]));
+    }
+    let all = [at_start, by_begin, by_reaction, late, merges];
+    assert!(all.iter().all(|&count| count > 50), "{all:?}");
+}
+
+// Catches a log of before M-105 that is still accepted whole: a transaction reacts and merges after its
+// abort mark. Without these moves it is accepted.
+#[test]
+fn a_log_of_before_breaks_off() {
+    let mut table = Table::from_words(&two_lot::table()).unwrap();
+    table.rules.push(vec![Atom::consume(2), Atom::received(role::EMIT, 2, 0), Atom::ABORT]);
+    let (table, start) = (table.words(), two_lot::start());
+    let begun = case_a()[..3].to_vec();
+    let stop = Move::react(4, &[3]);
+    let before = [&begun[..], &[stop, Move::react(1, &[5]), Move::react(2, &[4, 6]), Move::abort(1)]].concat();
+    assert_eq!(run(&table, &start, &log_words(&before)).0, Answer::MoveRefused { place: 4, own: 18 });
+    let now = [&begun[..], &[stop, Move::abort(2)]].concat();
+    gives(run(&table, &start, &log_words(&now)), &two_lot::END_C);
 }
 
 // Catches a wrong count or length that passes, a read past the end, and a trap on noise.

@@ -4,7 +4,8 @@ mod common;
 use common::demand3::Demand3;
 use common::{gives, on_target, refused, run, serialize, shrinking, SERIALIZE};
 use harness::answer::{order, Answer};
-use harness::generate::logs::{accepted, closed, Walk};
+use harness::generate::logs::{accepted, broken_off, closed, Walk};
+use harness::generate::moves::aborting;
 use harness::generate::states::{messages, state};
 use harness::generate::tables::{table, Shape};
 use harness::random::Random;
@@ -77,7 +78,7 @@ fn demand3(table: &Table, start: &State, log: &[Move]) -> Answer {
 #[test]
 fn random_closed_logs() {
     let mut random = Random::new(501);
-    let (mut moved, mut merges, mut commits, mut aborts) = (0, 0, 0, 0);
+    let (mut moved, mut merges, mut commits, mut aborts, mut beside) = (0, 0, 0, 0, 0);
     for _ in 0..3_000 {
         let table = table(&mut random, Shape::Closable);
         let n = random.between(1, 30) as usize;
@@ -90,8 +91,40 @@ fn random_closed_logs() {
         commits += log.iter().filter(|mv| mv.kind == act::COMMIT).count();
         aborts += log.iter().filter(|mv| mv.kind == act::ABORT).count();
         merges += Demand3::new(&table, &start, &log).merged_ends();
+        beside += beside_marks(&table, &start, &log);
     }
-    assert!(moved > 500 && merges > 500 && commits > 1_000 && aborts > 1_000, "{moved} {merges} {commits} {aborts}");
+    let all = [moved, merges, commits, aborts, beside];
+    assert!(all.iter().zip([500, 500, 1_000, 1_000, 1_000]).all(|(&count, least)| count > least), "{all:?}");
+}
+
+/// The reactions that are made while some transaction has an abort mark.
+fn beside_marks(table: &Table, start: &State, log: &[Move]) -> usize {
+    let mut walk = Walk::new(table, start);
+    let mut count = 0;
+    for &mv in log {
+        count += usize::from(mv.kind == act::REACT && !aborting(&walk.state).is_empty());
+        assert!(walk.make(mv));
+    }
+    count
+}
+
+// Catches a serial log for a log that goes on in a transaction with an abort mark, and another place or
+// number: nothing is open at the start, so 16 comes before 15 for what is left open.
+#[test]
+fn a_log_breaks_off_at_an_abort_mark() {
+    let mut random = Random::new(506);
+    let (mut broken, mut late) = (0, 0);
+    for _ in 0..4_000 {
+        let table = table(&mut random, Shape::Closable);
+        let n = random.between(1, 30) as usize;
+        let start = messages(&mut random, &table, n);
+        let Some((log, place)) = broken_off(&mut random, &table, &start, 40) else { continue };
+        let expected = Answer::MoveRefused { place: place as u32, own: 18 };
+        assert_eq!(serialize(&table.words(), &start.words(), &log_words(&log)).0, expected);
+        broken += 1;
+        late += usize::from(place > 8);
+    }
+    assert!(broken > 500 && late > 100, "{broken} {late}");
 }
 
 /// The place of the transaction's message on the merge port 1.

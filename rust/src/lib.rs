@@ -3,7 +3,7 @@
 //! A table of rules, a state, a move and a log are lists of 32-bit words; document 01 gives their
 //! layout. [`Table`], [`State`], [`Move`] and [`Log`] borrow such words and check nothing, so that
 //! words from a file or a line can be handed over as they are: every call checks all that it is
-//! handed, and answers a [`Refusal`] with document 01's number. [`TableBuilder`], [`StateBuilder`],
+//! handed, and answers a [`Refusal`] with the number of document 01 or 02. [`TableBuilder`], [`StateBuilder`],
 //! [`LogBuilder`] and [`react`], [`commit`], [`abort`] write the words.
 //!
 //! No call allocates, keeps anything, or panics. A refused call leaves its target as it was; an
@@ -92,7 +92,7 @@ pub fn check_state(table: Table<'_>, state: State<'_>) -> Result<(), Refusal> {
     boundary::check_state(table.words(), state.words()).result().map(|_| ())
 }
 
-/// The state after one move, written to the front of the target. Refusals: 1 to 12, in that order.
+/// The state after one move, written to the front of the target. Refusals: 1 to 8, 18, 9 to 12, in that order.
 pub fn make_move<'t>(
     table: Table<'_>,
     state: State<'_>,

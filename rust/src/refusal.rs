@@ -2,7 +2,7 @@
 use std::error::Error;
 use std::fmt;
 
-/// Why a call is refused, with document 01's number. More may come.
+/// Why a call is refused, with the number of document 01 or 02. More may come.
 #[derive(Clone, Copy, Debug, PartialEq, Eq, Hash)]
 #[non_exhaustive]
 pub enum Refusal {
@@ -41,18 +41,20 @@ pub enum Refusal {
     MoveRefused {
         /// The move's place in the log, from 0.
         place: u32,
-        /// The number with which the move itself is refused: 5, or 7 to 12.
+        /// The number with which the move itself is refused: 5, 7 to 12, or 18.
         own: u32,
     },
     /// 17: a state along the serial log would have more than 1,024 entries.
     SerialTooManyEntries,
+    /// 18: the transaction of a picked message has an abort mark, so that it may only be aborted.
+    TransactionAborting,
     /// A number that this crate does not know: the archive is newer.
     Unknown(u32),
 }
 
 /// The refusals that are a number alone, each with what it means.
 #[rustfmt::skip]
-const MEANINGS: [(u32, Refusal, &str); 16] = [
+const MEANINGS: [(u32, Refusal, &str); 17] = [
     (1, Refusal::TableSizes, "a size of the table is over its limit or does not fit its length"),
     (2, Refusal::TableContents, "a rule number or an atom of the table is wrong"),
     (3, Refusal::StateSizes, "the state's count or next id is not valid, or its length does not fit"),
@@ -72,10 +74,12 @@ const MEANINGS: [(u32, Refusal, &str); 16] = [
     (14, Refusal::BeginEmits, "a rule of the table begins a transaction and emits, so that no serial log is made"),
     (15, Refusal::TransactionOpen, "a transaction is open before or after the log, so that no serial log is made"),
     (17, Refusal::SerialTooManyEntries, "a state along the serial log would have more than 1,024 entries"),
+    (18, Refusal::TransactionAborting,
+        "the transaction of a picked message has an abort mark, so that it may only be aborted"),
 ];
 
 impl Refusal {
-    /// Document 01's number.
+    /// The number of document 01 or 02.
     pub fn number(self) -> u32 {
         match self {
             Refusal::MoveRefused { .. } => 16,

@@ -59,7 +59,7 @@ fn words_are_read_back() {
 // Catches a number that is lost or doubled on its way to a refusal, and a text without it.
 #[test]
 fn refusals_have_their_numbers() {
-    for number in (1..=17).filter(|&number| number != 16) {
+    for number in (1..=18).filter(|&number| number != 16) {
         let refusal = Refusal::from_number(number);
         assert!(!matches!(refusal, Refusal::Unknown(_)), "{number}");
         assert_eq!(refusal.number(), number);
@@ -70,7 +70,7 @@ fn refusals_have_their_numbers() {
     let refusal = Refusal::MoveRefused { place: 4, own: 10 };
     assert_eq!((refusal.number(), refusal.own()), (16, Some(Refusal::EndNotAllowed)));
     assert!(refusal.to_string().starts_with("refused with 16: move 4 of the log is refused with 10: "), "{refusal}");
-    for unknown in [0, 16, 18, u32::MAX] {
+    for unknown in [0, 16, 19, u32::MAX] {
         assert_eq!(Refusal::from_number(unknown), Refusal::Unknown(unknown));
     }
 }
@@ -127,6 +127,28 @@ fn a_serial_log() {
     assert_eq!(made.words(), log(&serial));
     let empty = serialize(Table::new(&table), State::new(&start), Log::new(&[0]), &mut target).unwrap();
     assert_eq!(empty.words(), [0]);
+}
+
+// Catches an abort mark that does not keep its transaction from a reaction, alone and in a log.
+#[test]
+fn an_abort_mark() {
+    let table = table();
+    let state = StateBuilder::new(2)
+        .entry(1, Item::MemberMark { id: 1 })
+        .entry(1, Item::Compensation { port: 0, value: 7 })
+        .message(1, 2, 7)
+        .entry(1, Item::AbortMark)
+        .words();
+    let (table, state) = (Table::new(&table), State::new(&state));
+    let mut target = [0; STATE_TARGET_WORDS];
+    let refused = make_move(table, state, Move::new(&react(1, &[2])), &mut target);
+    assert_eq!(refused, Err(Refusal::TransactionAborting));
+    let refused = run(table, state, Log::new(&log(&[react(1, &[2]), abort(1)])), &mut target).unwrap_err();
+    assert_eq!(refused, Refusal::MoveRefused { place: 0, own: 18 });
+    assert_eq!(refused.own(), Some(Refusal::TransactionAborting));
+    assert_eq!(enabled_moves(table, state).unwrap().collect::<Vec<_>>(), [abort(1)]);
+    let end = make_move(table, state, Move::new(&abort(1)), &mut target).unwrap();
+    assert_eq!(end.words(), [1, 2, 0, 7]);
 }
 
 /// The state after the first two moves of (a): both transactions have begun.

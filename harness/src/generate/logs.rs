@@ -1,4 +1,5 @@
 //! Random logs, made move by move with the plain code.
+use super::aborting::{number, reaction_among};
 use super::moves::{allowed, consumes, end, open};
 use crate::answer::Answer;
 use crate::plain;
@@ -87,6 +88,24 @@ pub fn accepted(random: &mut Random, table: &Table, start: &State, moves: usize)
     let end_percent = random.pick(&[0, 5, 20, 50]);
     walk.wander(random, moves, end_percent);
     walk.log
+}
+
+/// A log whose moves are accepted up to a reaction in a transaction with an abort mark (18), and the place
+/// of that one; some moves stand behind it. `None` if none was met in so many moves.
+pub fn broken_off(random: &mut Random, table: &Table, start: &State, moves: usize) -> Option<(Vec<Move>, usize)> {
+    let mut walk = Walk::new(table, start);
+    let end_percent = random.pick(&[0, 5, 20]);
+    for _ in 0..moves {
+        walk.wander(random, 1, end_percent);
+        let among = reaction_among(random, table, &walk.state).filter(|_| random.chance(30));
+        let Some(mv) = among.filter(|mv| number(table, &walk.state, mv) == 18) else { continue };
+        let place = walk.log.len();
+        let mut log = walk.log;
+        log.push(mv);
+        log.extend((0..random.index(4)).filter_map(|_| allowed(random, table, &walk.state, 50)));
+        return Some((log, place));
+    }
+    None
 }
 
 /// A log after which nothing is open; the table is closable and nothing is open at the start.

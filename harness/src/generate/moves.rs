@@ -1,4 +1,6 @@
 //! Random moves: allowed ones, found by looking for fitting entries, and ones with a fault.
+use std::collections::BTreeSet;
+
 use crate::random::Random;
 use crate::words::{act, kind, role, Entry, Move, State, Table};
 
@@ -8,6 +10,11 @@ pub fn open(state: &State) -> Vec<u32> {
     ids.sort_unstable();
     ids.dedup();
     ids
+}
+
+/// The transactions with an abort mark (02: stopped batches).
+pub fn aborting(state: &State) -> BTreeSet<u32> {
+    state.entries.iter().filter(|entry| entry.kind == kind::ABORT_MARK).map(|entry| entry.owner).collect()
 }
 
 fn owned(state: &State, id: u32) -> impl Iterator<Item = &Entry> {
@@ -31,17 +38,30 @@ pub fn consumes(rule: &[crate::words::Atom]) -> Vec<u32> {
 
 /// A reaction of this rule on random fitting messages, if some are found.
 pub fn reaction(random: &mut Random, table: &Table, state: &State, rule: usize) -> Option<Move> {
+    let aborting = aborting(state);
+    fitting(random, table, state, rule, |_, owner| !aborting.contains(&owner))
+}
+
+/// A reaction of this rule on random messages whose ports and owners fit it, if some are found. Which
+/// owners a consume takes from is asked with its number; abort marks are not looked at.
+pub fn fitting(
+    random: &mut Random,
+    table: &Table,
+    state: &State,
+    rule: usize,
+    takes_from: impl Fn(usize, u32) -> bool,
+) -> Option<Move> {
     let ports = consumes(&table.rules[rule]);
     let global = ports[0] < table.global;
     let local = !global && ports[0] < table.global + table.local;
     let mut picks: Vec<u32> = Vec::new();
-    for &port in &ports {
+    for (consume, &port) in ports.iter().enumerate() {
         let owner = picks.first().map(|&first| state.entries[first as usize].owner);
         let fits = |(place, entry): (usize, &Entry)| {
             let place = place as u32;
             let owner_fits = (entry.owner == 0) == global && (!local || owner.is_none_or(|owner| owner == entry.owner));
             let fits = entry.kind == kind::MESSAGE && entry.port == port && owner_fits && !picks.contains(&place);
-            fits.then_some(place)
+            (fits && takes_from(consume, entry.owner)).then_some(place)
         };
         let found: Vec<u32> = state.entries.iter().enumerate().filter_map(fits).collect();
         if found.is_empty() {
@@ -85,7 +105,7 @@ pub fn changed(random: &mut Random, table: &Table, state: &State) -> Vec<u32> {
         _ => 4,
     };
     let at = random.index(used);
-    match random.below(9) {
+    match random.below(10) {
         0 => mv.picks[at] = random.pick(&[n, n.wrapping_sub(1), n + 1, u32::MAX, 0]),
         1 => mv.picks[at] = random.below(n.max(1)),
         2 => mv.picks[at] = mv.picks[random.index(used)],
@@ -104,6 +124,11 @@ pub fn changed(random: &mut Random, table: &Table, state: &State) -> Vec<u32> {
             let open = open(state);
             let id = if open.is_empty() { random.between(1, 9) } else { random.pick(&open) };
             mv = Move { kind: random.between(1, 2), number: id, picks: [0; 4] };
+        }
+        8 if !table.rules.is_empty() => {
+            // Abort marks are not looked at.
+            let rule = random.index(table.rules.len());
+            mv = fitting(random, table, state, rule, |_, _| true).unwrap_or(mv);
         }
         _ => mv = Move { kind: random.between(1, 2), number: random.between(1, 20), picks: [0; 4] },
     }

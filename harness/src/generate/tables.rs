@@ -12,13 +12,30 @@ pub enum Shape {
     /// Small, and no begin rule emits; each local and merge port has a rule that empties it, so
     /// that every transaction can be ended.
     Closable,
+    /// Few ports of every class, so that transactions with an abort mark meet others.
+    EveryClass,
 }
 
-#[derive(Clone, Copy, PartialEq, Eq)]
-enum Class {
+/// The class of a port or rule.
+#[derive(Clone, Copy, Debug, PartialEq, Eq)]
+pub enum Class {
     Global,
     Local,
     Merge,
+}
+
+impl Class {
+    /// The class of a rule that consumes from its first atom's port.
+    pub fn of(table: &Table, rule: &[Atom]) -> Class {
+        let port = rule[0].port;
+        if port < table.global {
+            Class::Global
+        } else if port < table.global + table.local {
+            Class::Local
+        } else {
+            Class::Merge
+        }
+    }
 }
 
 pub fn table(random: &mut Random, shape: Shape) -> Table {
@@ -26,6 +43,7 @@ pub fn table(random: &mut Random, shape: Shape) -> Table {
         Shape::Any => any_sizes(random),
         Shape::Small => sizes(random.between(1, 3), random.below(3), random.below(3)),
         Shape::Closable => sizes(random.between(1, 3), random.between(0, 2), random.between(0, 2)),
+        Shape::EveryClass => sizes(random.between(1, 2), random.between(1, 2), random.between(1, 2)),
     };
     if shape == Shape::Closable {
         drains(random, &mut table);

@@ -1,5 +1,5 @@
 //! A solution with its molecules in the order of 01's entries: states in words (faults 3, 4) and
-//! single moves (refusals 5 and 7 to 12).
+//! single moves (refusals 5, 7 to 12 and 18).
 use std::collections::{BTreeMap, BTreeSet};
 
 use super::definitions::Definitions;

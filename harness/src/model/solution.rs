@@ -1,5 +1,6 @@
 //! Solutions of named molecules and the reactions of the calculus: (RED), (MERGE), (COMMIT),
-//! (ABORT). Nothing here knows about the order of entries or a limit on their number.
+//! (ABORT). Inside transactions (RED) and (MERGE) have the premise of document 02 that none of them has
+//! failed. Nothing here knows about the order of entries or a limit on their number.
 use std::collections::{BTreeMap, BTreeSet};
 
 use super::definitions::{Channel, Definition, Output, Product, Term};
@@ -30,6 +31,14 @@ pub struct Transaction {
     pub aborts: BTreeSet<Origin>,
     /// 01: lots.
     pub members: Named<u32>,
+}
+
+impl Transaction {
+    /// Whether an abort floats in it. Failure goes first (02, after the calculus of paper 000): then
+    /// (ABORT) is the only reaction with it.
+    pub fn has_failed(&self) -> bool {
+        !self.aborts.is_empty()
+    }
 }
 
 /// The global solution: free messages and running transactions.
@@ -88,6 +97,10 @@ impl Solution {
         };
         if !fits {
             return Err(8);
+        }
+        // The premise of (RED) inside a transaction and of (MERGE); a global definition fires in none.
+        if inside.iter().any(|id| self.transactions[id].has_failed()) {
+            return Err(18);
         }
         if matches!(rule.product, Product::Global(Some(_))) && self.next == MAX_NEXT {
             return Err(11);
@@ -148,7 +161,7 @@ impl Solution {
     pub fn commit(&mut self, id: u32) -> Result<Transaction, u32> {
         let transaction = self.transactions.get(&id).ok_or(9u32)?;
         let finished = transaction.messages.values().all(|message| message.channel.is_global());
-        if !finished || !transaction.aborts.is_empty() {
+        if !finished || transaction.has_failed() {
             return Err(10);
         }
         let ended = self.transactions.remove(&id).expect("an open transaction");
@@ -159,7 +172,7 @@ impl Solution {
     /// (ABORT): `{{ abort | P, ⌊Q⌋ }} → Q`.
     pub fn abort(&mut self, id: u32) -> Result<Transaction, u32> {
         let transaction = self.transactions.get(&id).ok_or(9u32)?;
-        if transaction.aborts.is_empty() {
+        if !transaction.has_failed() {
             return Err(10);
         }
         let ended = self.transactions.remove(&id).expect("an open transaction");

@@ -5,7 +5,7 @@ use super::table::{Class, Rule, Table};
 use crate::words::{act, kind, MAX_CONSUMES, MAX_ENTRIES, MAX_NEXT};
 
 /// The key of a message is its port, and on a local port so many times its group besides: the place of
-/// its transaction among the open ones.
+/// its transaction among the open ones without an abort mark.
 const GROUP: u32 = 512;
 /// So many bits hold one of the counts in a word.
 const BITS: usize = 20;
@@ -41,15 +41,17 @@ impl<'a> List<'a> {
                 _ => {}
             }
         }
-        let ids: Vec<u32> = open.numbers(state.next).collect();
+        // One with an abort mark takes no part in reactions, so it needs no place among the others.
+        let going = open.without(&aborts);
+        let ids: Vec<u32> = going.numbers(state.next).collect();
         let mut on_port = [0; GROUP as usize];
         let mut keys = Vec::with_capacity(state.items.len());
         for (&owner, &item) in state.owners.iter().zip(&state.items) {
-            let key = key(table, &ids, owner, item);
+            let key = key(table, &aborts, &ids, owner, item);
             on_port[(key % GROUP) as usize] += 1;
             keys.push(key);
         }
-        let commits = open.without(&aborts).without(&unfinished);
+        let commits = going.without(&unfinished);
         let mut list =
             List { table, next: state.next, keys, on_port, commits, aborts, reactions: Vec::new(), length: 0 };
         list.reactions = table.rules.iter().map(|rule| list.count(rule)).collect();
@@ -170,14 +172,15 @@ fn count_in(word: u64, j: usize) -> u32 {
     (word >> (BITS * (j - 1))) as u32 % (1 << BITS)
 }
 
-fn key(table: &Table, ids: &[u32], owner: u32, item: u32) -> u32 {
+fn key(table: &Table, aborts: &Marks, ids: &[u32], owner: u32, item: u32) -> u32 {
     if item >> 24 != kind::MESSAGE {
         return NO_KEY;
     }
     let port = item >> 16;
     match table.class(port) {
         Class::Global if owner != 0 => NO_KEY,
-        Class::Local => ids.binary_search(&owner).expect("an open transaction") as u32 * GROUP + port,
+        Class::Local => ids.binary_search(&owner).map_or(NO_KEY, |group| group as u32 * GROUP + port),
+        Class::Merge if aborts.has(owner) => NO_KEY,
         _ => port,
     }
 }

@@ -18,7 +18,7 @@ impl Marks {
         Marks(Box::new([0; 1024]))
     }
 
-    fn has(&self, value: u32) -> bool {
+    pub fn has(&self, value: u32) -> bool {
         self.0[value as usize / 64] >> (value % 64) & 1 != 0
     }
 

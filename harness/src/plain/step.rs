@@ -104,6 +104,9 @@ impl State {
         if !fits {
             return Err(8);
         }
+        if rule.class != Class::Global && self.aborting(&owners) {
+            return Err(18);
+        }
         if rule.begins && self.next == MAX_NEXT {
             return Err(11);
         }
@@ -137,6 +140,22 @@ impl State {
             beside.grow(product);
         }
         Ok(inside)
+    }
+
+    /// Whether one of these transactions has an abort mark.
+    fn aborting(&self, ids: &[u32; 4]) -> bool {
+        const MARK: u32 = kind::ABORT_MARK << 24;
+        // A chunk is compared at once, and only one that has a mark with its owners.
+        let has_mark = |items: &[u32]| items.iter().fold(false, |found, &item| found | (item == MARK));
+        let marks_one = |items: &[u32], owners: &[u32]| {
+            items.iter().zip(owners).fold(false, |found, (&item, owner)| {
+                found | ((item == MARK) & ids.iter().fold(false, |found, id| found | (id == owner)))
+            })
+        };
+        let (items, last) = self.items.as_chunks::<32>();
+        let (owners, last_owners) = self.owners.as_chunks::<32>();
+        items.iter().zip(owners).any(|(items, owners)| has_mark(items) && marks_one(items, owners))
+            || (has_mark(last) && marks_one(last, last_owners))
     }
 
     /// Takes the picked entries out of the columns.

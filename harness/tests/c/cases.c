@@ -1,6 +1,6 @@
 /*
- * 01's cases (a) to (h) on the two-lot plant and the lists of its moves, through the header. Prints what
- * fails, and how many.
+ * 01's cases (a) to (h) on the two-lot plant, the lists of its moves, and a transaction with an abort mark,
+ * through the header. Prints what fails, and how many.
  */
 #include "coordinator.h"
 
@@ -299,6 +299,39 @@ static void by_lists(void)
     }
 }
 
+/* Transaction 2 has an abort mark and a message that rule 2 would merge with transaction 1's. */
+static void by_abort_mark(void)
+{
+    static const uint32_t stopped[COORDINATOR_STATE_WORDS(7)] = {
+        7, 3,
+        1, 1, 2, 2, 1, 2, 2,
+        0x03000001, 0x01000007, 0x03000002, 0x01000009, 0x00030007, 0x02000000, 0x00030009,
+    };
+    static const uint32_t end[] = {4, 3, 1, 1, 0, 1, 0x03000001, 0x01000007, 0x00000009, 0x00030007};
+    static const mv list[] = {{2, 4, 6}, {ABORT(2)}};
+    clear();
+    expect("a merge with an abort mark",
+           coordinator_move(table, LENGTH(table), stopped, LENGTH(stopped), list[0], COORDINATOR_MOVE_WORDS, target,
+                            COORDINATOR_STATE_TARGET_WORDS),
+           COORDINATOR_TRANSACTION_ABORTING, 0, 0, 0);
+    expect("the same in a run",
+           coordinator_run(table, LENGTH(table), stopped, LENGTH(stopped), log_words, log_of(list, LENGTH(list)),
+                           target, COORDINATOR_STATE_TARGET_WORDS),
+           COORDINATOR_MOVE_REFUSED, 0, 0, COORDINATOR_TRANSACTION_ABORTING);
+    expect_target("a merge with an abort mark", NULL, 0);
+    expect_page("a list with an abort mark",
+                coordinator_list_moves(table, LENGTH(table), stopped, LENGTH(stopped), 0, 8, target,
+                                       COORDINATOR_PAGE_TARGET_WORDS(8u)),
+                COORDINATOR_ACCEPTED, COORDINATOR_MOVE_WORDS, 1);
+    expect_target("a list with an abort mark", list[1], COORDINATOR_MOVE_WORDS);
+    clear();
+    expect("the abort",
+           coordinator_move(table, LENGTH(table), stopped, LENGTH(stopped), list[1], COORDINATOR_MOVE_WORDS, target,
+                            COORDINATOR_STATE_TARGET_WORDS),
+           COORDINATOR_ACCEPTED, LENGTH(end), 0, 0);
+    expect_target("the abort", end, LENGTH(end));
+}
+
 int main(void)
 {
     checks();
@@ -306,6 +339,7 @@ int main(void)
     by_runs();
     by_serial_logs();
     by_lists();
+    by_abort_mark();
     printf("%u failed\n", failures);
     return failures != 0;
 }
