@@ -1,11 +1,10 @@
 -- The pass chunk by chunk: what it has still to look at, and what that comes to.
 use Prim.Native.Nat.{ℕ, _+_, _-_, _%_, _≤_, _<_}
-use mathlib.Core.Bool.{Bool, true, false, _&&_, _||_}
+use mathlib.Core.Bool.{Bool, true, false, _||_}
 use mathlib.Core.List.{List, _++_}
 use mathlib.Core.Path.{_≡_, refl, sym, ap, _∙_}
 use native.Mathlib.Omega.{arith}
 use borrow.Author.Tests.{eqb-true, eq-eqb}
-use lib.Dec.{eqb}
 use Rattle.lists.specs.Lists.{any, isIn}
 use Rattle.lists.specs.Tests.{same-test}
 use Rattle.lists.specs.Choices.{and-left, and-right, and-intro}
@@ -17,67 +16,68 @@ use Rattle.lists.specs.Rows.{rows, rowsFrom, rows-none, rows-append}
 use Rattle.semantics.specs.State.{Entry, State, isAbortMark, owned}
 use Rattle.semantics.specs.Move.{entriesIn, mayAbort}
 use Rattle.words.specs.Search.{ChunkEnd}
-use Rattle.abort_marks.specs.Marked.{markOf}
+use Rattle.abort_marks.specs.Marked.{abortMarkIn}
 
 -- one of the transactions has an abort mark: by entries, and by ids
-pub marked-ids : (ids : List ℕ) (s : State) → any (markOf ids) (s .entries) ≡ any (λ o. mayAbort o s) ids
-marked-ids ids s = same-test (any (markOf ids) (s .entries)) (any (λ o. mayAbort o s) ids) forth back
+pub marked-ids : (ids : List ℕ) (s : State) → any (abortMarkIn ids) (s .entries) ≡ any (λ o. mayAbort o s) ids
+marked-ids ids s = same-test (any (abortMarkIn ids) (s .entries)) (any (λ o. mayAbort o s) ids) forth back
   where
-    forth : any (markOf ids) (s .entries) ≡ true → any (λ o. mayAbort o s) ids ≡ true
+    forth : any (abortMarkIn ids) (s .entries) ≡ true → any (λ o. mayAbort o s) ids ≡ true
     forth h =
-        let (e, m, k) = any-some (markOf ids) (s .entries) h in
+        let (e, m, k) = any-some (abortMarkIn ids) (s .entries) h in
         let o = e .owner in
         any-intro (λ o. mayAbort o s) ids o (isIn-among o ids (and-left (isIn o ids) (isAbortMark e) k))
         (any-intro isAbortMark (entriesIn o s) e (keep-among (owned o) (s .entries) e m (eq-eqb o o refl)) (and-right (isIn o ids) (isAbortMark e) k))
 
-    back : any (λ o. mayAbort o s) ids ≡ true → any (markOf ids) (s .entries) ≡ true
+    back : any (λ o. mayAbort o s) ids ≡ true → any (abortMarkIn ids) (s .entries) ≡ true
     back h =
         let (o, i, k) = any-some (λ o. mayAbort o s) ids h in
         let (e, m, a) = any-some isAbortMark (entriesIn o s) k in
         let (m, w) = among-keep (owned o) (s .entries) e m in
         let i : isIn (e .owner) ids ≡ true = rw (eqb-true (e .owner) o w) (among-isIn o ids i) in
-        any-intro (markOf ids) (s .entries) e m (and-intro i a)
+        any-intro (abortMarkIn ids) (s .entries) e m (and-intro i a)
 
 module _ (ids : List ℕ) (row : ℕ → Entry) where
   -- a chunk without an abort mark has none of theirs in its part before `end`
-  pub unmarked : (from end : ℕ) → from ≤ end → end ≤ from + 32 → any isAbortMark (rows row from 32) ≡ false → any (markOf ids) (rows row from (end - from)) ≡ false
+  pub unmarked : (from end : ℕ) → from ≤ end → end ≤ from + 32 → any isAbortMark (rows row from 32) ≡ false
+      → any (abortMarkIn ids) (rows row from (end - from)) ≡ false
   unmarked from end l u h =
       let parts : 32 ≡ (end - from) + (from + 32 - end) = omega arith in
       let first = or-left-false _ _ (sym (any-append isAbortMark (rows row from (end - from)) (rows row (from + (end - from)) (from + 32 - end)))
       ∙ sym (ap (any isAbortMark) (ap (rows row from) parts ∙ rows-append row from (end - from) (from + 32 - end))) ∙ h) in
-      any-weaker (markOf ids) isAbortMark (λ e k. and-right (isIn (e .owner) ids) (isAbortMark e) k) (rows row from (end - from)) first
+      any-weaker (abortMarkIn ids) isAbortMark (λ e k. and-right (isIn (e .owner) ids) (isAbortMark e) k) (rows row from (end - from)) first
 
   -- before a chunk: it begins at a multiple of 32, and what is asked of all is asked of the rest
   pub record Passing (n from : ℕ) : Type 0 where
     pub whole : from < n → from % 32 ≡ 0
     pub within : from ≤ n
-    pub rest : any (markOf ids) (rowsFrom row n from) ≡ any (markOf ids) (rows row 0 n)
+    pub rest : any (abortMarkIn ids) (rowsFrom row n from) ≡ any (abortMarkIn ids) (rows row 0 n)
 
   module _ {n from : ℕ} (p : Passing n from) where
     pub chunk-room : n ≤ 1024 → from < n → from + 32 ≤ 1024
     chunk-room few l = omega (arith, p .whole l)
 
     module _ {end : ℕ} (c : ChunkEnd from n end) where
-      split : any (markOf ids) (rows row from (end - from)) || any (markOf ids) (rowsFrom row n end) ≡ any (markOf ids) (rows row 0 n)
+      split : any (abortMarkIn ids) (rows row from (end - from)) || any (abortMarkIn ids) (rowsFrom row n end) ≡ any (abortMarkIn ids) (rows row 0 n)
       split =
           let parts : n - from ≡ (end - from) + (n - end) = omega (arith, c .more, c .within) in
           let behind : from + (end - from) ≡ end = omega (arith, c .more) in
-          sym (any-append (markOf ids) (rows row from (end - from)) (rowsFrom row n end))
-          ∙ sym (ap (any (markOf ids)) (ap (rows row from) parts ∙ rows-append row from (end - from) (n - end)
+          sym (any-append (abortMarkIn ids) (rows row from (end - from)) (rowsFrom row n end))
+          ∙ sym (ap (any (abortMarkIn ids)) (ap (rows row from) parts ∙ rows-append row from (end - from) (n - end)
           ∙ ap (λ (i : ℕ). rows row from (end - from) ++ rows row i (n - end)) behind))
           ∙ p .rest
 
-      pub passing-found : any (markOf ids) (rows row from (end - from)) ≡ true → true ≡ any (markOf ids) (rows row 0 n)
-      passing-found h = ap (λ (b : Bool). b || any (markOf ids) (rowsFrom row n end)) (sym h) ∙ split
+      pub passing-found : any (abortMarkIn ids) (rows row from (end - from)) ≡ true → true ≡ any (abortMarkIn ids) (rows row 0 n)
+      passing-found h = ap (λ (b : Bool). b || any (abortMarkIn ids) (rowsFrom row n end)) (sym h) ∙ split
 
-      pub passing-next : from < n → any (markOf ids) (rows row from (end - from)) ≡ false → Passing n end
+      pub passing-next : from < n → any (abortMarkIn ids) (rows row from (end - from)) ≡ false → Passing n end
       passing-next l h = record {
         whole = λ k. omega (arith, p .whole l, c .full k);
         within = c .within;
-        rest = ap (λ (b : Bool). b || any (markOf ids) (rowsFrom row n end)) (sym h) ∙ split;
+        rest = ap (λ (b : Bool). b || any (abortMarkIn ids) (rowsFrom row n end)) (sym h) ∙ split;
       }
 
-    pub passing-done : n ≤ from → false ≡ any (markOf ids) (rows row 0 n)
+    pub passing-done : n ≤ from → false ≡ any (abortMarkIn ids) (rows row 0 n)
     passing-done l =
         let z : n - from ≡ 0 = omega arith in
-        sym (ap (λ (k : ℕ). any (markOf ids) (rows row from k)) z ∙ ap (any (markOf ids)) (rows-none row from)) ∙ p .rest
+        sym (ap (λ (k : ℕ). any (abortMarkIn ids) (rows row from k)) z ∙ ap (any (abortMarkIn ids)) (rows-none row from)) ∙ p .rest

@@ -5,5 +5,5 @@ use mathlib.Core.List.{List}
 use Rattle.lists.specs.Lists.{isIn}
 use Rattle.semantics.specs.State.{Entry, isAbortMark}
 
-abbrev pub markOf : List ℕ → Entry → Bool
-markOf ids e = isIn (e .owner) ids && isAbortMark e
+abbrev pub abortMarkIn : List ℕ → Entry → Bool
+abortMarkIn ids e = isIn (e .owner) ids && isAbortMark e

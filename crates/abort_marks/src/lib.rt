@@ -8,10 +8,9 @@ ghost use Rattle.lists.specs.Lists.{any, isIn};
 ghost use Rattle.lists.specs.Rows.{rows};
 ghost use Rattle.semantics.specs.State.{isAbortMark};
 ghost use Rattle.semantics.specs.Move.{mayAbort};
-ghost use Rattle.words.specs.Search.{ChunkEnd};
 ghost use Rattle.state.specs.Working.{rowOf};
 ghost use Rattle.state.specs.Lent.{stateFrom, Columns};
-ghost use Rattle.abort_marks.specs.Marked.{markOf};
+ghost use Rattle.abort_marks.specs.Marked.{abortMarkIn};
 use state::Extent;
 use words::item;
 use words::search::chunk_end;
@@ -49,7 +48,7 @@ fn marked_between<'a>(
     d: u16,
 ) -> bool
     requires { ⌜ Columns (now owners) (now items) end × (from ≤ end) ⌝ }
-    ensures { λ r. ⌜ ((gs : List ℕ) → r ≡ any (markOf (a ∷ b ∷ c ∷ d ∷ [])) (rows (rowOf (now (owners .entry)) (now (items .entry)) gs) from (end - from))) ⌝ }
+    ensures { λ r. ⌜ ((gs : List ℕ) → r ≡ any (abortMarkIn (a ∷ b ∷ c ∷ d ∷ [])) (rows (rowOf (now (owners .entry)) (now (items .entry)) gs) from (end - from))) ⌝ }
 {
     let mut found = false;
     let mut i = from;
@@ -73,7 +72,7 @@ fn chunk_aborting<'a>(
     d: u16,
 ) -> bool
     requires { ⌜ Columns (now owners) (now items) end × (from ≤ end) × (end ≤ from + 32) × (from + 32 ≤ 1024) ⌝ }
-    ensures { λ r. ⌜ ((gs : List ℕ) → r ≡ any (markOf (a ∷ b ∷ c ∷ d ∷ [])) (rows (rowOf (now (owners .entry)) (now (items .entry)) gs) from (end - from))) ⌝ }
+    ensures { λ r. ⌜ ((gs : List ℕ) → r ≡ any (abortMarkIn (a ∷ b ∷ c ∷ d ∷ [])) (rows (rowOf (now (owners .entry)) (now (items .entry)) gs) from (end - from))) ⌝ }
 {
     if !chunk_marked(items, from) {
         return false;

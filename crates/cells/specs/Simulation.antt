@@ -26,7 +26,8 @@ use Rattle.cells.specs.ByOrigin.{look-any, look-kept, kept-look, origin-
 use Rattle.cells.specs.Rules.{Shape, plain, begin, inner, Shaped, owners, values, touchedBy, global-fit, touched-begin, touched-inner, touched-least, touched-positive, touched-merge, make}
 use Rattle.cells.specs.Deeds.{touched, handled, deedAt}
 use Rattle.cells.specs.Cells.{Cells, apply, mine}
-use Rattle.cells.specs.Actions.{StepOk, Seen, strip, cellValue, left, endAction, actionBy, astep, markOf, AllMarks, mayLeave, markIn, Ok, mine-in, mine-zero, later}
+use Rattle.cells.specs.Actions.{StepOk, Seen, strip, cellValue, left, endAction, actionBy, astep, markOf, AllMarks, mayLeave, markIn, Inside, Ok, mine-in}
+use Rattle.cells.specs.Actions.{mine-zero, later}
 use Rattle.cells.specs.Commute.{values-found}
 use Rattle.cells.specs.Moves.{productsOf, look-reacted, uniq-reacted, ofKind, look-ended, uniq-ended, react-passes, commit-passes, abort-passes}
 
@@ -192,7 +193,7 @@ module _ (t : Table) (sd : Shaped t) (i k : ℕ) (s : State) (r : ℕ) (ps : Lis
   unfolding view
   no-zero = touched-positive R (s .next) (owners es) (sd r) (P .owners) (g .pos)
 
-  inside-react : begins R ≡ false → (o : Origin) → (markIn 3 bs (view s .cell o) ≡ isInO o (membersOf t i s (react r ps))) × (markIn 2 bs (view s .cell o) ≡ false)
+  inside-react : Inside t (view s .cell) bs (membersOf t i s (react r ps)) (react r ps)
   inside-react bare o = go (sd r)
     where
       go : Shape R → (markIn 3 bs (view s .cell o) ≡ isInO o (membersOf t i s (react r ps))) × (markIn 2 bs (view s .cell o) ≡ false)

@@ -71,7 +71,8 @@ module _ {z : Sizes} {part : ℕ → Bool} {es : List Entry} {ks : List ℕ} (ke
       back q =
           let (a, b) = and-both (takeable z part (at p)) (eqb (at p .port) t) q in
           let e = eqb-true (at p .port) t b in
-          let i : isLocal z part (at p) ≡ false = and-right-false (takeable z part (at p)) (ne-eqb (classOf z (at p .port)) 1 (λ c. n (ap (classOf z) (sym e) ∙ c))) in
+          let d = ne-eqb (classOf z (at p .port)) 1 (λ c. n (ap (classOf z) (sym e) ∙ c)) in
+          let i : isLocal z part (at p) ≡ false = and-right-false (takeable z part (at p)) d in
           let f : key p ≡ at p .port = rw a at (keyed .plain p h i) in
           eq-eqb (key p) t (f ∙ e)
 
@@ -104,7 +105,8 @@ module _ {z : Sizes} {part : ℕ → Bool} {es : List Entry} {ks : List ℕ} (ke
     pub group-key : (t u : ℕ) → t < 256 → u < 256 → classOf z t ≡ 1 → classOf z u ≡ 1 → (p q : ℕ) → p < length es → q < length es
         → takeableOn z part t (at p) ≡ true
         → eqb (key q) (u + groupBase ks t p) ≡ takeableOn z part u (at q) && eqb (at q .owner) (at p .owner)
-    group-key t u l m c d p q h k first = same-test (eqb (key q) (u + groupBase ks t p)) (takeableOn z part u (at q) && eqb (at q .owner) (at p .owner)) there back
+    group-key t u l m c d p q h k first =
+        same-test (eqb (key q) (u + groupBase ks t p)) (takeableOn z part u (at q) && eqb (at q .owner) (at p .owner)) there back
       where
         base : key p % 512 ≡ t
         base = eqb-true (key p % 512) t (local-key t l c p h ∙ first)

@@ -1,6 +1,6 @@
 -- The list of open moves is what the code goes through, and what it asks of an accepted state.
 use Prim.Native.Nat.{ℕ, _-_, _≤_, _<_}
-use mathlib.Core.Bool.{Bool, true, false, _&&_, _||_, not}
+use mathlib.Core.Bool.{Bool, true, false, _&&_, not}
 use mathlib.Core.List.{List, _++_, map, append-assoc}
 use mathlib.Core.Path.{_≡_, refl, sym, ap, _∙_, fun-ext}
 use native.Mathlib.Omega.{arith}
@@ -15,7 +15,7 @@ use Rattle.lists.specs.Ascending.{PlaceIn}
 use Rattle.lists.specs.Tuples.{keep-each, each-up}
 use Rattle.semantics.specs.Table.{sizesOf, tableOf, ruleAt, classOf}
 use Rattle.semantics.specs.State.{Entry, State, isAbortMark, owned, stateOf}
-use Rattle.semantics.specs.Move.{Move, commit, abort, isZero, takesPart, mayAbort, moveVerdict}
+use Rattle.semantics.specs.Move.{Move, commit, abort, isZero, takesPart, moveVerdict}
 use Rattle.semantics.specs.Enabled.{reactionsOf, isAllowed, enabled}
 use Rattle.semantics.specs.Answers.{stateVerdict, enabledIn}
 use Rattle.semantics.specs.declared.Verdict.the-variants.{Allowed}

@@ -82,7 +82,8 @@ refused-number ceiling t i s m r h =
     go true Allowed o k = absurd (refused≢to (sym k))
     go true (Denied q) o k = subst (λ (x : Refusal). OwnNumber (number x)) (same k) o
 
-pub stopped-number : (ceiling : ℕ) (t : Table) (i : ℕ) (s : State) (ms : List (List ℕ)) (j : ℕ) (r : Refusal) → run ceiling t i s ms ≡ stopped j r → OwnNumber (number r)
+pub stopped-number : (ceiling : ℕ) (t : Table) (i : ℕ) (s : State) (ms : List (List ℕ)) (j : ℕ) (r : Refusal) → run ceiling t i s ms ≡ stopped j r
+    → OwnNumber (number r)
 unfolding run
 stopped-number ceiling t i s [] j r h = absurd (let z : _≡_ {A = ℕ} 0 1 = cc in omega arith)
 stopped-number ceiling t i s (m ∷ ms) j r h = go (stepWords ceiling t (suc i) s m) refl (λ s′. stopped-number ceiling t (suc i) s′ ms j r) h

@@ -1,17 +1,16 @@
 -- `any_aborting` meets its contract: no chunk before `from` has an abort mark of the four.
-use Prim.Native.Nat.{ℕ, _-_, _≤_}
+use Prim.Native.Nat.{ℕ, _-_}
 use mathlib.Core.List.{List, [], _∷_}
 use mathlib.Core.Bool.{Bool}
 use mathlib.Core.Path.{_≡_, refl, sym, ap, _∙_}
 use native.Mathlib.Omega.{arith}
-use borrow.Author.Needs.{needs}
 use Rattle.lists.specs.Lists.{any}
 use Rattle.lists.specs.Rows.{rows-whole}
 use Rattle.semantics.specs.State.{State}
 use Rattle.semantics.specs.Move.{mayAbort}
 use Rattle.state.specs.Working.{rowOf}
 use Rattle.state.specs.Lent.{stateFrom, Columns}
-use Rattle.abort_marks.specs.Marked.{markOf}
+use Rattle.abort_marks.specs.Marked.{abortMarkIn}
 use Rattle.abort_marks.proofs.Chunks.{marked-ids, Passing, chunk-room, passing-found, passing-next, passing-done}
 use Rattle.abort_marks.proofs.any_aborting.Statement.{statement}
 use Rattle.abort_marks.proofs.any_aborting.Tie as tie
@@ -29,11 +28,11 @@ abbrev stateOf : tie.Start Inv μ → List ℕ → State
 stateOf c gs = stateFrom (c .args .owners .now) (c .args .items .now) gs (c .args .at)
 
 -- by ids, as the contract has it
-by-ids : (c : tie.Start Inv μ) (gs : List ℕ) {r : Bool} → r ≡ any (markOf (ids c)) (stateOf c gs .entries) → r ≡ any (λ o. mayAbort o (stateOf c gs)) (ids c)
+by-ids : (c : tie.Start Inv μ) (gs : List ℕ) {r : Bool} → r ≡ any (abortMarkIn (ids c)) (stateOf c gs .entries) → r ≡ any (λ o. mayAbort o (stateOf c gs)) (ids c)
 by-ids c gs h = h ∙ marked-ids (ids c) (stateOf c gs)
 
 loop-holds : tie.Need-loop-holds Inv μ
-loop-holds c = (c .pre, λ gs. record { whole = λ l. refl; within = omega arith; rest = ap (any (markOf (ids c))) (rows-whole _ _) })
+loop-holds c = (c .pre, λ gs. record { whole = λ l. refl; within = omega arith; rest = ap (any (abortMarkIn (ids c))) (rows-whole _ _) })
 
 chunk-aborting-requires : tie.Need-chunk-aborting-requires Inv μ
 chunk-aborting-requires c κs =
@@ -56,7 +55,8 @@ loop-again : tie.Need-loop-again Inv μ
 loop-again c =
     let end = c .before .before in
     let v = end .before .before .loop .inv in
-    (v .0, λ gs. passing-next _ _ (v .1 gs) (end .chunk-end .ensures) (end .before .loop-test .taken) (sym (c .before .chunk-aborting .ensures gs) ∙ c .if1 .left))
+    let e = end .chunk-end .ensures in
+    (v .0, λ gs. passing-next _ _ (v .1 gs) e (end .before .loop-test .taken) (sym (c .before .chunk-aborting .ensures gs) ∙ c .if1 .left))
 
 pub any-aborting-spec : {M : Type 1} → statement M
 any-aborting-spec =

@@ -8,7 +8,7 @@ use lib.ListN.{length}
 use Rattle.lists.specs.Lists.{any}
 use Rattle.lists.specs.Rows.{rows, rowsFrom, rows-tails}
 use Rattle.lists.specs.Found.{Finding, finding-from, finding-next, finding-done}
-use Rattle.semantics.specs.State.{Entry, isAbortMark}
+use Rattle.semantics.specs.State.{isAbortMark}
 use Rattle.state.specs.Working.{rowOf}
 use Rattle.abort_marks.proofs.chunk_marked.Statement.{statement}
 use Rattle.abort_marks.proofs.chunk_marked.Tie as tie

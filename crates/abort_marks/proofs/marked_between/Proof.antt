@@ -1,5 +1,5 @@
 -- `marked_between` meets its contract: `found` is of the entries before i.
-use Prim.Native.Nat.{ℕ, _-_, _≤_}
+use Prim.Native.Nat.{ℕ, _-_}
 use mathlib.Core.List.{List, [], _∷_}
 use borrow.Author.Needs.{needs}
 use Rattle.lists.specs.Lists.{any}
@@ -7,15 +7,15 @@ use Rattle.lists.specs.Rows.{rowsFrom, rows-tails}
 use Rattle.lists.specs.Found.{Finding, finding-from, finding-next, finding-done}
 use Rattle.state.specs.Working.{rowOf}
 use Rattle.state.specs.Lent.{Columns}
-use Rattle.abort_marks.specs.Marked.{markOf}
+use Rattle.abort_marks.specs.Marked.{abortMarkIn}
 use Rattle.abort_marks.proofs.marked_between.Statement.{statement}
 use Rattle.abort_marks.proofs.marked_between.Tie as tie
 
 abbrev Inv : tie.InvT-loop
 Inv owners items from end a b c d found₀ i₀ found i =
     Columns owners items end
-    × ((gs : List ℕ) → Finding (markOf (a ∷ b ∷ c ∷ d ∷ [])) (rowsFrom (rowOf owners items gs) end) end found i
-    (any (markOf (a ∷ b ∷ c ∷ d ∷ [])) (rowsFrom (rowOf owners items gs) end from)))
+    × ((gs : List ℕ) → Finding (abortMarkIn (a ∷ b ∷ c ∷ d ∷ [])) (rowsFrom (rowOf owners items gs) end) end found i
+    (any (abortMarkIn (a ∷ b ∷ c ∷ d ∷ [])) (rowsFrom (rowOf owners items gs) end from)))
 
 abbrev μ : tie.MeasureT-loop
 μ owners items from end a b c d found₀ i₀ found i = end - i

@@ -62,10 +62,12 @@ owners c gs =
     c .owners-fit .ensures ∙ ap (ownersFit (a .rule .class)) (sym
     (owners-at (a .owners .now) (a .items .now) gs (a .at .len) (ps (placed c)) (in-place (c .before))))
 
-owners-pass : (c : tie.Else2) (gs : List ℕ) → ownersFit (placed (c .before) .args .rule .class) (ownersAt (σ (placed (c .before)) gs) (ps (placed (c .before)))) ≡ true
+owners-pass : (c : tie.Else2) (gs : List ℕ)
+    → ownersFit (placed (c .before) .args .rule .class) (ownersAt (σ (placed (c .before)) gs) (ps (placed (c .before)))) ≡ true
 owners-pass c gs = sym (owners (c .before) gs) ∙ not-false _ (c .if2 .left)
 
-taking : (c : tie.After-picks-aborting) (gs : List ℕ) → c .picks-aborting .result ≡ not (all (takesPart (σ (asked c) gs)) (ownersAt (σ (asked c) gs) (ps (asked c))))
+taking : (c : tie.After-picks-aborting) (gs : List ℕ)
+    → c .picks-aborting .result ≡ not (all (takesPart (σ (asked c) gs)) (ownersAt (σ (asked c) gs) (ps (asked c))))
 taking c gs =
     let a = asked c .args in
     c .picks-aborting .ensures gs ∙ ap (λ (os : List ℕ). not (all (takesPart (σ (asked c) gs)) os)) (sym
