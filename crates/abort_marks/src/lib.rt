@@ -48,7 +48,8 @@ fn marked_between<'a>(
     d: u16,
 ) -> bool
     requires { ⌜ Columns (now owners) (now items) end × (from ≤ end) ⌝ }
-    ensures { λ r. ⌜ ((gs : List ℕ) → r ≡ any (abortMarkIn (a ∷ b ∷ c ∷ d ∷ [])) (rows (rowOf (now (owners .entry)) (now (items .entry)) gs) from (end - from))) ⌝ }
+    ensures { λ r. ⌜ ((gs : List ℕ) → r ≡ any (abortMarkIn (a ∷ b ∷ c ∷ d ∷ []))
+        (rows (rowOf (now (owners .entry)) (now (items .entry)) gs) from (end - from))) ⌝ }
 {
     let mut found = false;
     let mut i = from;
@@ -72,7 +73,8 @@ fn chunk_aborting<'a>(
     d: u16,
 ) -> bool
     requires { ⌜ Columns (now owners) (now items) end × (from ≤ end) × (end ≤ from + 32) × (from + 32 ≤ 1024) ⌝ }
-    ensures { λ r. ⌜ ((gs : List ℕ) → r ≡ any (abortMarkIn (a ∷ b ∷ c ∷ d ∷ [])) (rows (rowOf (now (owners .entry)) (now (items .entry)) gs) from (end - from))) ⌝ }
+    ensures { λ r. ⌜ ((gs : List ℕ) → r ≡ any (abortMarkIn (a ∷ b ∷ c ∷ d ∷ []))
+        (rows (rowOf (now (owners .entry)) (now (items .entry)) gs) from (end - from))) ⌝ }
 {
     if !chunk_marked(items, from) {
         return false;

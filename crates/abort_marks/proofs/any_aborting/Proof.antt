@@ -28,7 +28,8 @@ abbrev stateOf : tie.Start Inv μ → List ℕ → State
 stateOf c gs = stateFrom (c .args .owners .now) (c .args .items .now) gs (c .args .at)
 
 -- by ids, as the contract has it
-by-ids : (c : tie.Start Inv μ) (gs : List ℕ) {r : Bool} → r ≡ any (abortMarkIn (ids c)) (stateOf c gs .entries) → r ≡ any (λ o. mayAbort o (stateOf c gs)) (ids c)
+by-ids : (c : tie.Start Inv μ) (gs : List ℕ) {r : Bool} → r ≡ any (abortMarkIn (ids c)) (stateOf c gs .entries)
+    → r ≡ any (λ o. mayAbort o (stateOf c gs)) (ids c)
 by-ids c gs h = h ∙ marked-ids (ids c) (stateOf c gs)
 
 loop-holds : tie.Need-loop-holds Inv μ
