@@ -51,10 +51,6 @@ growing =
     ∷ 0x00000000 ∷ 0x20000000 ∷ 0x30010000 ∷ 0x50000000
     ∷ []
 
--- one transaction of 1,024 entries, this item the second of them
-abbrev full : ℕ → List ℕ
-full item = 1024 ∷ 2 ∷ replicate 1024 1 ++ 0x03000001 ∷ item ∷ replicate 1022 0x00010000
-
 -- a message on the global port
 abbrev one : List ℕ
 one = 1 ∷ 1 ∷ 0 ∷ 0 ∷ []
@@ -78,9 +74,6 @@ aborting =
     -- 7 before 18: an entry picked twice, and another port
     ∷ move twoLot three (rule2 2 6 6) 7 0
     ∷ move twoLot three (rule2 2 6 9) 7 0
-    -- 18 before 12
-    ∷ move growing (full 0x02000000) (rule1 0 2) 18 0
-    ∷ move growing (full 0x00010000) (rule1 0 2) 12 0
     -- a begin with an abort mark inside, and one beside a transaction that has one
     ∷ move growing one (rule1 1 0) 0 8
     ∷ move growing (3 ∷ 2 ∷ 1 ∷ 1 ∷ 0 ∷ 0x03000001 ∷ 0x02000000 ∷ 0 ∷ []) (rule1 1 2) 0 12
@@ -97,6 +90,19 @@ unfolding twoLot three growing aborting tableSizesOk numbersOk atomOk ruleOk rul
     entryOk entriesOk moveOk moveOf reacted Move.ended allowed applied step stepWords logSizesOk logWords run after acts again replayed serial along
     serialFits tableVerdict stateOwnVerdict stateVerdict moveResult makeMove logVerdict runResult runLog serialOf serialFitsOf serialResult serialize
 aborting-hold = refl
+
+-- one transaction of 1,024 entries, this item the second of them
+abbrev full : ℕ → List ℕ
+full item = 1024 ∷ 2 ∷ replicate 1024 1 ++ 0x03000001 ∷ item ∷ replicate 1022 0x00010000
+
+-- 18 before 12
+pub abortingFull : List Asked
+abortingFull = move growing (full 0x02000000) (rule1 0 2) 18 0 ∷ move growing (full 0x00010000) (rule1 0 2) 12 0 ∷ []
+
+pub full-hold : map (λ c. c .found) abortingFull ≡ map (λ c. c .stated) abortingFull
+unfolding growing abortingFull tableSizesOk numbersOk atomOk ruleOk rulesOk tableContentsOk ruleOf tableOf stateOf stateWords stateSizesOk entryOk
+    entriesOk moveOk moveOf reacted allowed applied step stepWords tableVerdict stateOwnVerdict stateVerdict moveResult makeMove
+full-hold = refl
 
 -- 18 before 11. No table has a rule that could give both, since only a global rule begins; the order is that of the definition. Such a rule on the
 -- message at 9, by the next id.
