@@ -345,7 +345,7 @@ fn the_order_of_entries_is_free() {
 fn random_changed_moves() {
     let mut random = Random::new(302);
     let mut answers = [0; 19];
-    for round in 0..40_000 {
+    for round in 0..50_000 {
         let table = table(&mut random, if round % 6 == 0 { Shape::Any } else { Shape::Small });
         let most = random.pick(&[6, 20, 60, 1_024]);
         let mut state = state(&mut random, &table, most, true);
