@@ -1,6 +1,8 @@
 //! The list of enabled moves: all implementations on right, damaged and random input.
 mod common;
 
+use std::collections::BTreeSet;
+
 use common::Asked;
 use harness::answer::{order, Answer, Page};
 use harness::generate::lists::{listed, met};
@@ -209,7 +211,7 @@ fn every_page_of_short_lists() {
 fn a_move_is_listed_exactly_if_it_is_accepted() {
     let mut random = Random::new(903);
     let (mut listed, mut others, mut stopped) = (0, 0, 0);
-    for round in 0..120 {
+    for round in 0..160 {
         let table = table(&mut random, if round % 2 == 0 { Shape::Small } else { Shape::EveryClass });
         let mut state = state(&mut random, &table, 4, true);
         if round % 2 == 1 {
@@ -225,7 +227,8 @@ fn a_move_is_listed_exactly_if_it_is_accepted() {
         let n = state.entries.len() as u32;
         let ids = (1..state.next.min(9)).chain(state.entries.iter().map(|entry| entry.owner)).chain([65_535, 65_536]);
         let ends = ids.flat_map(|id| [1 << 24 | id, 2 << 24 | id]);
-        let heads: Vec<u32> = (0..=table.rules.len() as u32).chain(ends).chain([1 << 24, 2 << 24, 3 << 24]).collect();
+        let heads = (0..=table.rules.len() as u32).chain(ends).chain([1 << 24, 2 << 24, 3 << 24]);
+        let heads: BTreeSet<u32> = heads.collect();
         let (table, state) = (table.words(), state.words());
         let list = in_pages(&table, &state, 256);
         for head in heads {

@@ -145,6 +145,28 @@ fn no_pick_is_in_an_aborting_transaction() {
     }
 }
 
+// Catches an abort mark that is missed at some place, and one that is taken for another transaction's: every
+// place of a small state, and in a full one the ends and what a search in chunks could miss.
+#[test]
+fn an_abort_mark_at_any_place() {
+    let table = with_aborts().words();
+    let some = [0, 1, 2, 15, 16, 31, 32, 63, 64, 127, 128, 511, 512, 1_007, 1_008, 1_021, 1_022, 1_023];
+    for (n, places) in [(70, (0..70).collect()), (1_024, some.to_vec())] {
+        for place in places {
+            for id in [1, 2] {
+                let mut entries = vec![Entry::message(0, 0, 9); n - 1];
+                entries[20] = Entry::message(1, 1, 5);
+                entries[40] = Entry::member_mark(1, 1);
+                entries[60] = Entry::member_mark(2, 2);
+                entries.insert(place, Entry::abort_mark(id));
+                let pick = if place <= 20 { 21 } else { 20 };
+                let (answer, _) = make_move(&table, &State { next: 3, entries }.words(), &react(1, &[pick]));
+                assert_eq!(answer.number(), if id == 1 { 18 } else { 0 }, "{id} at {place} of {n}");
+            }
+        }
+    }
+}
+
 // Catches a begin that is refused for the abort mark inside it, and a reaction in what it began.
 #[test]
 fn a_transaction_begun_with_an_abort_mark_only_aborts() {
@@ -323,7 +345,7 @@ fn the_order_of_entries_is_free() {
 fn random_changed_moves() {
     let mut random = Random::new(302);
     let mut answers = [0; 19];
-    for round in 0..40_000 {
+    for round in 0..50_000 {
         let table = table(&mut random, if round % 6 == 0 { Shape::Any } else { Shape::Small });
         let most = random.pick(&[6, 20, 60, 1_024]);
         let mut state = state(&mut random, &table, most, true);
