@@ -41,10 +41,10 @@ module _ (ceiling : ℕ) (r : rules.Rule) (s : semantics.State) (ps : List ℕ) 
   unfolding reactVerdict
   wrong-owner h k = rw (h, k)
 
-  pub aborting : picksOk r s ps ≡ true → ownersFit (r .class) (ownersAt s ps) ≡ true → all (takesPart s) (ownersAt s ps) ≡ false
+  pub some-aborting : picksOk r s ps ≡ true → ownersFit (r .class) (ownersAt s ps) ≡ true → all (takesPart s) (ownersAt s ps) ≡ false
       → Denied TransactionAborting ≡ reactVerdict ceiling r s ps
   unfolding reactVerdict
-  aborting h k p = rw (h, k, p)
+  some-aborting h k p = rw (h, k, p)
 
   pub no-more-ids : picksOk r s ps ≡ true → ownersFit (r .class) (ownersAt s ps) ≡ true → all (takesPart s) (ownersAt s ps) ≡ true → hasId r s ≡ false
       → Denied NoMoreIds ≡ reactVerdict ceiling r s ps

@@ -8,6 +8,8 @@ pub struct State {
     pub next: u32,
     pub owners: Vec<u32>,
     pub items: Vec<u32>,
+    /// How many of the items are abort marks: where there is none, no reaction has to look for one.
+    pub aborts: usize,
 }
 
 /// A set of 16-bit numbers.
@@ -57,7 +59,8 @@ impl State {
         }
         let (owners, items) = rest.split_at(n);
         // Room for one reaction's products, so that a move does not reallocate.
-        let mut state = State { next, owners: Vec::with_capacity(n + 16), items: Vec::with_capacity(n + 16) };
+        let room = || Vec::with_capacity(n + 16);
+        let mut state = State { next, owners: room(), items: room(), aborts: 0 };
         state.owners.extend_from_slice(owners);
         state.items.extend_from_slice(items);
         if state.fits(table) {
@@ -67,7 +70,7 @@ impl State {
         }
     }
 
-    fn fits(&self, table: &Table) -> bool {
+    fn fits(&mut self, table: &Table) -> bool {
         let mut members = Marks::new();
         let mut named = Marks::new();
         for (&owner, &item) in self.owners.iter().zip(&self.items) {
@@ -75,7 +78,10 @@ impl State {
             let fits = match item >> 24 {
                 kind::MESSAGE => port < if owner == 0 { table.global } else { table.ports },
                 kind::COMPENSATION => owner != 0 && port < table.global,
-                kind::ABORT_MARK => owner != 0 && item << 8 == 0,
+                kind::ABORT_MARK => {
+                    self.aborts += 1;
+                    owner != 0 && item << 8 == 0
+                }
                 kind::MEMBER_MARK => {
                     let fits = port == 0 && owner != 0 && owner <= value && value < self.next && !members.has(value);
                     members.add(value);

@@ -104,7 +104,7 @@ impl State {
         if !fits {
             return Err(8);
         }
-        if rule.class != Class::Global && self.aborting(&owners) {
+        if rule.class != Class::Global && self.aborts > 0 && self.aborting(&owners) {
             return Err(18);
         }
         if rule.begins && self.next == MAX_NEXT {
@@ -132,7 +132,10 @@ impl State {
                     kind::MEMBER_MARK << 24 | inside
                 }
                 role::COMPENSATE => kind::COMPENSATION << 24 | message,
-                role::ABORT => kind::ABORT_MARK << 24,
+                role::ABORT => {
+                    self.aborts += 1;
+                    kind::ABORT_MARK << 24
+                }
                 _ => message,
             };
             self.owners.push(inside);
@@ -235,6 +238,7 @@ impl State {
                 self.owners[at] = 0;
                 self.items[at] &= 0xFF_FFFF;
             } else {
+                self.aborts -= usize::from(self.items[at] >> 24 == kind::ABORT_MARK);
                 to = self.shift(kept..at, to, beside);
                 kept = at + 1;
             }

@@ -14,7 +14,7 @@ use Rattle.wellformed.specs.Picks.{ReactGiven}
 use Rattle.reaction.specs.Decoded.{ruleIn, consumes-within}
 use Rattle.state.specs.Lent.{stateFrom}
 use Rattle.reaction.specs.Places.{Places, owners-at, places}
-use Rattle.reaction.proofs.Refusing.{picks-found, picks-parts, wrong-pick, wrong-owner, aborting, no-more-ids, too-many, allowed-is, id-test}
+use Rattle.reaction.proofs.Refusing.{picks-found, picks-parts, wrong-pick, wrong-owner, some-aborting, no-more-ids, too-many, allowed-is, id-test}
 use Rattle.reaction.specs.Verdict.{picks-fit, count-left}
 use Rattle.reaction.proofs.verdict.react_verdict.Statement.{statement}
 use Rattle.reaction.proofs.verdict.react_verdict.Tie as tie
@@ -118,7 +118,7 @@ picks-aborting-requires c κs =
 returns-3 : tie.Need-returns-3
 returns-3 c = λ gs.
     let fit = c .before .before in
-    aborting _ _ _ _ (picks-pass (fit .before .before) gs) (owners-pass fit gs) (not-true _ (sym (taking (c .before) gs) ∙ c .if3 .taken))
+    some-aborting _ _ _ _ (picks-pass (fit .before .before) gs) (owners-pass fit gs) (not-true _ (sym (taking (c .before) gs) ∙ c .if3 .taken))
 
 returns-4 : tie.Need-returns-4
 returns-4 c = λ gs.
