@@ -1,6 +1,6 @@
-// Whether a transaction has an abort mark (stop mark), of several at once: one pass over the items, in chunks of 32 places.
-// Most chunks have no abort mark, and of those the owners are not looked at.
-ghost use Prim.Native.Nat.{ℕ, _+_, _-_, _≤_, _<_};
+// Whether a transaction has an abort mark (stop mark), of several at once: a pass over the items in chunks of 32 places, from
+// where nobody has looked yet. Most chunks have no abort mark, and of those the owners are not looked at.
+ghost use Prim.Native.Nat.{ℕ, _+_, _-_, _%_, _≤_, _<_};
 ghost use mathlib.Core.Path.{_≡_};
 ghost use mathlib.Core.List.{List, [], _∷_};
 ghost use lib.ListN.{length};
@@ -9,6 +9,7 @@ ghost use Rattle.lists.specs.Rows.{rows};
 ghost use Rattle.semantics.specs.State.{isAbortMark};
 ghost use Rattle.semantics.specs.Move.{mayAbort};
 ghost use Rattle.state.specs.Working.{rowOf};
+ghost use Rattle.state.specs.Arrays.{UnmarkedTo};
 ghost use Rattle.state.specs.Lent.{stateFrom, Columns};
 ghost use Rattle.abort_marks.specs.Marked.{abortMarkIn};
 use state::Extent;
@@ -28,6 +29,28 @@ fn chunk_marked(items: &[u32; 1024], from: usize) -> bool
         i += 1;
     }
     found
+}
+
+// Where a pass begins that has not to look at what stands before a place: with its chunk, or nowhere.
+fn pass_start(place: usize, n: usize) -> usize
+    ensures { λ r. ⌜ (r ≤ n) × (r ≤ place) × (r < n → r % 32 ≡ 0) ⌝ }
+{
+    if n <= place { n } else { place / 32 * 32 }
+}
+
+// How far no abort mark stands, once it is known up to a place: to the end, or to a chunk that has one.
+pub fn unmarked_until(items: &[u32; 1024], place: usize, n: usize) -> usize
+    requires { ⌜ (n ≤ 1024) × (length (now items) ≡ 1024) × (place ≤ n) × UnmarkedTo (now items) place ⌝ }
+    ensures { λ r. ⌜ (r ≤ n) × UnmarkedTo (now (items .entry)) r ⌝ }
+{
+    let mut from = pass_start(place, n);
+    while from < n {
+        if chunk_marked(items, from) {
+            return from;
+        }
+        from += 32;
+    }
+    n
 }
 
 fn one_of(id: u16, a: u16, b: u16, c: u16, d: u16) -> bool
@@ -82,21 +105,22 @@ fn chunk_aborting<'a>(
     marked_between(owners, items, from, end, a, b, c, d)
 }
 
-// Whether one of four transactions has an abort mark.
+// Whether one of four transactions has an abort mark, where none stands before a place.
 pub fn any_aborting<'a>(
     owners: &'a [u16; 1024],
     items: &'a [u32; 1024],
     at: Extent,
+    unmarked: usize,
     a: u16,
     b: u16,
     c: u16,
     d: u16,
 ) -> bool
-    requires { ⌜ Columns (now owners) (now items) (at .len) ⌝ }
+    requires { ⌜ Columns (now owners) (now items) (at .len) × UnmarkedTo (now items) unmarked ⌝ }
     ensures { λ r. ⌜ ((gs : List ℕ) → r ≡ any (λ o. mayAbort o (stateFrom (now (owners .entry)) (now (items .entry)) gs at)) (a ∷ b ∷ c ∷ d ∷ [])) ⌝ }
 {
     let n = at.len;
-    let mut from = 0;
+    let mut from = pass_start(unmarked, n);
     while from < n {
         let end = chunk_end(from, n);
         if chunk_aborting(owners, items, from, end, a, b, c, d) {

@@ -70,5 +70,9 @@ pub fn end_transaction(
         w += stays(owner, item, id, kind);
         i += 1;
     }
-    Extent { len: w, next }
+    Extent {
+        len: w,
+        next,
+        unmarked: 0,
+    }
 }

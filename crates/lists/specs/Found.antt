@@ -1,9 +1,14 @@
 -- A loop that notes whether a test held somewhere, and what such notes say of the elements that another test keeps.
-use Prim.Native.Nat.{ℕ, _+_, _≤_, _<_}
+use Prim.Native.Nat.{ℕ, zero, suc, _+_, _≤_, _<_}
 use mathlib.Core.Path.{_≡_, refl, sym, _∙_}
 use mathlib.Core.Bool.{Bool, true, false, _&&_, _||_, not, or-false}
 use mathlib.Core.List.{List, [], _∷_, _++_}
+use native.Mathlib.Omega.{arith}
+use borrow.Author.Tests.{eqb-true, eqb-false}
+use lib.Dec.{eqb}
 use Rattle.lists.specs.Lists.{all, any, keepIf, keep}
+use Rattle.lists.specs.Choices.{by-bool}
+use Rattle.lists.specs.Neither.{or-left-false, or-right-false}
 use Rattle.lists.specs.Ahead.{Tails, Ahead, ahead-start, ahead-next, ahead-done}
 use Rattle.lists.specs.Rows.{rows, rowsFrom, rows-whole}
 
@@ -39,6 +44,19 @@ module _ {A : Type 0} where
 
     pub finding-done : n ≤ i → b ≡ goal
     finding-done l = sym (or-false b) ∙ ahead-done t (a .ahead) l
+
+  -- a test that fails at each place, and back
+  pub none-rows : (p : A → Bool) (f : ℕ → A) (i n : ℕ) → ((k : ℕ) → i ≤ k → k < i + n → p (f k) ≡ false) → any p (rows f i n) ≡ false
+  unfolding rows
+  none-rows p f i zero h = refl
+  none-rows p f i (suc n) h = rw (h i (omega arith) (omega arith)) (none-rows p f (suc i) n (λ k l u. h k (omega arith) (omega arith)))
+
+  pub rows-lack : (p : A → Bool) (f : ℕ → A) (i n : ℕ) → any p (rows f i n) ≡ false → (k : ℕ) → i ≤ k → k < i + n → p (f k) ≡ false
+  unfolding rows
+  rows-lack p f i zero h k l u = absurd (omega arith)
+  rows-lack p f i (suc n) h k l u = by-bool (eqb k i)
+      (λ e. rw (eqb-true k i e) (or-left-false (p (f i)) (any p (rows f (suc i) n)) h))
+      (λ e. let d = eqb-false k i e in rows-lack p f (suc i) n (or-right-false (p (f i)) (any p (rows f (suc i) n)) h) k (omega arith) (omega arith))
 
   pub any-append : (p : A → Bool) (xs ys : List A) → any p (xs ++ ys) ≡ any p xs || any p ys
   any-append p [] ys = refl

@@ -13,7 +13,7 @@ use Rattle.semantics.specs.State.{Entry}
 use Rattle.semantics.specs.declared.Atom.{Atom}
 use Rattle.rules.specs.declared.decode.Rule.{Rule}
 use Rattle.state.specs.Working.{entryFrom, rowOf, held}
-use Rattle.state.specs.Arrays.{Arrays, HoldsIn, stored-sized, stored-before, holds-of}
+use Rattle.state.specs.Arrays.{Arrays, HoldsIn, stored-sized, stored-before, holds-of, not-looked}
 use Rattle.words.specs.Origin.{Maker, originWord, origin-of-product}
 use Rattle.products.specs.Narrow.{Applicable}
 use Rattle.products.specs.Products.{ownerOfRole, ItemMade, productFrom, productsFrom}
@@ -60,8 +60,9 @@ module _ (x : Rule) (next home maker : ℕ) (got : List ℕ) where
               (stored-before _ _ _ (at + q) o w (originWord maker q) (m .arrays) low entry _));
         }
 
-    pub making-done : makingCount x ≤ q → (n : ℕ) → HoldsIn (held os ws gs (record { len = at + makingCount x; next = n })) (record { next = n; entries = all })
+    pub making-done : makingCount x ≤ q → (n : ℕ)
+        → HoldsIn (held os ws gs (record { len = at + makingCount x; next = n; unmarked = 0 })) (record { next = n; entries = all })
     making-done h n =
         let e : q ≡ makingCount x = omega (arith, m .ahead .within) in
         let done : rows (rowOf os ws gs) 0 (at + q) ≡ all = sym (append-nil _) ∙ ahead-done tails (m .ahead) h in
-        record { arrays = m .arrays; holds = holds-of _ refl refl (m .room) (rw e at done) }
+        record { arrays = m .arrays; holds = holds-of _ refl refl (m .room) (rw e at done); looked = not-looked refl }

@@ -119,5 +119,6 @@ pub fn append_products(
     Extent {
         len: n + made,
         next: next_after(rule.begins, next),
+        unmarked: 0,
     }
 }

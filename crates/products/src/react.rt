@@ -38,6 +38,7 @@ pub fn react(
     let left = Extent {
         len: n,
         next: at.next,
+        unmarked: 0,
     };
     append_products(owners, items, origins, left, rule, received, home, maker)
 }

@@ -12,6 +12,7 @@ ghost use Rattle.semantics.specs.Table.{consumed};
 ghost use Rattle.semantics.specs.Move.{entryAt, onPorts, ownersFit, takesPart};
 ghost use Rattle.rules.specs.Decode.{Decodes};
 ghost use Rattle.state.specs.Working.{rowOf};
+ghost use Rattle.state.specs.Arrays.{UnmarkedTo};
 ghost use Rattle.reaction.specs.Decoded.{ruleIn};
 ghost use Rattle.state.specs.Lent.{stateFrom, Columns};
 ghost use Rattle.reaction.specs.Verdict.{reactVerdict, ownerFits};
@@ -104,10 +105,11 @@ fn picks_aborting<'a>(
     owners: &'a [u16; 1024],
     items: &'a [u32; 1024],
     at: Extent,
+    unmarked: usize,
     picks: [u32; 4],
     k: usize,
 ) -> bool
-    requires { ⌜ Columns (now owners) (now items) (at .len) × (1 ≤ k) × (k ≤ 4) × Places 1024 (take k picks)
+    requires { ⌜ Columns (now owners) (now items) (at .len) × UnmarkedTo (now items) unmarked × (1 ≤ k) × (k ≤ 4) × Places 1024 (take k picks)
         × (ownersFit class (column (now owners) (take k picks)) ≡ true) ⌝ }
     ensures { λ r. ⌜ ((gs : List ℕ) → r ≡ not (all (takesPart (stateFrom (now (owners .entry)) (now (items .entry)) gs at))
         (column (now (owners .entry)) (take k picks)))) ⌝ }
@@ -115,21 +117,23 @@ fn picks_aborting<'a>(
     if class != 0 {
         let found = owners_at(owners, picks, k);
         let ids = repeated(found, k);
-        return any_aborting(owners, items, at, ids[0], ids[1], ids[2], ids[3]);
+        return any_aborting(owners, items, at, unmarked, ids[0], ids[1], ids[2], ids[3]);
     }
     false
 }
 
-// Why a reaction is refused. The other column, of origins, does not matter.
+// Why a reaction is refused. The other column, of origins, does not matter. An abort mark is looked for from the place
+// unmarked on.
 pub fn react_verdict<'a>(
     owners: &'a [u16; 1024],
     items: &'a [u32; 1024],
     at: Extent,
+    unmarked: usize,
     rule: Rule,
     picks: [u32; 4],
     ceiling: usize,
 ) -> Verdict
-    requires { ⌜ Columns (now owners) (now items) (at .len) × Decodes rule (ruleIn rule) ⌝ }
+    requires { ⌜ Columns (now owners) (now items) (at .len) × Decodes rule (ruleIn rule) × UnmarkedTo (now items) unmarked ⌝ }
     ensures { λ r. ⌜ ((gs : List ℕ)
         → r ≡ reactVerdict ceiling (ruleIn rule) (stateFrom (now (owners .entry)) (now (items .entry)) gs at) (take (rule .consumes) picks)) ⌝ }
 {
@@ -141,7 +145,7 @@ pub fn react_verdict<'a>(
     if !owners_fit(rule.class, owners, picks, k) {
         return Verdict::Denied(Refusal::WrongOwner);
     }
-    if picks_aborting(rule.class, owners, items, at, picks, k) {
+    if picks_aborting(rule.class, owners, items, at, unmarked, picks, k) {
         return Verdict::Denied(Refusal::TransactionAborting);
     }
     if rule.begins & (State::MAX_NEXT <= at.next) {

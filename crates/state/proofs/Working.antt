@@ -16,7 +16,7 @@ use Rattle.semantics.specs.State.{entryOf, entriesOf, entryCount, nextOf, owner
 use Rattle.wellformed.specs.RoundTrip.{itemWord-fields}
 use Rattle.wellformed.specs.States.{StateSized, columnEntry, entriesFrom, entries-tails}
 use Rattle.state.specs.Working.{entryFrom, rowOf, entryIn, stateIn, held, Stored}
-use Rattle.state.specs.Arrays.{HoldsIn, holds-of}
+use Rattle.state.specs.Arrays.{HoldsIn, not-looked, holds-of}
 use Rattle.state.specs.declared.State.{State}
 
 -- an entry of the start has its place as its origin
@@ -33,7 +33,7 @@ copied-column from column after n h size few e = record {
 
 -- columns that hold those of the words, and each origin its place
 pub loaded : {s os ws gs : List ℕ} {n : ℕ} → StateSized s → n ≡ entryCount s → Filled 0 (λ k. getD (ownersOf s) k 0) 1024 n os
-    → Filled 0 (λ k. getD (itemsOf s) k 0) 1024 n ws → Filled 0 (λ k. k) 1024 n gs → HoldsIn (held os ws gs (record { len = n; next = nextOf s })) (stateOf s)
+    → Filled 0 (λ k. getD (itemsOf s) k 0) 1024 n ws → Filled 0 (λ k. k) 1024 n gs → HoldsIn (held os ws gs (record { len = n; next = nextOf s; unmarked = 0 })) (stateOf s)
 unfolding stateOf entriesFrom
 loaded {s} {os} {ws} {gs} {n} q e o w g =
     let all : length (ownersOf s) ≡ n = omega arith in
@@ -41,7 +41,11 @@ loaded {s} {os} {ws} {gs} {n} q e o w g =
     rows-ext _ _ 0 n (λ k l u. rw (o .each k (omega arith), w .each k (omega arith), g .each k (omega arith)) (from-place k _ _ (omega arith))) in
     let whole : entriesOf 0 (ownersOf s) (itemsOf s) ≡ rows (columnEntry (ownersOf s) (itemsOf s)) 0 n =
     rw (← all) (tails-rows (entries-tails (ownersOf s) (itemsOf s) (omega arith))) in
-    record { arrays = record { owners = o .size; items = w .size; origins = g .size }; holds = holds-of _ refl refl (omega arith) (same ∙ sym whole) }
+    record {
+      arrays = record { owners = o .size; items = w .size; origins = g .size };
+      holds = holds-of _ refl refl (omega arith) (same ∙ sym whole);
+      looked = not-looked refl;
+    }
 
 -- ---- words
 

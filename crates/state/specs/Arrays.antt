@@ -1,12 +1,15 @@
 -- Laws of the columns of a working state, for the proofs of code that changes it: an entry stored in them, and what the state then holds.
 use Prim.Native.Nat.{ℕ, _+_, _≤_, _<_}
+use mathlib.Core.Bool.{false}
 use mathlib.Core.Path.{_≡_, sym, ap, _∙_}
 use mathlib.Core.List.{List, [], _∷_, _++_, append-assoc}
 use native.Mathlib.Nat.{zero-add}
 use native.Mathlib.Omega.{arith}
-use lib.ListN.{length, set, length-set}
+use lib.Dec.{eqb}
+use lib.ListN.{length, getD, set, length-set}
 use lib.Seq.{getD-set-same, getD-set-other}
 use Rattle.lists.specs.Rows.{rows, length-rows, rows-ext, rows-more}
+use Rattle.semantics.specs.Words.{itemKind}
 use Rattle.semantics.specs.State as semantics
 use Rattle.semantics.specs.State.{Entry}
 use Rattle.state.specs.Working.{entryFrom, rowOf, entryIn, stateIn, Holds}
@@ -18,10 +21,23 @@ pub record Arrays (os ws gs : List ℕ) : Type 0 where
   pub items : length ws ≡ 1024
   pub origins : length gs ≡ 1024
 
+-- no abort mark stands before place n
+abbrev pub UnmarkedTo : List ℕ → ℕ → Type 0
+UnmarkedTo ws n = (j : ℕ) → j < n → eqb (itemKind (getD ws j 0)) 2 ≡ false
+
+pub record Looked (s : State) : Type 0 where
+  pub within : s .unmarked ≤ s .len
+  pub none : UnmarkedTo (s .items) (s .unmarked)
+
+-- nobody has looked yet
+pub not-looked : {s : State} → s .unmarked ≡ 0 → Looked s
+not-looked h = record { within = omega arith; none = λ j l. absurd (omega arith) }
+
 -- lent columns that hold σ
 pub record HoldsIn (s : State) (σ : semantics.State) : Type 0 where
   pub arrays : Arrays (s .owners) (s .items) (s .origins)
   pub holds : Holds s σ
+  pub looked : Looked s
 
 module _ (os ws gs : List ℕ) (w o x g : ℕ) where
   -- the columns with an entry stored at w

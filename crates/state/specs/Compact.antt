@@ -21,6 +21,7 @@ storedIn s w o x g = record {
   origins = set (s .origins) w g;
   len = s .len;
   next = s .next;
+  unmarked = s .unmarked;
 }
 
 -- Of n entries those before i are done and w of them stayed; q says which stay, f how they are changed, σ what is to be made.
@@ -53,5 +54,5 @@ module _ (q : ℕ → Entry → Bool) (f : Entry → Entry) where
         }
 
     -- the loop is left: with w as its length the state holds what was to be made
-    pub compacting-done : n ≤ i → Holds (record { owners = s .owners; items = s .items; origins = s .origins; len = w; next = s .next }) σ
-    compacting-done h = holds-of _ (c .next) refl (omega arith) (sifting-done q f (c .sifting) h)
+    pub compacting-done : n ≤ i → (u : ℕ) → Holds (record { owners = s .owners; items = s .items; origins = s .origins; len = w; next = s .next; unmarked = u }) σ
+    compacting-done h u = holds-of _ (c .next) refl (omega arith) (sifting-done q f (c .sifting) h)

@@ -28,7 +28,7 @@ stateIn s = record { next = s .next; entries = rows (entryIn s) 0 (s .len) }
 
 -- the state in lent columns
 abbrev pub held : List ℕ → List ℕ → List ℕ → Extent → State
-held os ws gs at = record { owners = os; items = ws; origins = gs; len = at .len; next = at .next }
+held os ws gs at = record { owners = os; items = ws; origins = gs; len = at .len; next = at .next; unmarked = at .unmarked }
 
 -- s holds σ, and is within its limit
 pub record Holds (s : State) (σ : semantics.State) : Type 0 where

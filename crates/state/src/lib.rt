@@ -31,6 +31,7 @@ pub struct State {
     pub origins: [u16; State::MAX_ENTRIES],
     pub len: usize,
     pub next: u32,
+    pub unmarked: usize,
 }
 
 impl State {
@@ -50,14 +51,17 @@ impl State {
             origins: [0; State::MAX_ENTRIES],
             len: 0,
             next: 1,
+            unmarked: 0,
         }
     }
 }
 
-// What columns do not say themselves: how many entries are in use, and N.
+// What columns do not say themselves: how many entries are in use, and N. Before the place unmarked no abort mark (stop
+// mark) stands, so that nobody has to look for one there again.
 pub struct Extent {
     pub len: usize,
     pub next: u32,
+    pub unmarked: usize,
 }
 
 // The words of a state that was accepted: all that is asked of it is that it fits the columns.
@@ -78,6 +82,7 @@ pub fn load(
     Extent {
         len,
         next: state[1],
+        unmarked: 0,
     }
 }
 

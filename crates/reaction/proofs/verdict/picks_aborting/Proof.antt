@@ -26,7 +26,7 @@ returns c gs =
     let r = c .before .repeated in
     let found = ap (take (a .k)) (c .before .before .owners-at .ensures) ∙ take-found (a .k) (a .owners .now) (a .picks) (search needs) in
     c .any-aborting .ensures gs
-    ∙ inner-part (σ s gs) (a .class) (os s) (s .pre .4) (c .before .before .before .if1 .taken) (r .result) (search needs)
+    ∙ inner-part (σ s gs) (a .class) (os s) (s .pre .5) (c .before .before .before .if1 .taken) (r .result) (search needs)
     (λ x. r .ensures x ∙ ap (isIn x) found)
 
 pub picks-aborting-spec : {M : Type 1} → statement M
@@ -35,4 +35,4 @@ picks-aborting-spec =
     (tie.spec
     (λ c κs. search needs) (λ c κs. search needs) (λ c. search needs) (λ c. search needs) (λ c. search needs) (λ c. search needs) (λ c κs. search needs)
     returns
-    (λ c gs. let s = c .before in ap not (sym (global-part (σ s gs) (s .args .class) (os s) (s .pre .4) (c .if1 .left)))))
+    (λ c gs. let s = c .before in ap not (sym (global-part (σ s gs) (s .args .class) (os s) (s .pre .5) (c .if1 .left)))))

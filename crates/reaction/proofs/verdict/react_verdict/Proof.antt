@@ -113,7 +113,7 @@ picks-aborting-requires : tie.Need-picks-aborting-requires
 picks-aborting-requires c κs =
     let start = placed (c .before) in
     let (a, b, _, p) = owners-fit-requires (c .before .before) κs in
-    (start .pre .0, a, b, p, sym (c .before .owners-fit .ensures) ∙ not-false _ (c .if2 .left))
+    (start .pre .0, start .pre .2, a, b, p, sym (c .before .owners-fit .ensures) ∙ not-false _ (c .if2 .left))
 
 returns-3 : tie.Need-returns-3
 returns-3 c = λ gs.
