@@ -1,11 +1,13 @@
 -- A loop that notes whether a test held somewhere, and what such notes say of the elements that another test keeps.
 use Prim.Native.Nat.{ℕ, zero, suc, _+_, _≤_, _<_}
-use mathlib.Core.Path.{_≡_, refl, sym, _∙_}
+use mathlib.Core.Path.{_≡_, refl, sym, ap, _∙_}
 use mathlib.Core.Bool.{Bool, true, false, _&&_, _||_, not, or-false}
 use mathlib.Core.List.{List, [], _∷_, _++_}
 use native.Mathlib.Omega.{arith}
 use borrow.Author.Tests.{eqb-true, eqb-false}
 use lib.Dec.{eqb}
+use lib.ListN.{length, take, drop, take-append-drop}
+use lib.Seq.{take-append-le}
 use Rattle.lists.specs.Lists.{all, any, keepIf, keep}
 use Rattle.lists.specs.Choices.{by-bool}
 use Rattle.lists.specs.Neither.{or-left-false, or-right-false}
@@ -61,6 +63,12 @@ module _ {A : Type 0} where
   pub any-append : (p : A → Bool) (xs ys : List A) → any p (xs ++ ys) ≡ any p xs || any p ys
   any-append p [] ys = refl
   any-append p (x ∷ xs) ys = rw (any-append p xs ys) (regroup (p x) (any p xs) (any p ys))
+
+  -- a front of what a test fails on
+  pub none-front : (p : A → Bool) (n : ℕ) (xs ys : List A) → n ≤ length xs → any p xs ≡ false → any p (take n (xs ++ ys)) ≡ false
+  none-front p n xs ys l h =
+      ap (any p) (take-append-le n xs ys l)
+      ∙ or-left-false (any p (take n xs)) (any p (drop n xs)) (sym (any-append p (take n xs) (drop n xs)) ∙ ap (any p) (take-append-drop n xs) ∙ h)
 
   pub any-keep : (p q : A → Bool) (xs : List A) → any (λ x. q x && p x) xs ≡ any p (keep q xs)
   any-keep p q [] = refl

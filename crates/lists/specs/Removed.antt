@@ -1,18 +1,20 @@
 -- A list without some of its places: what is left of it, and how long it is.
-use Prim.Native.Nat.{ℕ, suc, _+_, _<_}
+use Prim.Native.Nat.{ℕ, suc, _+_, _≤_, _<_}
 use mathlib.Core.Bool.{Bool, true, false, _&&_, not}
-use mathlib.Core.List.{List, [], _∷_}
+use mathlib.Core.List.{List, [], _∷_, _++_}
 use mathlib.Core.Logic.{inl, inr}
 use mathlib.Core.Path.{_≡_, refl, subst}
+use native.Mathlib.Nat.{add-zero}
 use native.Mathlib.Omega.{arith}
 use lib.Dec.{leb, ltb, eqb}
 use borrow.Author.Tests.{eqb-true, eqb-false, leb-true, leb-false, le-leb, lt-leb, lt-ltb, le-ltb}
 use lib.ListN.{length, getD}
-use Rattle.lists.specs.Lists.{keepIf, keep, oneIf, countIf, isIn, distinct, without}
-use Rattle.lists.specs.Choices.{by-bool, and-intro}
+use Rattle.lists.specs.Lists.{any, keepIf, keep, oneIf, countIf, isIn, distinct, without}
+use Rattle.lists.specs.Choices.{by-bool, is-false, clash, and-intro}
+use Rattle.lists.specs.Parts.{keepIf-append}
 use Rattle.lists.specs.Counting.{count-all}
 use Rattle.lists.specs.Totals.{count-never, count-sum, count-distinct}
-use Rattle.lists.specs.Members.{Among, all-intro}
+use Rattle.lists.specs.Members.{Among, all-intro, any-some, any-intro}
 
 module _ {A : Type 0} where
   pub among-without : (ps : List ℕ) (i : ℕ) (xs : List A) (x : A) → Among x (without ps i xs) → Among x xs
@@ -35,6 +37,27 @@ module _ {A : Type 0} where
           → keep q (keepIf (not b) y (without ps (suc i) ys)) ≡ keepIf (q y) y (keep q ys)
       go true e ih = let r : q y ≡ false = h 0 (subst (λ (n : ℕ). isIn n ps ≡ true) (omega arith) e) in rw r ih
       go false e ih = rw ih
+
+module _ {A : Type 0} where
+  -- in two parts
+  pub without-append : (ps : List ℕ) (i : ℕ) (xs ys : List A) → without ps i (xs ++ ys) ≡ without ps i xs ++ without ps (i + length xs) ys
+  without-append ps i [] ys = rw add-zero
+  without-append ps i (x ∷ xs) ys =
+      let e : suc i + length xs ≡ i + suc (length xs) = omega arith in
+      rw (without-append ps (suc i) xs ys, e) (keepIf-append (not (isIn i ps)) x (without ps (suc i) xs) (without ps (i + suc (length xs)) ys))
+
+  pub without-le : (ps : List ℕ) (i : ℕ) (xs : List A) → length (without ps i xs) ≤ length xs
+  without-le ps i [] = omega arith
+  without-le ps i (x ∷ xs) = go (not (isIn i ps)) (without-le ps (suc i) xs)
+    where
+      go : (b : Bool) → length (without ps (suc i) xs) ≤ length xs → length (keepIf b x (without ps (suc i) xs)) ≤ suc (length xs)
+      go true h = omega arith
+      go false h = omega arith
+
+  pub none-without : (p : A → Bool) (ps : List ℕ) (i : ℕ) (xs : List A) → any p xs ≡ false → any p (without ps i xs) ≡ false
+  none-without p ps i xs h = is-false (any p (without ps i xs)) (λ k.
+      let (x, m, e) = any-some p (without ps i xs) k in
+      clash (any-intro p xs x (among-without ps i xs x m) e) h)
 
 -- ---- length
 

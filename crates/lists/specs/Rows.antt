@@ -70,6 +70,13 @@ module _ {A : Type 0} where
       let e : suc i + k ≡ i + suc k = omega arith in
       getD-rows d f (suc i) n k (le-of-suc-le-suc h) ∙ ap f e
 
+  -- the first m
+  pub take-rows : (f : ℕ → A) (i m n : ℕ) → m ≤ n → take m (rows f i n) ≡ rows f i m
+  unfolding rows
+  take-rows f i zero n h = refl
+  take-rows f i (suc m) zero h = absurd (not-suc-le-zero h)
+  take-rows f i (suc m) (suc n) h = rw (take-rows f (suc i) m n (le-of-suc-le-suc h))
+
   -- one place more at the end
   pub rows-more : (f : ℕ → A) (i n : ℕ) → rows f i (n + 1) ≡ rows f i n ++ (f (i + n) ∷ [])
   rows-more f i n = rw (add-one n, rows-last f i n)

@@ -18,15 +18,16 @@ use Rattle.semantics.specs.declared.Refusal.{Refusal}
 use Rattle.semantics.specs.declared.Verdict.{Verdict}
 use Rattle.semantics.specs.declared.Verdict.the-variants.{Allowed, Denied}
 use Rattle.wellformed.specs.Preservation.{end-id}
+use Rattle.wellformed.specs.Picks.{ReactGiven}
 use Rattle.rules.specs.declared.decode.Rule.{Rule}
 use Rattle.rules.specs.Decode.{Decodes}
-use Rattle.state.specs.declared.State.{State}
 use Rattle.state.specs.declared.Extent.{Extent}
 use Rattle.state.specs.Working.{stateIn, held, rowOf}
-use Rattle.state.specs.Arrays.{HoldsIn}
-use Rattle.reaction.specs.Decoded.{ruleIn}
+use Rattle.state.specs.Arrays.{UnmarkedTo, HoldsIn}
+use Rattle.reaction.specs.Decoded.{ruleIn, decodes-itself}
+use Rattle.reaction.specs.Places.{count-picks}
 use Rattle.state.specs.Lent.{stateFrom}
-use Rattle.reaction.specs.Verdict.{reactVerdict}
+use Rattle.reaction.specs.Verdict.{reactVerdict, verdict-allowed}
 use Rattle.ending.specs.End.{endVerdict}
 use Rattle.words.specs.Origin.{Maker}
 use Rattle.products.specs.Narrow.{rule-ready}
@@ -34,6 +35,7 @@ use Rattle.products.specs.React.{Permitted}
 use Rattle.step.specs.declared.make.Made.{Made}
 use Rattle.step.specs.Moves.{IsMove, endForm, form-end, form-rule, verdict-react, verdict-end, applied-react, applied-end}
 use Rattle.step.specs.Bounds.{verdict-higher}
+use Rattle.step.specs.Looking.{lookedTo, reacted-looked, ended-looked}
 use Rattle.step.specs.Make.{Workable, MadeAs, made-refused, made-allowed}
 
 -- ---- a reaction
@@ -75,10 +77,17 @@ module _ {T : List ℕ} {x : Rule} {head : ℕ} {picks : List ℕ} (g : Chosen T
               ∙ verdict-higher ceiling (tableOf T) (stateIn (held os ws gs at)) (moveOf (tableOf T) (head ∷ picks)) (sym verdict-is ∙ h) 1024 (w .limit);
         }
 
-        pub reaction-made : (i : ℕ) {made : Made} → made .verdict ≡ r → {s′ : State}
-            → HoldsIn s′ (reacted (ruleIn x) i (stateIn (held os ws gs at)) (take (x .consumes) picks))
-            → MadeAs made ceiling (tableOf T) i (head ∷ picks) (held os ws gs at) s′
-        reaction-made i v m = made-allowed w form (v ∙ h) (sym verdict-is ∙ h) (rw (applied-react is-move i (stateIn (held os ws gs at)) (g .kind)) m)
+        given : ReactGiven (ruleIn x) (stateIn (held os ws gs at)) (take (x .consumes) picks)
+        unfolding stateIn
+        given = verdict-allowed ceiling (ruleIn x) (stateFrom os ws gs at) (take (x .consumes) picks) (sym e ∙ h) .0
+
+        pub reaction-made : (i : ℕ) {made : Made} → made .verdict ≡ r → {u : ℕ} → (u ≤ at .len) × UnmarkedTo ws u → {os′ ws′ gs′ : List ℕ} {left : Extent}
+            → HoldsIn (held os′ ws′ gs′ left) (reacted (ruleIn x) i (stateIn (held os ws gs at)) (take (x .consumes) picks))
+            → MadeAs made ceiling (tableOf T) i (head ∷ picks) (held os ws gs at) (held os′ ws′ gs′ (lookedTo left (u - x .consumes)))
+        reaction-made i v (l, none) m =
+            let count = count-picks x (decodes-itself x _ (g .rule)) picks (g .four) in
+            made-allowed w form (v ∙ h) (sym verdict-is ∙ h) (rw (applied-react is-move i (stateIn (held os ws gs at)) (g .kind))
+            (reacted-looked os ws gs at _ l none (ruleIn x) i (take (x .consumes) picks) given count m))
 
 -- ---- an end
 
@@ -118,8 +127,10 @@ module _ {t : Table} {head : ℕ} {picks : List ℕ} (g : Ending t head picks) {
       → MadeAs made ceiling t i (head ∷ picks) (held os ws gs at) (held os ws gs at)
   end-refused i v h = made-refused w (g .form) v (sym end-verdict-is ∙ h)
 
-  pub end-made : (i : ℕ) {made : Made} → made .verdict ≡ r → r ≡ Allowed → {s′ : State}
-      → HoldsIn s′ (ended (λ e. eqb (e .kind) (kind - 1)) id (stateIn (held os ws gs at))) → MadeAs made ceiling t i (head ∷ picks) (held os ws gs at) s′
+  pub end-made : (i : ℕ) {made : Made} → made .verdict ≡ r → r ≡ Allowed → {os′ ws′ gs′ : List ℕ} {left : Extent}
+      → HoldsIn (held os′ ws′ gs′ left) (ended (λ e. eqb (e .kind) (kind - 1)) id (stateIn (held os ws gs at)))
+      → MadeAs made ceiling t i (head ∷ picks) (held os ws gs at) (held os′ ws′ gs′ (lookedTo left (at .unmarked - (at .len - left .len))))
   end-made i v h m =
+      let m = ended-looked os ws gs at (at .unmarked) (w .looked .within) (w .looked .none) (kind - 1) id m in
       made-allowed w (g .form) (v ∙ h) (sym end-verdict-is ∙ h)
       (rw (applied-end t head picks i (stateIn (held os ws gs at)) (g .kind) (g .small)) (rw (k, n) at m))

@@ -1,3 +1,4 @@
 pub mod Moves
 pub mod Bounds
+pub mod Looking
 pub mod Make

@@ -14,7 +14,7 @@ use Rattle.wellformed.specs.Step.{stepWords-verdict}
 use Rattle.table.specs.Index.{Starts}
 use Rattle.state.specs.declared.State.{State}
 use Rattle.state.specs.Working.{stateIn}
-use Rattle.state.specs.Arrays.{Arrays, HoldsIn}
+use Rattle.state.specs.Arrays.{Arrays, Looked, HoldsIn}
 use Rattle.words.specs.Origin.{Maker}
 use Rattle.step.specs.declared.make.Made.{Made}
 use Rattle.step.specs.Bounds.{Bounded, applied-bounded}
@@ -25,10 +25,11 @@ pub record Indexed (t index : List ℕ) : Type 0 where
   pub table : tableVerdict t ≡ Allowed
   pub starts : Starts (numbersOf t) (sizesOf t .rules) index
 
--- a working state that a move may be made on: columns of the right length, within the ceiling
+-- a working state that a move may be made on: columns of the right length, within the ceiling, and no abort mark before the place that says so
 pub record Workable (s : State) (ceiling : ℕ) : Type 0 where
   pub arrays : Arrays (s .owners) (s .items) (s .origins)
   pub bounds : Bounded s ceiling
+  pub looked : Looked s
   pub limit : ceiling ≤ 1024
 
 -- what a move asks: its table, its maker, and the columns lent to it
@@ -71,6 +72,7 @@ module _ {ceiling : ℕ} {t : Table} {i : ℕ} {w : List ℕ} {s : State} (k : W
       workable = record {
         arrays = held .arrays;
         bounds = applied-bounded ceiling t (stateIn s) (moveOf t w) h (k .bounds .next) i (held .holds);
+        looked = held .looked;
         limit = k .limit;
       };
     }

@@ -1,15 +1,19 @@
 // A move in words, decided and made in lent columns.
-ghost use Prim.Native.Nat.{ℕ};
+ghost use Prim.Native.Nat.{ℕ, _-_, _≤_};
 ghost use mathlib.Core.Path.{_≡_};
 ghost use Rattle.semantics.specs.Words.{headKind};
 ghost use Rattle.semantics.specs.Table.{tableOf};
 ghost use Rattle.semantics.specs.Answers.{tableVerdict};
 ghost use Rattle.semantics.specs.declared.Verdict.the-variants.{Allowed, Denied};
 ghost use Rattle.words.specs.Head.{wordsIn};
+ghost use lib.ListN.{length};
 ghost use Rattle.state.specs.Working.{held};
+ghost use Rattle.state.specs.Arrays.{UnmarkedTo};
+ghost use Rattle.step.specs.Looking.{lookedTo};
 ghost use Rattle.step.specs.Make.{Makeable, Workable, MadeAs};
 use crate::form::end_form;
 use crate::form::unused_zero;
+use abort_marks::unmarked_until;
 use ending::free::end_transaction;
 use ending::survey::first_owned;
 use ending::verdict::end_verdict;
@@ -36,6 +40,34 @@ fn refused(refusal: Refusal, left: Extent) -> Made
     Made {
         verdict: Verdict::Denied(refusal),
         left,
+    }
+}
+
+fn less_by(a: usize, b: usize) -> usize
+    ensures { λ r. ⌜ r ≡ a - b ⌝ }
+{
+    if a < b { 0 } else { a - b }
+}
+
+// How far no abort mark stands: a local or merge rule asks for it, a global one does not.
+fn looked(class: u32, items: &[u32; 1024], at: Extent) -> usize
+    requires { ⌜ (at .len ≤ 1024) × (length (now items) ≡ 1024) × (at .unmarked ≤ at .len) × UnmarkedTo (now items) (at .unmarked) ⌝ }
+    ensures { λ r. ⌜ (r ≤ at .len) × UnmarkedTo (now (items .entry)) r ⌝ }
+{
+    if class == 0 {
+        return at.unmarked;
+    }
+    unmarked_until(items, at.unmarked, at.len)
+}
+
+// What a move leaves, where so many entries are gone: those before a place moved down by no more.
+fn kept(left: Extent, unmarked: usize, gone: usize) -> Extent
+    ensures { λ r. ⌜ r ≡ lookedTo left (unmarked - gone) ⌝ }
+{
+    Extent {
+        len: left.len,
+        next: left.next,
+        unmarked: less_by(unmarked, gone),
     }
 }
 
@@ -67,11 +99,13 @@ fn make_reaction<'a>(
     if !unused_zero(picks, rule.consumes) {
         return refused(Refusal::MoveForm, at);
     }
-    let verdict = react_verdict(owners, items, at, rule, picks, ceiling);
+    let unmarked = looked(rule.class, items, at);
+    let verdict = react_verdict(owners, items, at, unmarked, rule, picks, ceiling);
     if let Verdict::Denied(refusal) = verdict {
         return refused(refusal, at);
     }
-    let left = react(owners, items, origins, at, rule, picks, maker);
+    let after = react(owners, items, origins, at, rule, picks, maker);
+    let left = kept(after, unmarked, rule.consumes);
     Made { verdict, left }
 }
 
@@ -103,7 +137,9 @@ fn make_end(
     if let Verdict::Denied(refusal) = verdict {
         return refused(refusal, at);
     }
-    let left = end_transaction(owners, items, origins, from, at, id, kind - 1);
+    let after = end_transaction(owners, items, origins, from, at, id, kind - 1);
+    let gone = less_by(at.len, after.len);
+    let left = kept(after, at.unmarked, gone);
     Made { verdict, left }
 }
 

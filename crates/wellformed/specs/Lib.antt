@@ -18,5 +18,6 @@ pub mod Results
 pub mod MoveKeeps
 pub mod OneByOne
 pub mod OwnNumbers
+pub mod Unmarked
 pub mod RunKeeps
 pub mod Calls

@@ -78,10 +78,12 @@ end-transaction-requires c κs =
 
 returns-3 : tie.Need-returns-3
 returns-3 c maker =
-    let asked = c .before .before .before .before .before .before in
-    end-made (formed (formed-at asked)) (start (formed-at asked) .pre .1 .0) (globals (sizes-at asked)) (kind-is asked) (id-is asked)
+    let ended = c .before .before in
+    let asked = ended .before .before .before .before .before .before in
+    rw (c .kept .ensures, c .before .less-by .ensures)
+    (end-made (formed (formed-at asked)) (start (formed-at asked) .pre .1 .0) (globals (sizes-at asked)) (kind-is asked) (id-is asked)
     (asked .end-verdict .ensures (start (formed-at asked) .args .origins .now)) maker refl
-    (c .before .before .before .before .enum-told .given .1) (c .end-transaction .ensures)
+    (ended .before .before .before .before .enum-told .given .1) (ended .end-transaction .ensures))
 
 pub make-end-spec : {M : Type 1} → statement M
 make-end-spec =
@@ -91,4 +93,4 @@ make-end-spec =
     (λ c κs. well-formed _ (c .before .before .before .before .before .pre .0) .sizes .long)
     (λ c κs. let w = start (c .before .before .before .before) .pre .1 .0 in (omega (arith, w .bounds .fits, w .limit), w .arrays .owners))
     end-verdict-requires (λ c. search needs) (λ c κs. search needs) returns-2
-    (λ c. search needs) sub-kind end-transaction-requires returns-3)
+    (λ c. search needs) sub-kind end-transaction-requires (λ c κs. search needs) (λ c κs. search needs) returns-3)

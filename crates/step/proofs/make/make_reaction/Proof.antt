@@ -21,8 +21,11 @@ use Rattle.step.proofs.make.make_reaction.Tie as tie
 abbrev start : tie.After-rule-at → tie.Start
 start c = c .before .before .before .before .before .before .before
 
+abbrev looked-at : tie.After-react-verdict → tie.After-looked
+looked-at c = c .before .before .before
+
 abbrev formed-at : tie.After-react-verdict → tie.Else2
-formed-at c = c .before .before .before
+formed-at c = looked-at c .before .before
 
 abbrev rule-of : tie.After-react-verdict → tie.After-rule-at
 rule-of c = formed-at c .before .before
@@ -62,12 +65,19 @@ returns-2 c =
     (made-malformed (start rule .pre .0 .workable) refl (sym (reaction-form (chosen rule) (c .before .before .unused-zero .ensures))
     ∙ not-true _ (c .before .if2 .taken)))
 
+looked-requires : tie.Need-looked-requires
+looked-requires c κs =
+    let w = start (c .before .before .before) .pre .0 .workable in
+    (omega (arith, w .bounds .fits, w .limit), w .arrays .items, w .looked .within, w .looked .none)
+
 react-verdict-requires : tie.Need-react-verdict-requires
 react-verdict-requires c κs =
-    let rule = c .before .before .before .before in
+    let looked = c .before .before in
+    let rule = looked .before .before .before .before in
     let w = start rule .pre .0 .workable in (
       record { owners = w .arrays .owners; items = w .arrays .items; fits = omega (arith, w .bounds .fits, w .limit) },
       decodes-itself _ _ (rule .rule-at .ensures),
+      looked .looked .ensures .1,
     )
 
 returns-3 : tie.Need-returns-3
@@ -87,10 +97,12 @@ react-requires c κs =
 
 returns-4 : tie.Need-returns-4
 returns-4 c =
-    let asked = c .before .before .before .before .before .before in
+    let reacted = c .before in
+    let asked = reacted .before .before .before .before .before .before in
     let start = start (rule-of asked) in
-    reaction-made (chosen (rule-of asked)) (formed (formed-at asked)) (start .pre .0 .workable) (asked .react-verdict .ensures (start .args .origins .now))
-    (c .before .before .before .before .enum-told .given .1) _ refl (c .react .ensures)
+    rw (c .kept .ensures)
+    (reaction-made (chosen (rule-of asked)) (formed (formed-at asked)) (start .pre .0 .workable) (asked .react-verdict .ensures (start .args .origins .now))
+    (reacted .before .before .before .before .enum-told .given .1) _ refl (looked-at asked .looked .ensures) (reacted .react .ensures))
 
 pub make-reaction-spec : {M : Type 1} → statement M
 make-reaction-spec =
@@ -103,5 +115,5 @@ make-reaction-spec =
       start .pre .0 .indexed .starts,
     ))
     (λ c κs. c .rule-at .ensures .legal .most) (λ c κs. search needs) returns-2
-    react-verdict-requires (λ c. search needs) (λ c κs. search needs) returns-3
-    (λ c. search needs) react-requires returns-4)
+    looked-requires react-verdict-requires (λ c. search needs) (λ c κs. search needs) returns-3
+    (λ c. search needs) react-requires (λ c κs. search needs) returns-4)
