@@ -211,16 +211,18 @@ fn every_page_of_short_lists() {
 fn a_move_is_listed_exactly_if_it_is_accepted() {
     let mut random = Random::new(903);
     let (mut listed, mut others, mut stopped) = (0, 0, 0);
-    for round in 0..160 {
-        let table = table(&mut random, if round % 2 == 0 { Shape::Small } else { Shape::EveryClass });
-        let mut state = state(&mut random, &table, 4, true);
-        if round % 2 == 1 {
+    for round in 0..200 {
+        let directed = round >= 120;
+        let table = table(&mut random, if directed { Shape::EveryClass } else { Shape::Small });
+        let mut state = if directed {
             // Transaction 1 with an abort mark and transaction 2, each with messages.
             let message = |id| Entry::message(id, random.between(table.global, table.ports() - 1), 5);
             let messages: Vec<Entry> = [1, 1, 2].map(message).to_vec();
             let marks = [Entry::member_mark(1, 1), Entry::abort_mark(1), Entry::member_mark(2, 2)];
-            state = State { next: 3, entries: [messages, marks.to_vec()].concat() };
-        }
+            State { next: 3, entries: [messages, marks.to_vec()].concat() }
+        } else {
+            state(&mut random, &table, 4, true)
+        };
         if state.next > 8 {
             state.next = 65_536;
         }

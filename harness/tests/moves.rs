@@ -117,8 +117,8 @@ fn no_pick_is_in_an_aborting_transaction() {
         entries.extend((1..=4).filter(|&id| marked(id)).map(Entry::abort_mark));
         let n = entries.len() as u32;
         let state = State { next: 5, entries }.words();
-        // The last merge consumes the messages on port 2 of transactions 4, 3, 2 and 1, those before it the
-        // first of them.
+        // The last merge consumes the messages on port 2 of transactions 4, 3, 2 and 1, those before it any
+        // neighbours of them.
         for (rule, picks) in [(2, 1), (3, 2), (4, 3), (5, 4)] {
             for first in 0..=4 - picks {
                 let places: Vec<u32> = (first..first + picks).collect();

@@ -136,10 +136,13 @@ fn a_log_breaks_off_at_an_abort_mark() {
         let owners: Vec<u32> = picks.iter().map(|&pick| entries[pick as usize].owner).collect();
         let id = *owners.iter().find(|&&id| marked(id)).unwrap();
         let begins: Vec<&Move> = log[..place].iter().filter(|mv| has_atom(&table, mv, Atom::BEGIN)).collect();
-        match id.checked_sub(start.next) {
-            None => at_start += 1,
-            Some(begun) if has_atom(&table, begins[begun as usize], Atom::ABORT) => by_begin += 1,
-            Some(_) => by_reaction += 1,
+        let begun = id.checked_sub(start.next).map(|begun| begins[begun as usize]);
+        if start.entries.contains(&Entry::abort_mark(id)) {
+            at_start += 1;
+        } else if begun.is_some_and(|mv| has_atom(&table, mv, Atom::ABORT)) {
+            by_begin += 1;
+        } else {
+            by_reaction += 1;
         }
         late += usize::from(place > 8);
         merges += usize::from(owners.iter().any(|&owner| owner != owners[0]));

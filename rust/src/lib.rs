@@ -3,8 +3,8 @@
 //! A table of rules, a state, a move and a log are lists of 32-bit words; document 01 gives their
 //! layout. [`Table`], [`State`], [`Move`] and [`Log`] borrow such words and check nothing, so that
 //! words from a file or a line can be handed over as they are: every call checks all that it is
-//! handed, and answers a [`Refusal`] with the number of document 01 or 02. [`TableBuilder`], [`StateBuilder`],
-//! [`LogBuilder`] and [`react`], [`commit`], [`abort`] write the words.
+//! handed, and answers a [`Refusal`] with the number of document 01 or 02. [`TableBuilder`],
+//! [`StateBuilder`], [`LogBuilder`] and [`react`], [`commit`], [`abort`] write the words.
 //!
 //! No call allocates, keeps anything, or panics. A refused call leaves its target as it was; an
 //! accepted one leaves it as it was beyond the words that it gives back. Each call runs in a

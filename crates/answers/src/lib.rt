@@ -1,4 +1,4 @@
-// Document 01's numbers, as code.
+// The numbers of documents 01 and 02, as code.
 ghost use mathlib.Core.Path.{_≡_};
 ghost use Rattle.semantics.specs.Answers.{number, answerOf, pageAnswer};
 use semantics::Answer;

@@ -27,7 +27,7 @@ fn local_key(ids: &[u16; 1024], m: usize, owner: u16, port: u32) -> u32
     place_of(ids, m, owner) as u32 * 512 + port
 }
 
-// A transaction with an abort mark takes part in no reaction (18).
+// The key of an entry. A transaction with an abort mark takes part in no reaction (18).
 fn key_of<'a>(
     z: Sizes,
     ids: &'a [u16; 1024],

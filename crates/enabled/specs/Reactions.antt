@@ -110,7 +110,7 @@ ports-owners ok S (t ∷ ts) (p ∷ ps) =
     let e = entryAt (S .entries) p in
     rw (← (ports-owners ok S ts ps)) (and-turn (isMessage e && eqb (e .port) t) (onPorts ts (picked S ps)) (ok (e .owner)) (all ok (ownersAt S ps)))
 
--- .. and takes part
+-- an owner that a rule of class c may consume from: it is what the class wants, and takes part
 abbrev ownerMay : (ℕ → Bool) → ℕ → ℕ → Bool
 ownerMay part c o = ownerWanted c o && part o
 

@@ -37,6 +37,7 @@ module _ (S : List ℕ) (z : stateSizesOk S ≡ true) {s : State} (h : HoldsIn s
   loaded-workable = record {
     arrays = h .arrays;
     bounds = record { fits = h .holds .fits; next = omega (arith, held-next (h .holds), States.state-sized S z .last) };
+    looked = h .looked;
     limit = omega arith;
   }
 

@@ -57,7 +57,12 @@ pub fn make_at<'a>(
     let at = made.left;
     let len = at.len;
     let next = at.next;
-    let left = Extent { len, next };
+    let unmarked = at.unmarked;
+    let left = Extent {
+        len,
+        next,
+        unmarked,
+    };
     Made { verdict, left }
 }
 

@@ -2,14 +2,15 @@
 use Prim.Native.Nat.{ℕ}
 use mathlib.Core.List.{List, [], _∷_, _++_, map}
 use mathlib.Core.Path.{_≡_, refl}
-use lib.ListN.{replicate}
+use lib.ListN.{take, replicate}
 use Rattle.semantics.specs.Table.{Rule, tableSizesOk, numbersOk, atomOk, ruleOk, rulesOk, tableContentsOk, ruleOf, tableOf}
 use Rattle.semantics.specs.State.{State, stateOf, stateWords, stateSizesOk, entryOk, entriesOk}
 use Rattle.semantics.specs.Move.{reactAllowed, moveOk, moveOf, reacted, allowed, applied, step, stepWords}
 use Rattle.semantics.specs.Move as Move
 use Rattle.semantics.specs.Log.{logSizesOk, logWords, run}
 use Rattle.semantics.specs.Serial.{after, acts, again, replayed, serial, along, serialFits}
-use Rattle.semantics.specs.Answers.{tableVerdict, stateOwnVerdict, stateVerdict, moveResult, makeMove, logVerdict, runResult, runLog}
+use Rattle.semantics.specs.Answers.{tableVerdict, stateOwnVerdict, stateVerdict, moveResult, makeMove, makeMoveTarget, logVerdict, runResult}
+use Rattle.semantics.specs.Answers.{runLog}
 use Rattle.semantics.specs.Answers.{serialOf, serialFitsOf, serialResult, serialize}
 use Rattle.semantics.specs.Cases.{twoLot, rule1, rule2, release, callOff, logOf, target}
 use Rattle.semantics.specs.declared.Answer.{Answer}
@@ -42,13 +43,22 @@ three =
     ∷ 0x03000001 ∷ 0x03000002 ∷ 0x03000003 ∷ 0x02000000 ∷ 0x00030007 ∷ 0x01000009 ∷ 0x00030009 ∷ 0x01000005 ∷ 0x00030005 ∷ 0x00020001 ∷ 0x00000002 ∷ 0x00000003
     ∷ []
 
--- a local rule that consumes one and emits two, and a global one that begins with a message and an abort mark inside
+-- a local rule that consumes one and emits two, a global one that begins with a message and an abort mark inside, and a local one that consumes two
 pub growing : List ℕ
 growing =
-    1 ∷ 1 ∷ 0 ∷ 2 ∷ 7
-    ∷ 0 ∷ 0 ∷ 0 ∷ 1 ∷ 1 ∷ 1 ∷ 1
+    1 ∷ 1 ∷ 0 ∷ 3 ∷ 9
+    ∷ 0 ∷ 0 ∷ 0 ∷ 1 ∷ 1 ∷ 1 ∷ 1 ∷ 2 ∷ 2
     ∷ 0x00010000 ∷ 0x10010000 ∷ 0x10010000
     ∷ 0x00000000 ∷ 0x20000000 ∷ 0x30010000 ∷ 0x50000000
+    ∷ 0x00010000 ∷ 0x00010000
+    ∷ []
+
+-- two transactions with two messages each, the second with an abort mark
+pub two : List ℕ
+two =
+    7 ∷ 3
+    ∷ 1 ∷ 2 ∷ 2 ∷ 1 ∷ 1 ∷ 2 ∷ 2
+    ∷ 0x03000001 ∷ 0x03000002 ∷ 0x02000000 ∷ 0x00010001 ∷ 0x00010002 ∷ 0x00010003 ∷ 0x00010004
     ∷ []
 
 -- a message on the global port
@@ -68,8 +78,12 @@ aborting =
     ∷ move twoLot three (release 2) 10 0
     ∷ move twoLot three (callOff 2) 0 16
     ∷ move twoLot three (callOff 1) 10 0
-    -- 8 before 18; what is global is not concerned
+    -- 8 before 18: a global rule on a message of the second, a local one over two transactions; inside either of them
     ∷ move twoLot three (rule1 0 10) 8 0
+    ∷ move growing two (rule2 2 3 5) 8 0
+    ∷ move growing two (rule2 2 5 6) 18 0
+    ∷ move growing two (rule2 2 3 4) 0 12
+    -- what is global is not concerned
     ∷ move twoLot three (rule1 0 11) 0 30
     -- 7 before 18: an entry picked twice, and another port
     ∷ move twoLot three (rule2 2 6 6) 7 0
@@ -86,10 +100,18 @@ aborting =
     ∷ []
 
 pub aborting-hold : map (λ c. c .found) aborting ≡ map (λ c. c .stated) aborting
-unfolding twoLot three growing aborting tableSizesOk numbersOk atomOk ruleOk rulesOk tableContentsOk ruleOf tableOf stateOf stateWords stateSizesOk
+unfolding twoLot three growing two aborting tableSizesOk numbersOk atomOk ruleOk rulesOk tableContentsOk ruleOf tableOf stateOf stateWords stateSizesOk
     entryOk entriesOk moveOk moveOf reacted Move.ended allowed applied step stepWords logSizesOk logWords run after acts again replayed serial along
     serialFits tableVerdict stateOwnVerdict stateVerdict moveResult makeMove logVerdict runResult runLog serialOf serialFitsOf serialResult serialize
 aborting-hold = refl
+
+-- what the abort leaves: the second transaction's compensation as a message of the plant, and the others as they were
+pub aborted : take 16 (makeMoveTarget twoLot three (callOff 2) target)
+    ≡ 7 ∷ 4 ∷ 1 ∷ 3 ∷ 1 ∷ 0 ∷ 3 ∷ 3 ∷ 0
+    ∷ 0x03000001 ∷ 0x03000003 ∷ 0x00030007 ∷ 0x00000009 ∷ 0x01000005 ∷ 0x00030005 ∷ 0x00000003 ∷ []
+unfolding twoLot three tableSizesOk numbersOk atomOk ruleOk rulesOk tableContentsOk ruleOf tableOf stateOf stateWords stateSizesOk entryOk entriesOk
+    moveOk moveOf Move.ended allowed applied step stepWords tableVerdict stateOwnVerdict stateVerdict moveResult makeMoveTarget
+aborted = refl
 
 -- one transaction of 1,024 entries, this item the second of them
 abbrev full : ℕ → List ℕ

@@ -1,4 +1,4 @@
--- 01's numbers, and each public call's answer and target contents as a function of the words handed in.
+-- The numbers of 01 and 02, and each public call's answer and target contents as a function of the words handed in.
 use Prim.Native.Nat.{ℕ, _+_, _*_}
 use mathlib.Core.Bool.{Bool, not}
 use mathlib.Core.List.{List, [], _∷_, map}
@@ -24,7 +24,7 @@ use Rattle.semantics.specs.declared.Page.{Page}
 use Rattle.semantics.specs.declared.Listed.{Listed}
 use Rattle.semantics.specs.declared.Sizes.{Sizes}
 
--- ---- 01's numbers
+-- ---- the numbers of 01, and 18 of 02 (M-105)
 
 abbrev pub number : Refusal → ℕ
 -- what is handed in is at fault

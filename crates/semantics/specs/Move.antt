@@ -1,4 +1,4 @@
--- 01, "Move": the form of a move, when it is allowed, what it leaves, and the limit on entries.
+-- 01, "Move", and 02, M-105: the form of a move, when it is allowed, what it leaves, and the limit on entries.
 use Prim.Native.Nat.{ℕ, suc}
 use mathlib.Core.Bool.{Bool, true, false, _&&_, _||_, not, cond}
 use mathlib.Core.List.{List, [], _∷_, _++_, map}
@@ -66,7 +66,7 @@ moveOf t m =
     (react (headNumber (getD m 0 0)) (take (picksUsed t (getD m 0 0)) (drop 1 m)))
     (cond (eqb (headKind (getD m 0 0)) 1) (commit (headNumber (getD m 0 0))) (abort (headNumber (getD m 0 0))))
 
--- ---- what a transaction owns
+-- ---- what a transaction owns, which a reaction (18) and an end (10) ask
 
 abbrev pub entriesIn : ℕ → State → List Entry
 entriesIn b s = keep (owned b) (s .entries)

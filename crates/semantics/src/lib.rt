@@ -1,6 +1,6 @@
 // The types in which document 01 is stated, for the definitions in specs/ and for the code. No code.
 
-// Why something is refused; specs/Answers.antt has 01's number of each.
+// Why something is refused; specs/Answers.antt has the number of each, 01's or 02's.
 pub enum Refusal {
     TableSizes,
     TableContents,
@@ -36,7 +36,7 @@ pub enum Outcome {
     MoveRefused(u32, Refusal),
 }
 
-// The same in 01's numbers, for C. place and own only with 16, else 0.
+// The same in numbers, for C. place and own only with 16, else 0.
 #[repr(C)]
 pub struct Answer {
     pub number: u32,
@@ -52,7 +52,7 @@ pub struct Listed {
     pub length: u64,
 }
 
-// The same in 01's numbers, for C.
+// The same in numbers, for C.
 #[repr(C)]
 pub struct Page {
     pub number: u32,

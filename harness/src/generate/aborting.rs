@@ -124,11 +124,14 @@ impl<'a> Seen<'a> {
 /// The number of a reaction whose picks fit its rule but for abort marks.
 pub fn number(table: &Table, state: &State, mv: &Move) -> u32 {
     let seen = Seen::new(table, state, mv);
-    match () {
-        () if seen.refused() => 18,
-        () if seen.begins() && state.next == MAX_NEXT => 11,
-        () if seen.full => 12,
-        () => 0,
+    if seen.refused() {
+        18
+    } else if seen.begins() && state.next == MAX_NEXT {
+        11
+    } else if seen.full {
+        12
+    } else {
+        0
     }
 }
 

@@ -63,14 +63,15 @@ impl State {
         let mut state = State { next, owners: room(), items: room(), aborts: 0 };
         state.owners.extend_from_slice(owners);
         state.items.extend_from_slice(items);
-        if state.fits(table) {
+        if state.checked(table) {
             Ok(state)
         } else {
             Err(4)
         }
     }
 
-    fn fits(&mut self, table: &Table) -> bool {
+    /// Whether the entries fit the table; the abort marks are counted on the way.
+    fn checked(&mut self, table: &Table) -> bool {
         let mut members = Marks::new();
         let mut named = Marks::new();
         for (&owner, &item) in self.owners.iter().zip(&self.items) {

@@ -63,11 +63,13 @@ impl State {
         ceiling: usize,
         beside: &mut impl Beside,
     ) -> Result<u32, u32> {
-        match call {
+        let made = match call {
             Call::React(rule) => self.react(table, rule, &picks[..rule.consumes], ceiling, beside),
             Call::Commit(id) => self.commit(table, id, beside),
             Call::Abort(id) => self.abort(id, beside),
-        }
+        };
+        debug_assert_eq!(self.aborts, self.items.iter().filter(|&item| item >> 24 == kind::ABORT_MARK).count());
+        made
     }
 
     fn react(

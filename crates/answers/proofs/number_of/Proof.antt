@@ -1,4 +1,4 @@
--- `number_of` meets its contract, variant by variant. (`search` closed the returns by itself as long as there were 16.)
+-- `number_of` meets its contract, variant by variant: they are too many for `search` to close the returns by itself.
 use mathlib.Core.Path.{sym, ap}
 use borrow.Author.Needs.{needs}
 use Rattle.semantics.specs.Answers.{number}

@@ -3,6 +3,7 @@ use Prim.Native.Nat.{ℕ}
 use mathlib.Core.Path.{sym, ap, _∙_}
 use mathlib.Core.Bool.{not}
 use mathlib.Core.List.{List}
+use native.Mathlib.Omega.{arith}
 use borrow.Author.Needs.{needs}
 use lib.ListN.{take}
 use Rattle.lists.specs.Lists.{isIn}
@@ -19,6 +20,9 @@ abbrev σ : tie.Start → List ℕ → State
 abbrev os : tie.Start → List ℕ
 os c = column (c .args .owners .now) (take (c .args .k) (c .args .picks))
 
+returns-2 : tie.Need-returns-2
+returns-2 c gs = let s = c .before in ap not (sym (global-part (σ s gs) (s .args .class) (os s) (s .pre .5) (omega (arith, c .if1 .left))))
+
 returns : tie.Need-returns
 returns c gs =
     let s = c .before .before .before .before in
@@ -34,5 +38,4 @@ picks-aborting-spec =
     tie.close
     (tie.spec
     (λ c κs. search needs) (λ c κs. search needs) (λ c. search needs) (λ c. search needs) (λ c. search needs) (λ c. search needs) (λ c κs. search needs)
-    returns
-    (λ c gs. let s = c .before in ap not (sym (global-part (σ s gs) (s .args .class) (os s) (s .pre .5) (c .if1 .left)))))
+    returns returns-2)
