@@ -62,7 +62,7 @@ module _ (t index s l target : List ℕ) (k : Tested t index s l target) {x : St
     open-is : {b : Bool} → b ≡ someOwned (take (x′ .len) (x′ .owners)) → anyOpen (stateIn x′) ≡ b
     open-is e =
         let w = done .ran .workable in
-        sym (open-held (x′ .owners) (x′ .items) (x′ .origins) (record { len = x′ .len; next = x′ .next; unmarked = 0 })
+        sym (open-held (x′ .owners) (x′ .items) (x′ .origins) (record { len = x′ .len; next = x′ .next; unmarked = x′ .unmarked })
         (omega (arith, w .bounds .fits, w .arrays .owners))) ∙ sym e
 
     module _ (e : r .verdict ≡ Allowed) {b : Bool} (told : b ≡ someOwned (take (x′ .len) (x′ .owners))) where
