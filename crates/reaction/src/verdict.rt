@@ -6,6 +6,7 @@ ghost use mathlib.Core.List.{List, map};
 ghost use lib.Dec.{eqb};
 ghost use lib.ListN.{length, take};
 ghost use Rattle.lists.specs.Lists.{all};
+ghost use Rattle.lists.specs.Members.{Among};
 ghost use Rattle.lists.specs.Rows.{rows};
 ghost use Rattle.semantics.specs.State.{isMessage};
 ghost use Rattle.semantics.specs.Table.{consumed};
@@ -99,6 +100,28 @@ fn owners_fit(class: u32, owners: &[u16; 1024], picks: [u32; 4], k: usize) -> bo
     true
 }
 
+// Whether one of the transactions that the picks are in has an abort mark. Where none stands at all, the picks do not matter.
+fn some_aborting<'a>(
+    owners: &'a [u16; 1024],
+    items: &'a [u32; 1024],
+    at: Extent,
+    unmarked: usize,
+    picks: [u32; 4],
+    k: usize,
+) -> bool
+    requires { ⌜ Columns (now owners) (now items) (at .len) × UnmarkedTo (now items) unmarked × (1 ≤ k) × (k ≤ 4) × Places 1024 (take k picks)
+        × ((o : ℕ) → Among o (column (now owners) (take k picks)) → 1 ≤ o) ⌝ }
+    ensures { λ r. ⌜ ((gs : List ℕ) → r ≡ not (all (takesPart (stateFrom (now (owners .entry)) (now (items .entry)) gs at))
+        (column (now (owners .entry)) (take k picks)))) ⌝ }
+{
+    if at.len <= unmarked {
+        return false;
+    }
+    let found = owners_at(owners, picks, k);
+    let ids = repeated(found, k);
+    any_aborting(owners, items, at, unmarked, ids[0], ids[1], ids[2], ids[3])
+}
+
 // Whether a pick is in a transaction that has an abort mark. The picks of a global rule are in none, so no entry is looked at.
 fn picks_aborting<'a>(
     class: u32,
@@ -115,9 +138,7 @@ fn picks_aborting<'a>(
         (column (now (owners .entry)) (take k picks)))) ⌝ }
 {
     if class != 0 {
-        let found = owners_at(owners, picks, k);
-        let ids = repeated(found, k);
-        return any_aborting(owners, items, at, unmarked, ids[0], ids[1], ids[2], ids[3]);
+        return some_aborting(owners, items, at, unmarked, picks, k);
     }
     false
 }
