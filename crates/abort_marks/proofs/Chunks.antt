@@ -42,7 +42,8 @@ marked-ids ids s = same-test (any (abortMarkIn ids) (s .entries)) (any (λ o. ma
         any-intro (abortMarkIn ids) (s .entries) e m (and-intro i a)
 
 -- a chunk more without an abort mark
-pub unmarked-more : (ws : List ℕ) (from : ℕ) → UnmarkedTo ws from → {r : Bool} → ((os gs : List ℕ) → r ≡ any isAbortMark (rows (rowOf os ws gs) from 32)) → r ≡ false
+pub unmarked-more : (ws : List ℕ) (from : ℕ) → UnmarkedTo ws from → {r : Bool}
+    → ((os gs : List ℕ) → r ≡ any isAbortMark (rows (rowOf os ws gs) from 32)) → r ≡ false
     → UnmarkedTo ws (from + 32)
 unmarked-more ws from none e h j l = by-bool (ltb j from)
     (λ k. none j (ltb-true j from k))

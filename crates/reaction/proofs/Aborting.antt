@@ -1,5 +1,5 @@
 -- Whether a pick is in a transaction that has an abort mark (18).
-use Prim.Native.Nat.{ℕ, _≤_, _<_}
+use Prim.Native.Nat.{ℕ, _≤_}
 use mathlib.Core.Bool.{Bool, true, false, _&&_, not}
 use mathlib.Core.List.{List, [], _∷_}
 use mathlib.Core.Path.{_≡_, refl, sym, ap, _∙_}
@@ -29,7 +29,8 @@ part-free : (s : State) (o : ℕ) → mayAbort o s ≡ false → takesPart s o �
 part-free s o h = or-right-true (isZero o) (ap not h)
 
 -- where no abort mark stands, every transaction takes part
-pub unmarked-part : (os ws gs : List ℕ) (at : Extent) {u : ℕ} → UnmarkedTo ws u → at .len ≤ u → (ids : List ℕ) → all (takesPart (stateFrom os ws gs at)) ids ≡ true
+pub unmarked-part : (os ws gs : List ℕ) (at : Extent) {u : ℕ} → UnmarkedTo ws u → at .len ≤ u → (ids : List ℕ)
+    → all (takesPart (stateFrom os ws gs at)) ids ≡ true
 unmarked-part os ws gs at none l ids =
     let s = stateFrom os ws gs at in
     let clear : any isAbortMark (s .entries) ≡ false = none-rows isAbortMark (rowOf os ws gs) 0 (at .len) (λ k a b. none k (omega arith)) in

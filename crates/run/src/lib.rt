@@ -55,13 +55,10 @@ pub fn make_at<'a>(
     );
     let verdict = made.verdict;
     let at = made.left;
-    let len = at.len;
-    let next = at.next;
-    let unmarked = at.unmarked;
     let left = Extent {
-        len,
-        next,
-        unmarked,
+        len: at.len,
+        next: at.next,
+        unmarked: at.unmarked,
     };
     Made { verdict, left }
 }

@@ -33,7 +33,8 @@ copied-column from column after n h size few e = record {
 
 -- columns that hold those of the words, and each origin its place
 pub loaded : {s os ws gs : List ℕ} {n : ℕ} → StateSized s → n ≡ entryCount s → Filled 0 (λ k. getD (ownersOf s) k 0) 1024 n os
-    → Filled 0 (λ k. getD (itemsOf s) k 0) 1024 n ws → Filled 0 (λ k. k) 1024 n gs → HoldsIn (held os ws gs (record { len = n; next = nextOf s; unmarked = 0 })) (stateOf s)
+    → Filled 0 (λ k. getD (itemsOf s) k 0) 1024 n ws → Filled 0 (λ k. k) 1024 n gs
+    → HoldsIn (held os ws gs (record { len = n; next = nextOf s; unmarked = 0 })) (stateOf s)
 unfolding stateOf entriesFrom
 loaded {s} {os} {ws} {gs} {n} q e o w g =
     let all : length (ownersOf s) ≡ n = omega arith in

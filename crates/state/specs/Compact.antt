@@ -54,5 +54,6 @@ module _ (q : ℕ → Entry → Bool) (f : Entry → Entry) where
         }
 
     -- the loop is left: with w as its length the state holds what was to be made
-    pub compacting-done : n ≤ i → (u : ℕ) → Holds (record { owners = s .owners; items = s .items; origins = s .origins; len = w; next = s .next; unmarked = u }) σ
+    pub compacting-done : n ≤ i → (u : ℕ)
+        → Holds (record { owners = s .owners; items = s .items; origins = s .origins; len = w; next = s .next; unmarked = u }) σ
     compacting-done h u = holds-of _ (c .next) refl (omega arith) (sifting-done q f (c .sifting) h)

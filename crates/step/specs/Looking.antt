@@ -6,7 +6,7 @@ use native.Mathlib.Omega.{arith}
 use lib.Dec.{eqb}
 use lib.ListN.{length}
 use Rattle.lists.specs.Lists.{any}
-use Rattle.lists.specs.Rows.{rows, length-rows, take-rows}
+use Rattle.lists.specs.Rows.{rows, take-rows}
 use Rattle.lists.specs.Found.{none-rows, rows-lack}
 use Rattle.semantics.specs.Table.{Rule}
 use Rattle.semantics.specs.State.{Entry, isAbortMark}

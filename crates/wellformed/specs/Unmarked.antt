@@ -2,11 +2,10 @@
 use Prim.Native.Nat.{ℕ, _+_, _-_, _≤_}
 use mathlib.Core.Bool.{Bool, true, false, _&&_, _||_, not, cond, false≢true}
 use mathlib.Core.List.{List, _++_, map, map-append, append-assoc}
-use mathlib.Core.Path.{_≡_, refl, sym, ap, _∙_}
+use mathlib.Core.Path.{_≡_, sym, ap, _∙_}
 use native.Mathlib.Omega.{arith}
 use lib.Dec.{eqb}
 use lib.ListN.{length, take, drop, length-map, length-append, length-drop, take-append-drop}
-use lib.Seq.{length-take-le}
 use Rattle.lists.specs.Lists.{any, keep, without}
 use Rattle.lists.specs.Choices.{and-right}
 use Rattle.lists.specs.Parts.{keep-append, any-map}
@@ -29,9 +28,6 @@ module _ (n : ℕ) (es : List Entry) (few : n ≤ length es) where
 
   rest : length (drop n es) ≡ length es - n
   rest = length-drop n es
-
-  first : length (take n es) ≡ n
-  first = length-take-le n es few
 
 pub reacted-unmarked : (R : Rule) (i : ℕ) (s : State) (ps : List ℕ) → ReactGiven R s ps → (n : ℕ) → n ≤ length (s .entries) → Unmarked n (s .entries)
     → Unmarked (n - length ps) (reacted R i s ps .entries)

@@ -50,7 +50,8 @@ returns : tie.Need-returns Inv μ
 returns c gs =
     let end = c .before .before in
     let l = end .before .before in
-    by-ids (l .before .before) gs (passing-found _ _ (l .loop .inv .1 gs) (end .chunk-end .ensures) (sym (c .before .chunk-aborting .ensures gs) ∙ c .if1 .taken))
+    by-ids (l .before .before) gs
+    (passing-found _ _ (l .loop .inv .1 gs) (end .chunk-end .ensures) (sym (c .before .chunk-aborting .ensures gs) ∙ c .if1 .taken))
 
 loop-again : tie.Need-loop-again Inv μ
 loop-again c =

@@ -25,7 +25,12 @@ loop-again : tie.Need-loop-again Inv μ
 loop-again c =
     let turn = c .before .before in
     let v = turn .before .loop .inv in
-    (v .0, v .1, (λ l. omega (arith, v .2 (turn .loop-test .taken))), unmarked-more (turn .before .before .before .args .items .now) (turn .before .loop .from) (v .3) (c .before .chunk-marked .ensures) (c .if1 .left))
+    let words = turn .before .before .before .args .items .now in (
+      v .0,
+      v .1,
+      (λ l. omega (arith, v .2 (turn .loop-test .taken))),
+      unmarked-more words (turn .before .loop .from) (v .3) (c .before .chunk-marked .ensures) (c .if1 .left),
+    )
 
 pub unmarked-until-spec : {M : Type 1} → statement M
 unmarked-until-spec =
