@@ -32,25 +32,26 @@ fn chunk_marked(items: &[u32; 1024], from: usize) -> bool
 }
 
 // Where a pass begins that has not to look at what stands before a place: with its chunk, or nowhere.
-fn pass_start(place: usize, n: usize) -> usize
+fn pass_start(place: u32, n: usize) -> usize
     ensures { λ r. ⌜ (r ≤ n) × (r ≤ place) × (r < n → r % 32 ≡ 0) ⌝ }
 {
-    if n <= place { n } else { place / 32 * 32 }
+    let at = place as usize;
+    if n <= at { n } else { at / 32 * 32 }
 }
 
 // How far no abort mark stands, once it is known up to a place: to the end, or to a chunk that has one.
-pub fn unmarked_until(items: &[u32; 1024], place: usize, n: usize) -> usize
+pub fn unmarked_until(items: &[u32; 1024], place: u32, n: usize) -> u32
     requires { ⌜ (n ≤ 1024) × (length (now items) ≡ 1024) × (place ≤ n) × UnmarkedTo (now items) place ⌝ }
     ensures { λ r. ⌜ (r ≤ n) × UnmarkedTo (now (items .entry)) r ⌝ }
 {
     let mut from = pass_start(place, n);
     while from < n {
         if chunk_marked(items, from) {
-            return from;
+            return from as u32;
         }
         from += 32;
     }
-    n
+    n as u32
 }
 
 fn one_of(id: u16, a: u16, b: u16, c: u16, d: u16) -> bool
@@ -110,7 +111,7 @@ pub fn any_aborting<'a>(
     owners: &'a [u16; 1024],
     items: &'a [u32; 1024],
     at: Extent,
-    unmarked: usize,
+    unmarked: u32,
     a: u16,
     b: u16,
     c: u16,

@@ -105,7 +105,7 @@ fn some_aborting<'a>(
     owners: &'a [u16; 1024],
     items: &'a [u32; 1024],
     at: Extent,
-    unmarked: usize,
+    unmarked: u32,
     picks: [u32; 4],
     k: usize,
 ) -> bool
@@ -114,7 +114,7 @@ fn some_aborting<'a>(
     ensures { λ r. ⌜ ((gs : List ℕ) → r ≡ not (all (takesPart (stateFrom (now (owners .entry)) (now (items .entry)) gs at))
         (column (now (owners .entry)) (take k picks)))) ⌝ }
 {
-    if at.len <= unmarked {
+    if at.len <= unmarked as usize {
         return false;
     }
     let found = owners_at(owners, picks, k);
@@ -128,7 +128,7 @@ fn picks_aborting<'a>(
     owners: &'a [u16; 1024],
     items: &'a [u32; 1024],
     at: Extent,
-    unmarked: usize,
+    unmarked: u32,
     picks: [u32; 4],
     k: usize,
 ) -> bool
@@ -149,7 +149,7 @@ pub fn react_verdict<'a>(
     owners: &'a [u16; 1024],
     items: &'a [u32; 1024],
     at: Extent,
-    unmarked: usize,
+    unmarked: u32,
     rule: Rule,
     picks: [u32; 4],
     ceiling: usize,

@@ -31,7 +31,7 @@ pub struct State {
     pub origins: [u16; State::MAX_ENTRIES],
     pub len: usize,
     pub next: u32,
-    pub unmarked: usize,
+    pub unmarked: u32,
 }
 
 impl State {
@@ -61,7 +61,7 @@ impl State {
 pub struct Extent {
     pub len: usize,
     pub next: u32,
-    pub unmarked: usize,
+    pub unmarked: u32,
 }
 
 // The words of a state that was accepted: all that is asked of it is that it fits the columns.

@@ -50,7 +50,7 @@ fn less_by(a: usize, b: usize) -> usize
 }
 
 // How far no abort mark stands: a local or merge rule asks for it, a global one does not.
-fn looked(class: u32, items: &[u32; 1024], at: Extent) -> usize
+fn looked(class: u32, items: &[u32; 1024], at: Extent) -> u32
     requires { ⌜ (at .len ≤ 1024) × (length (now items) ≡ 1024) × (at .unmarked ≤ at .len) × UnmarkedTo (now items) (at .unmarked) ⌝ }
     ensures { λ r. ⌜ (r ≤ at .len) × UnmarkedTo (now (items .entry)) r ⌝ }
 {
@@ -61,13 +61,13 @@ fn looked(class: u32, items: &[u32; 1024], at: Extent) -> usize
 }
 
 // What a move leaves, where so many entries are gone: those before a place moved down by no more.
-fn kept(left: Extent, unmarked: usize, gone: usize) -> Extent
+fn kept(left: Extent, unmarked: u32, gone: usize) -> Extent
     ensures { λ r. ⌜ r ≡ lookedTo left (unmarked - gone) ⌝ }
 {
     Extent {
         len: left.len,
         next: left.next,
-        unmarked: less_by(unmarked, gone),
+        unmarked: less_by(unmarked as usize, gone) as u32,
     }
 }
 

@@ -38,8 +38,10 @@ unmarked-until-spec =
     (tie.spec
     Inv μ (λ c κs. search needs) loop-holds
     (λ c κs. let v = c .before .loop .inv in (omega (arith, v .0, v .2 (c .loop-test .taken), c .loop-test .taken), v .1))
+    (λ c. let turn = c .before .before in omega (arith, turn .loop-test .taken, turn .before .loop .inv .0))
     (λ c. let turn = c .before .before in (omega (arith, turn .loop-test .taken), turn .before .loop .inv .3))
     (λ c. let turn = c .before .before in omega (arith, turn .loop-test .taken, turn .before .loop .inv .0))
     (λ c. let turn = c .before .before in omega (arith, turn .loop-test .taken))
     loop-again
+    (λ c. omega (arith, c .before .loop .inv .0))
     (λ c. let v = c .before .loop .inv in (omega arith, λ j l. v .3 j (omega (arith, c .loop-test .left)))))
