@@ -2,6 +2,7 @@
 // where nobody has looked yet. Most chunks have no abort mark, and of those the owners are not looked at.
 ghost use Prim.Native.Nat.{ℕ, _+_, _-_, _%_, _≤_, _<_};
 ghost use mathlib.Core.Path.{_≡_};
+ghost use mathlib.Core.Bool.{true};
 ghost use mathlib.Core.List.{List, [], _∷_};
 ghost use lib.ListN.{length};
 ghost use Rattle.lists.specs.Lists.{any, isIn};
@@ -42,7 +43,8 @@ fn pass_start(place: u32, n: usize) -> usize
 // How far no abort mark stands, once it is known up to a place: to the end, or to a chunk that has one.
 pub fn unmarked_until(items: &[u32; 1024], place: u32, n: usize) -> u32
     requires { ⌜ (n ≤ 1024) × (length (now items) ≡ 1024) × (place ≤ n) × UnmarkedTo (now items) place ⌝ }
-    ensures { λ r. ⌜ (r ≤ n) × UnmarkedTo (now (items .entry)) r ⌝ }
+    ensures { λ r. ⌜ (r ≤ n) × UnmarkedTo (now (items .entry)) r
+        × (r < n → (os gs : List ℕ) → any isAbortMark (rows (rowOf os (now (items .entry)) gs) r 32) ≡ true) ⌝ }
 {
     let mut from = pass_start(place, n);
     while from < n {
@@ -85,7 +87,7 @@ fn marked_between<'a>(
     found
 }
 
-// The same of a chunk.
+// The same of a chunk up to a place in it.
 fn chunk_aborting<'a>(
     owners: &'a [u16; 1024],
     items: &'a [u32; 1024],

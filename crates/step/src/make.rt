@@ -43,6 +43,7 @@ fn refused(refusal: Refusal, left: Extent) -> Made
     }
 }
 
+// a without b, and 0 where b is more.
 fn less_by(a: usize, b: usize) -> usize
     ensures { λ r. ⌜ r ≡ a - b ⌝ }
 {
@@ -60,7 +61,7 @@ fn looked(class: u32, items: &[u32; 1024], at: Extent) -> u32
     unmarked_until(items, at.unmarked, at.len)
 }
 
-// What a move leaves, where so many entries are gone: those before a place moved down by no more.
+// What a move leaves, where so many entries are gone: the others moved down by no more.
 fn kept(left: Extent, unmarked: u32, gone: usize) -> Extent
     ensures { λ r. ⌜ r ≡ lookedTo left (unmarked - gone) ⌝ }
 {

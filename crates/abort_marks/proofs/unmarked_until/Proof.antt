@@ -1,6 +1,6 @@
 -- `unmarked_until` meets its contract: no abort mark stands before `from`.
 use Prim.Native.Nat.{_-_, _%_, _≤_, _<_}
-use mathlib.Core.Path.{_≡_}
+use mathlib.Core.Path.{_≡_, sym, _∙_}
 use native.Mathlib.Omega.{arith}
 use borrow.Author.Needs.{needs}
 use lib.ListN.{length}
@@ -39,9 +39,10 @@ unmarked-until-spec =
     Inv μ (λ c κs. search needs) loop-holds
     (λ c κs. let v = c .before .loop .inv in (omega (arith, v .0, v .2 (c .loop-test .taken), c .loop-test .taken), v .1))
     (λ c. let turn = c .before .before in omega (arith, turn .loop-test .taken, turn .before .loop .inv .0))
-    (λ c. let turn = c .before .before in (omega (arith, turn .loop-test .taken), turn .before .loop .inv .3))
+    (λ c. let turn = c .before .before in
+    (omega (arith, turn .loop-test .taken), turn .before .loop .inv .3, λ l os gs. sym (c .before .chunk-marked .ensures os gs) ∙ c .if1 .taken))
     (λ c. let turn = c .before .before in omega (arith, turn .loop-test .taken, turn .before .loop .inv .0))
     (λ c. let turn = c .before .before in omega (arith, turn .loop-test .taken))
     loop-again
     (λ c. omega (arith, c .before .loop .inv .0))
-    (λ c. let v = c .before .loop .inv in (omega arith, λ j l. v .3 j (omega (arith, c .loop-test .left)))))
+    (λ c. let v = c .before .loop .inv in (omega arith, (λ j l. v .3 j (omega (arith, c .loop-test .left))), λ l. absurd (omega arith))))
