@@ -57,7 +57,7 @@ impl State {
 }
 
 // What columns do not say themselves: how many entries are in use, and N. Before the place unmarked no abort mark (stop
-// mark) stands, so that nobody has to look for one there again.
+// mark) stands, so that nobody has to look for one there again; 0 says nothing, and is what all hand on but `step`.
 pub struct Extent {
     pub len: usize,
     pub next: u32,
