@@ -1,6 +1,8 @@
 //! The benchmark and the count on small sizes; nothing is timed here.
 use std::process::Command;
 
+use harness::program::{output, MODEL};
+
 // Catches a benchmark that no longer runs, leaves out a call, or whose inputs the library and the
 // plain code answer differently: it compares before it measures.
 #[test]
@@ -22,5 +24,16 @@ fn the_count_runs() {
             let run = Command::new(env!("CARGO_BIN_EXE_count")).args([call, kind, "16", "16"]).output().unwrap();
             assert!(run.status.success(), "{call} {kind}: {}", String::from_utf8_lossy(&run.stderr));
         }
+    }
+}
+
+// Catches an input for the program that is not of the sizes asked for, or is refused where it should not be.
+#[test]
+fn the_count_writes_inputs() {
+    for (kind, last) in [("merges", "15 0 "), ("global", "15 0 "), ("refused", "0 5 ")] {
+        let run = Command::new(env!("CARGO_BIN_EXE_count")).args(["input", kind, "16", "16"]).output().unwrap();
+        let text = output(MODEL, &run.stdout);
+        assert!(text.starts_with("moves 16 "), "{kind}: {text}");
+        assert!(text.lines().last().unwrap().starts_with(last), "{kind}: {text}");
     }
 }

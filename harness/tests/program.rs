@@ -26,14 +26,18 @@ fn programs() -> [PathBuf; 2] {
     [PathBuf::from(env!("CARGO_BIN_EXE_reference")), proved]
 }
 
-/// How the input arrives.
-#[derive(Clone, Copy)]
-enum Pipe {
-    Whole,
-    /// One byte at a time.
-    Slow,
-    /// In pieces of up to this many bytes.
-    Pieces(usize),
+/// How the input arrives: so many bytes at once, then pieces of up to so many, with a pause before each.
+#[derive(Clone, Copy, Debug)]
+struct Pipe {
+    at_once: usize,
+    piece: usize,
+}
+
+const WHOLE: Pipe = Pipe { at_once: usize::MAX, piece: 1 };
+
+/// All of it in pieces.
+const fn slow(piece: usize) -> Pipe {
+    Pipe { at_once: 0, piece }
 }
 
 /// What a command prints when it is fed this input. It may end before it has read all of it.
@@ -44,18 +48,14 @@ fn fed(mut command: Command, bytes: &[u8], pipe: Pipe) -> String {
     let mut printed = child.stdout.take().unwrap();
     thread::scope(|scope| {
         scope.spawn(move || {
-            let pieces = match pipe {
-                Pipe::Whole => bytes.len().max(1),
-                Pipe::Slow => 1,
-                Pipe::Pieces(bytes) => bytes,
-            };
-            for piece in bytes.chunks(pieces) {
+            let (front, rest) = bytes.split_at(pipe.at_once.min(bytes.len()));
+            for (place, piece) in [front].into_iter().chain(rest.chunks(pipe.piece)).enumerate() {
+                if place > 0 {
+                    thread::sleep(Duration::from_micros(50));
+                }
                 match stdin.write_all(piece) {
                     Err(error) if error.kind() == ErrorKind::BrokenPipe => return,
                     written => written.unwrap(),
-                }
-                if matches!(pipe, Pipe::Slow) {
-                    thread::sleep(Duration::from_micros(100));
                 }
             }
         });
@@ -72,13 +72,13 @@ fn fed(mut command: Command, bytes: &[u8], pipe: Pipe) -> String {
 fn prints_through(bytes: &[u8], pipe: Pipe, expected: &str) {
     for program in programs() {
         let printed = fed(Command::new(&program), bytes, pipe);
-        assert_eq!(printed, expected, "{} on {} bytes", program.display(), bytes.len());
+        assert_eq!(printed, expected, "{} on {} bytes, {pipe:?}", program.display(), bytes.len());
     }
 }
 
 #[track_caller]
 fn prints(bytes: &[u8], expected: &str) {
-    prints_through(bytes, Pipe::Whole, expected);
+    prints_through(bytes, WHOLE, expected);
 }
 
 #[track_caller]
@@ -106,20 +106,53 @@ fn case_a_prints_the_seven_lines() {
     assert_eq!(output(MODEL, &plant(&case_a())), LINES_A, "the model");
 }
 
-// Catches a cut part that is read as whole, or has another part's number: 29 words are the table,
-// 6 the start, 31 the log.
+/// The words after which an input's table and state end, and all of it.
+type Ends = [usize; 3];
+
+/// Cuts the input at these places, in bytes. What is left arrives at once, and then so that its last
+/// bytes, so many, come in pieces of 1 to 5. Several cuts at a time, since most of it is waiting.
+fn cut_at(bytes: &[u8], [table, state, all]: Ends, cuts: &[usize], slowly: usize, whole: &str) {
+    const WORKERS: usize = 8;
+    assert_eq!(bytes.len(), 4 * all);
+    let expected = |cut: usize| match cut / 4 {
+        words if words < table => "refused 1\n",
+        words if words < state => "refused 3\n",
+        words if words < all => "refused 13\n",
+        _ => whole,
+    };
+    thread::scope(|scope| {
+        for worker in 0..WORKERS {
+            scope.spawn(move || {
+                for &cut in cuts.iter().skip(worker).step_by(WORKERS) {
+                    prints(&bytes[..cut], expected(cut));
+                    for piece in 1..=5 {
+                        let pipe = Pipe { at_once: cut.saturating_sub(slowly), piece };
+                        prints_through(&bytes[..cut], pipe, expected(cut));
+                    }
+                }
+            });
+        }
+    });
+}
+
+// Catches a cut part that is read as whole, or has another part's number, and a last word that is
+// lost or made up where the input ends inside one.
 #[test]
 fn every_cut_of_case_a() {
     let bytes = plant(&case_a());
-    assert_eq!(bytes.len(), 4 * (29 + 6 + 31));
-    for cut in 0..bytes.len() {
-        let number = match cut / 4 {
-            0..29 => 1,
-            29..35 => 3,
-            _ => 13,
-        };
-        refuses(&bytes[..cut], number);
-    }
+    let cuts: Vec<usize> = (0..=bytes.len()).collect();
+    cut_at(&bytes, [29, 29 + 6, 29 + 6 + 31], &cuts, usize::MAX, LINES_A);
+}
+
+// Catches the same where all parts are full, and a reader that its buffer's end confuses: the last
+// 20 bytes, and 20 on either side of the ends of table and state.
+#[test]
+fn cuts_of_a_full_input() {
+    let (bytes, lines) = largest();
+    let ends = [1_029, 1_029 + 2_050, 1_029 + 2_050 + 5_121];
+    let cuts: Vec<usize> =
+        ends.iter().flat_map(|end| 4 * end - 20..=4 * end + 20).filter(|&cut| cut <= bytes.len()).collect();
+    cut_at(&bytes, ends, &cuts, 40, &lines);
 }
 
 // Catches bytes left over that are dropped, also those that make no word, and those that would
@@ -259,15 +292,19 @@ fn five_megabytes() {
     }
 }
 
-// Catches a read that takes a short one for the end of the input.
+// Catches a read that takes a short one for the end of the input, or many short ones for too many.
 #[test]
 fn a_slow_pipe() {
     let bytes = plant(&case_a());
-    prints_through(&bytes, Pipe::Slow, LINES_A);
-    prints_through(&bytes[..bytes.len() - 1], Pipe::Slow, "refused 13\n");
-    for pieces in [3, 4, 5, 100] {
-        prints_through(&bytes, Pipe::Pieces(pieces), LINES_A);
-    }
+    prints_through(&bytes, slow(100), LINES_A);
+    prints_through(&[&bytes[..], &[0]].concat(), slow(3), "refused 13\n");
+    let (bytes, lines) = largest();
+    thread::scope(|scope| {
+        for piece in 1..=5 {
+            let (bytes, lines) = (&bytes, &lines);
+            scope.spawn(move || prints_through(bytes, slow(piece), lines));
+        }
+    });
 }
 
 // Catches lines for moves that are not there: k = 0 prints only the first line.
@@ -320,9 +357,8 @@ fn case_c_line_by_line() {
     prints(&plant(&two_lot::case_c()), "moves 5 entries 2 next 1\n0 0 4 2\n1 0 6 3\n2 0 6 3\n3 0 6 3\n4 0 4 3\n");
 }
 
-// Catches figures that only the largest input shows: 512 atoms, 1,024 entries, 1,024 moves.
-#[test]
-fn the_largest_input() {
+/// The largest input, 512 atoms, 1,024 entries and 1,024 moves, and the lines for it.
+fn largest() -> (Vec<u8>, String) {
     let mut table = vec![256, 0, 0, 64, 512];
     table.extend((0..64).flat_map(|rule| [rule; 8]));
     // Four consumes and four emits on port 0: a constant, and values received.
@@ -338,12 +374,18 @@ fn the_largest_input() {
         })
         .collect();
     let bytes = input(&table, &start, &log_words(&log));
+    let mut lines = "moves 1024 entries 1024 next 65536\n".to_string();
+    lines.extend((0..1_024).map(|place| format!("{place} 0 1024 65536\n")));
+    (bytes, lines)
+}
+
+// Catches figures that only the largest input shows.
+#[test]
+fn the_largest_input() {
+    let (bytes, lines) = largest();
     assert_eq!(bytes.len(), 4 * (5 + 1_024 + 2 + 2_048 + 1 + 5_120));
-    let mut expected = "moves 1024 entries 1024 next 65536\n".to_string();
-    expected.extend((0..1_024).map(|place| format!("{place} 0 1024 65536\n")));
-    prints(&bytes, &expected);
+    prints(&bytes, &lines);
     refuses(&[&bytes[..], &[0]].concat(), 13);
-    refuses(&bytes[..bytes.len() - 1], 13);
 }
 
 // Catches any other difference: random tables, states and logs, right ones and ones with a move

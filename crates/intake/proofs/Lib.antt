@@ -1,3 +1,3 @@
-pub mod Bytewise
 pub mod Ends
 pub mod Verdicts
+pub mod Wordwise

@@ -3,17 +3,20 @@ use crate::least;
 ghost use Rattle.intake.specs.Gather.{Gathered};
 
 // Gathers the whole words of the bytes into the target, as many as it holds, and answers how many.
-// A byte comes in at the top of the word at hand. The fourth pushes out what was there before, and
-// its store is the one that stays.
+// A step takes the four bytes of a word, the lowest first: of such a loop the compiler makes one
+// copy.
 pub fn words(bytes: &[u8], target: &mut [u32]) -> usize
     ensures { λ r. ⌜ Gathered (now (bytes .entry)) (now (target .entry)) (now (target .exit)) r ⌝ }
 {
     let n = least(target.len(), bytes.len() / 4);
-    let mut word = 0;
     let mut i = 0;
-    while i < 4 * n {
-        word = word / 256 + 16777216 * (bytes[i] as u32);
-        target[i / 4] = word;
+    while i < n {
+        let at = 4 * i;
+        let a = bytes[at] as u32;
+        let b = bytes[at + 1] as u32;
+        let c = bytes[at + 2] as u32;
+        let d = bytes[at + 3] as u32;
+        target[i] = a + b * 256 + c * 65536 + d * 16777216;
         i += 1;
     }
     n

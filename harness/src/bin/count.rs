@@ -1,10 +1,13 @@
 //! One log, or a page of one list, ten times through a call and ten times through its plain counterpart:
-//! run it under `valgrind --tool=callgrind` to count the instructions of both.
+//! run it under `valgrind --tool=callgrind` to count the instructions of both. Or the bytes of an input, to
+//! count those of the program.
 use std::env::args;
 use std::hint::black_box;
+use std::io::{stdout, Write};
 
 use harness::answer::{page_on_target, page_words, OnTarget};
 use harness::generate::workloads::{fours, global_log, merge_log, spread, table};
+use harness::program;
 use harness::random::Random;
 use harness::words::{log_words, STATE_TARGET};
 use harness::{library, plain};
@@ -32,13 +35,28 @@ fn page(kind: &str, entries: usize, moves: usize) -> Input {
     [table, state, page_words(middle, moves as u32)]
 }
 
+/// The program's input: a log of this kind, or one whose first move is refused, so that the program only loads it.
+fn input(kind: &str, entries: usize, moves: usize) -> Vec<u8> {
+    let [table, state, mut log] = log(kind, entries, moves);
+    if kind == "refused" {
+        log[1] = table[3];
+    }
+    program::input(&table, &state, &log)
+}
+
 fn main() {
     let arguments: Vec<String> = args().skip(1).collect();
     let words: Vec<&str> = arguments.iter().map(String::as_str).collect();
     let &[call, kind, entries, moves] = words.as_slice() else {
-        panic!("usage: count run|serialize merges|global ENTRIES MOVES, or list_moves local|global ENTRIES MOVES");
+        panic!(
+            "usage: count run|serialize merges|global ENTRIES MOVES, list_moves local|global ENTRIES MOVES, \
+             or input merges|global|refused ENTRIES MOVES"
+        );
     };
     let (entries, moves) = (entries.parse().unwrap(), moves.parse().unwrap());
+    if call == "input" {
+        return stdout().write_all(&input(kind, entries, moves)).unwrap();
+    }
     let (ours, rust, input): (OnTarget, OnTarget, Input) = match call {
         "run" => (library::run, plain::run, log(kind, entries, moves)),
         "serialize" => (library::serialize, plain::serialize, log(kind, entries, moves)),

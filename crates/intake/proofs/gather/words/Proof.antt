@@ -1,47 +1,57 @@
--- `words` meets its contract: the word at hand and the target are those after i bytes (`Bytewise`).
-use Prim.Native.Nat.{_*_, _-_, _≤_}
+-- `words` meets its contract: after i turns the target holds the first i words (`Wordwise`).
+use Prim.Native.Nat.{_+_, _*_, _-_, _≤_}
 use mathlib.Core.Path.{_≡_, refl}
-use native.Mathlib.Numerals.{add-one}
 use native.Mathlib.Omega.{arith}
 use borrow.Author.Needs.{needs}
 use lib.ListN.{length, length-set}
-use Rattle.intake.proofs.Bytewise.{wordAfter, gatheredAfter, after-fits, gathered}
+use Rattle.intake.proofs.Wordwise.{FourBytes, four-bytes, gatheredTo, gather-next, gather-end}
 use Rattle.intake.proofs.gather.words.Statement.{statement}
 use Rattle.intake.proofs.gather.words.Tie as tie
 
 abbrev Inv-loop : tie.InvT-loop
-Inv-loop bytes target₀ n word₀ i₀ target word i =
-    (i ≤ 4 * n) × (length target ≡ length target₀) × (word ≡ wordAfter bytes i) × (target ≡ gatheredAfter bytes target₀ i)
+Inv-loop bytes target₀ n i₀ target i = (i ≤ n) × (length target ≡ length target₀) × (target ≡ gatheredTo bytes target₀ i)
 
 abbrev μ-loop : tie.MeasureT-loop
-μ-loop bytes target₀ n word₀ i₀ target word i = 4 * n - i
+μ-loop bytes target₀ n i₀ target i = n - i
 
 loop-holds : tie.Need-loop-holds Inv-loop μ-loop
-loop-holds c = (omega arith, refl, refl, refl)
-
-cast-word : tie.Need-cast-word Inv-loop μ-loop
-cast-word c = omega (arith, c .shared-slice-known2 .given (c .before .before .loop .i))
-
-mul-word : tie.Need-mul-word Inv-loop μ-loop
-mul-word c = omega (arith, c .shared-slice-known2 .given (c .before .before .loop .i))
-
-add-word : tie.Need-add-word Inv-loop μ-loop
-add-word c =
-    let l = c .before .before .loop in
-    let known = c .shared-slice-known2 .given in
-    omega (arith, known (l .i), after-fits (c .before .before .before .before .before .before .args .bytes .now) known (l .i))
-
-loop-again : tie.Need-loop-again Inv-loop μ-loop
-loop-again c =
-    let l = c .before .before .loop in
-    (search needs, simp length-set (l .inv .1), rw (add-one, l .inv .2), rw (add-one, l .inv .2, l .inv .3))
+loop-holds c = (omega arith, refl, refl)
 
 returns : tie.Need-returns Inv-loop μ-loop
 returns c =
     let l = c .before .loop in
     let n = c .before .before .least in
-    let all : l .i ≡ 4 * n .result = omega arith in
-    gathered _ (c .before .before .before .before .shared-slice-known .given) (n .ensures .0) all (l .inv .3) (l .inv .1)
+    let all : l .i ≡ n .result = omega arith in
+    gather-end _ _ (n .ensures .0) (rw all at (l .inv .2)) (l .inv .1)
+
+-- where a turn whose four bytes are read began, and where the code did
+abbrev turn : tie.After-shared-slice-known5 Inv-loop μ-loop → tie.At-loop Inv-loop μ-loop
+turn c = c .before .before .before .before .before
+
+abbrev start : tie.At-loop Inv-loop μ-loop → tie.Start Inv-loop μ-loop
+start c = c .before .before .before .before
+
+loop-again : tie.Need-loop-again Inv-loop μ-loop
+loop-again c =
+    let l = turn c .loop in
+    let a = start (turn c) .args in
+    let next = gather-next (a .bytes .now) (a .target .now) (l .i) (omega arith) (omega arith) in
+    (search needs, simp length-set (l .inv .1), rw (l .inv .2) next)
+
+four : (c : tie.After-shared-slice-known5 Inv-loop μ-loop) → FourBytes (start (turn c) .args .bytes .now) (4 * turn c .loop .i)
+four c = four-bytes _ _ (c .shared-slice-known5 .given)
+
+cast-a : tie.Need-cast-a Inv-loop μ-loop
+cast-a c = omega (arith, c .shared-slice-known2 .given (4 * c .before .before .loop .i))
+
+cast-b : tie.Need-cast-b Inv-loop μ-loop
+cast-b c = omega (arith, c .shared-slice-known3 .given (4 * c .before .before .before .loop .i + 1))
+
+cast-c : tie.Need-cast-c Inv-loop μ-loop
+cast-c c = omega (arith, c .shared-slice-known4 .given (4 * c .before .before .before .before .loop .i + 2))
+
+cast-d : tie.Need-cast-d Inv-loop μ-loop
+cast-d c = omega (arith, c .shared-slice-known5 .given (4 * c .before .before .before .before .before .loop .i + 3))
 
 pub words-spec : {M : Type 1} → statement M
 words-spec =
@@ -53,9 +63,22 @@ words-spec =
     loop-holds
     (λ c. search needs)
     (λ c. search needs)
-    cast-word
-    mul-word
-    add-word
+    cast-a
+    (λ c. search needs)
+    (λ c. search needs)
+    cast-b
+    (λ c. search needs)
+    (λ c. search needs)
+    cast-c
+    (λ c. search needs)
+    (λ c. search needs)
+    cast-d
+    (λ c. omega (arith, four c))
+    (λ c. omega (arith, four c))
+    (λ c. omega (arith, four c))
+    (λ c. omega (arith, four c))
+    (λ c. omega (arith, four c))
+    (λ c. omega (arith, four c))
     (λ c. search needs)
     (λ c. search needs)
     (λ c. search needs)
