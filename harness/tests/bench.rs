@@ -30,10 +30,12 @@ fn the_count_runs() {
 // Catches an input for the program that is not of the sizes asked for, or is refused where it should not be.
 #[test]
 fn the_count_writes_inputs() {
-    for (kind, last) in [("merges", "15 0 "), ("global", "15 0 "), ("refused", "0 5 ")] {
-        let run = Command::new(env!("CARGO_BIN_EXE_count")).args(["input", kind, "16", "16"]).output().unwrap();
+    // A log with merges leaves room for what its begins add.
+    for (kind, entries, last) in [("merges", 24, "15 0 "), ("global", 32, "15 0 "), ("refused", 32, "0 5 ")] {
+        let run = Command::new(env!("CARGO_BIN_EXE_count")).args(["input", kind, "32", "16"]).output().unwrap();
+        assert!(run.status.success(), "{kind}: {}", String::from_utf8_lossy(&run.stderr));
         let text = output(MODEL, &run.stdout);
-        assert!(text.starts_with("moves 16 "), "{kind}: {text}");
+        assert!(text.starts_with(&format!("moves 16 entries {entries} next 1\n")), "{kind}: {text}");
         assert!(text.lines().last().unwrap().starts_with(last), "{kind}: {text}");
     }
 }

@@ -2,11 +2,13 @@
 //! or from the model (`harness::program`), never from a program. The proved program and the
 //! reference program, made of the plain code, are both asked.
 use std::env;
-use std::io::{ErrorKind, Read, Write};
+use std::ffi::c_int;
+use std::fs::File;
+use std::io::{Error, ErrorKind, Read, Write};
+use std::os::fd::{FromRawFd, OwnedFd};
 use std::path::{Path, PathBuf};
 use std::process::{Command, Stdio};
 use std::thread;
-use std::time::Duration;
 
 use harness::answer::order;
 use harness::generate::logs::{accepted, broken_off, closed};
@@ -21,38 +23,58 @@ use harness::two_lot::{self, case_a, LINES_A};
 use harness::words::{log_words, Entry, Move, State};
 use harness::ROOT;
 
+fn proved() -> PathBuf {
+    env::var_os("COORDINATE_BIN").map_or(Path::new(ROOT).join("target/bin/coordinate"), PathBuf::from)
+}
+
 fn programs() -> [PathBuf; 2] {
-    let proved = env::var_os("COORDINATE_BIN").map_or(Path::new(ROOT).join("target/bin/coordinate"), PathBuf::from);
-    [PathBuf::from(env!("CARGO_BIN_EXE_reference")), proved]
+    [PathBuf::from(env!("CARGO_BIN_EXE_reference")), proved()]
 }
 
-/// How the input arrives: so many bytes at once, then pieces of up to so many, with a pause before each.
-#[derive(Clone, Copy, Debug)]
-struct Pipe {
-    at_once: usize,
-    piece: usize,
+/// How the input arrives.
+#[derive(Clone, Copy)]
+enum Pipe {
+    Whole,
+    /// In pieces of up to this many bytes: a read gives one of them, as from a slow pipe.
+    Pieces(usize),
 }
 
-const WHOLE: Pipe = Pipe { at_once: usize::MAX, piece: 1 };
+extern "C" {
+    fn pipe2(ends: *mut c_int, flags: c_int) -> c_int;
+}
 
-/// All of it in pieces.
-const fn slow(piece: usize) -> Pipe {
-    Pipe { at_once: 0, piece }
+impl Pipe {
+    /// Its two ends.
+    fn open(self) -> (OwnedFd, File) {
+        const O_DIRECT: c_int = 0o40_000;
+        const O_CLOEXEC: c_int = 0o2_000_000;
+        // Linux: what one write put into the pipe is not joined to the next.
+        let apart = if let Pipe::Pieces(_) = self { O_DIRECT } else { 0 };
+        let mut ends = [0; 2];
+        assert_eq!(unsafe { pipe2(ends.as_mut_ptr(), O_CLOEXEC | apart) }, 0, "{}", Error::last_os_error());
+        let [read, write] = ends.map(|end| unsafe { OwnedFd::from_raw_fd(end) });
+        (read, File::from(write))
+    }
+
+    fn piece(self, bytes: &[u8]) -> usize {
+        match self {
+            Pipe::Whole => bytes.len().max(1),
+            Pipe::Pieces(piece) => piece,
+        }
+    }
 }
 
 /// What a command prints when it is fed this input. It may end before it has read all of it.
 fn fed(mut command: Command, bytes: &[u8], pipe: Pipe) -> String {
-    command.stdin(Stdio::piped()).stdout(Stdio::piped()).stderr(Stdio::piped());
+    let (read, mut stdin) = pipe.open();
+    command.stdin(read).stdout(Stdio::piped()).stderr(Stdio::piped());
     let mut child = command.spawn().unwrap_or_else(|error| panic!("{command:?}: {error}"));
-    let mut stdin = child.stdin.take().unwrap();
+    // It holds the end for reading: a program that ends early would not be noticed.
+    drop(command);
     let mut printed = child.stdout.take().unwrap();
     thread::scope(|scope| {
         scope.spawn(move || {
-            let (front, rest) = bytes.split_at(pipe.at_once.min(bytes.len()));
-            for (place, piece) in [front].into_iter().chain(rest.chunks(pipe.piece)).enumerate() {
-                if place > 0 {
-                    thread::sleep(Duration::from_micros(50));
-                }
+            for piece in bytes.chunks(pipe.piece(bytes)) {
                 match stdin.write_all(piece) {
                     Err(error) if error.kind() == ErrorKind::BrokenPipe => return,
                     written => written.unwrap(),
@@ -69,16 +91,19 @@ fn fed(mut command: Command, bytes: &[u8], pipe: Pipe) -> String {
 }
 
 #[track_caller]
-fn prints_through(bytes: &[u8], pipe: Pipe, expected: &str) {
+fn prints(bytes: &[u8], expected: &str) {
     for program in programs() {
-        let printed = fed(Command::new(&program), bytes, pipe);
-        assert_eq!(printed, expected, "{} on {} bytes, {pipe:?}", program.display(), bytes.len());
+        let printed = fed(Command::new(&program), bytes, Pipe::Whole);
+        assert_eq!(printed, expected, "{} on {} bytes", program.display(), bytes.len());
     }
 }
 
+/// The reference is not asked: it reads as the standard library does, into room that may be shorter
+/// than a piece.
 #[track_caller]
-fn prints(bytes: &[u8], expected: &str) {
-    prints_through(bytes, WHOLE, expected);
+fn prints_in_pieces(bytes: &[u8], piece: usize, expected: &str) {
+    let printed = fed(Command::new(proved()), bytes, Pipe::Pieces(piece));
+    assert_eq!(printed, expected, "{} bytes in pieces of {piece}", bytes.len());
 }
 
 #[track_caller]
@@ -106,33 +131,22 @@ fn case_a_prints_the_seven_lines() {
     assert_eq!(output(MODEL, &plant(&case_a())), LINES_A, "the model");
 }
 
-/// The words after which an input's table and state end, and all of it.
-type Ends = [usize; 3];
-
-/// Cuts the input at these places, in bytes. What is left arrives at once, and then so that its last
-/// bytes, so many, come in pieces of 1 to 5. Several cuts at a time, since most of it is waiting.
-fn cut_at(bytes: &[u8], [table, state, all]: Ends, cuts: &[usize], slowly: usize, whole: &str) {
-    const WORKERS: usize = 8;
+/// Cuts the input at these places, in bytes: each cut arrives at once, and in pieces of 1 to 5 bytes.
+/// Its table, its state and all of it end after so many words.
+fn cut_at(bytes: &[u8], [table, state, all]: [usize; 3], cuts: impl Iterator<Item = usize>, lines: &str) {
     assert_eq!(bytes.len(), 4 * all);
-    let expected = |cut: usize| match cut / 4 {
-        words if words < table => "refused 1\n",
-        words if words < state => "refused 3\n",
-        words if words < all => "refused 13\n",
-        _ => whole,
-    };
-    thread::scope(|scope| {
-        for worker in 0..WORKERS {
-            scope.spawn(move || {
-                for &cut in cuts.iter().skip(worker).step_by(WORKERS) {
-                    prints(&bytes[..cut], expected(cut));
-                    for piece in 1..=5 {
-                        let pipe = Pipe { at_once: cut.saturating_sub(slowly), piece };
-                        prints_through(&bytes[..cut], pipe, expected(cut));
-                    }
-                }
-            });
+    for cut in cuts {
+        let expected = match cut / 4 {
+            words if words < table => "refused 1\n",
+            words if words < state => "refused 3\n",
+            words if words < all => "refused 13\n",
+            _ => lines,
+        };
+        prints(&bytes[..cut], expected);
+        for piece in 1..=5 {
+            prints_in_pieces(&bytes[..cut], piece, expected);
         }
-    });
+    }
 }
 
 // Catches a cut part that is read as whole, or has another part's number, and a last word that is
@@ -140,19 +154,31 @@ fn cut_at(bytes: &[u8], [table, state, all]: Ends, cuts: &[usize], slowly: usize
 #[test]
 fn every_cut_of_case_a() {
     let bytes = plant(&case_a());
-    let cuts: Vec<usize> = (0..=bytes.len()).collect();
-    cut_at(&bytes, [29, 29 + 6, 29 + 6 + 31], &cuts, usize::MAX, LINES_A);
+    cut_at(&bytes, [29, 29 + 6, 29 + 6 + 31], 0..=bytes.len(), LINES_A);
 }
 
-// Catches the same where all parts are full, and a reader that its buffer's end confuses: the last
-// 20 bytes, and 20 on either side of the ends of table and state.
+/// Table, state and all of the largest input end after so many words.
+const FULL: [usize; 3] = [1_029, 1_029 + 2_050, 1_029 + 2_050 + 5_121];
+
+// Catches the same where the parts are full: within 20 bytes of the end of the table, ..
+#[test]
+fn cuts_of_a_full_table() {
+    let (bytes, lines) = largest();
+    cut_at(&bytes, FULL, 4 * FULL[0] - 20..=4 * FULL[0] + 20, &lines);
+}
+
+// .. of the state, ..
+#[test]
+fn cuts_of_a_full_state() {
+    let (bytes, lines) = largest();
+    cut_at(&bytes, FULL, 4 * FULL[1] - 20..=4 * FULL[1] + 20, &lines);
+}
+
+// .. and of the whole input.
 #[test]
 fn cuts_of_a_full_input() {
     let (bytes, lines) = largest();
-    let ends = [1_029, 1_029 + 2_050, 1_029 + 2_050 + 5_121];
-    let cuts: Vec<usize> =
-        ends.iter().flat_map(|end| 4 * end - 20..=4 * end + 20).filter(|&cut| cut <= bytes.len()).collect();
-    cut_at(&bytes, ends, &cuts, 40, &lines);
+    cut_at(&bytes, FULL, 4 * FULL[2] - 20..=4 * FULL[2], &lines);
 }
 
 // Catches bytes left over that are dropped, also those that make no word, and those that would
@@ -292,19 +318,16 @@ fn five_megabytes() {
     }
 }
 
-// Catches a read that takes a short one for the end of the input, or many short ones for too many.
+// Catches a read that takes a short one for the end of the input, and a reader that stops short of
+// its buffer's end: one byte more than the largest input fills it.
 #[test]
 fn a_slow_pipe() {
-    let bytes = plant(&case_a());
-    prints_through(&bytes, slow(100), LINES_A);
-    prints_through(&[&bytes[..], &[0]].concat(), slow(3), "refused 13\n");
-    let (bytes, lines) = largest();
-    thread::scope(|scope| {
-        for piece in 1..=5 {
-            let (bytes, lines) = (&bytes, &lines);
-            scope.spawn(move || prints_through(bytes, slow(piece), lines));
-        }
-    });
+    prints_in_pieces(&plant(&case_a()), 100, LINES_A);
+    let (mut bytes, _) = largest();
+    bytes.push(0);
+    for piece in 1..=5 {
+        prints_in_pieces(&bytes, piece, "refused 13\n");
+    }
 }
 
 // Catches lines for moves that are not there: k = 0 prints only the first line.
@@ -376,6 +399,7 @@ fn largest() -> (Vec<u8>, String) {
     let bytes = input(&table, &start, &log_words(&log));
     let mut lines = "moves 1024 entries 1024 next 65536\n".to_string();
     lines.extend((0..1_024).map(|place| format!("{place} 0 1024 65536\n")));
+    assert_eq!(bytes.len(), 4 * (5 + 1_024 + 2 + 2_048 + 1 + 5_120));
     (bytes, lines)
 }
 
@@ -383,7 +407,6 @@ fn largest() -> (Vec<u8>, String) {
 #[test]
 fn the_largest_input() {
     let (bytes, lines) = largest();
-    assert_eq!(bytes.len(), 4 * (5 + 1_024 + 2 + 2_048 + 1 + 5_120));
     prints(&bytes, &lines);
     refuses(&[&bytes[..], &[0]].concat(), 13);
 }

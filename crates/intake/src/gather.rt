@@ -3,8 +3,7 @@ use crate::least;
 ghost use Rattle.intake.specs.Gather.{Gathered};
 
 // Gathers the whole words of the bytes into the target, as many as it holds, and answers how many.
-// A step takes the four bytes of a word, the lowest first: of such a loop the compiler makes one
-// copy.
+// A step takes a word's four bytes, the lowest first; the compiler makes one memcpy of the loop.
 pub fn words(bytes: &[u8], target: &mut [u32]) -> usize
     ensures { λ r. ⌜ Gathered (now (bytes .entry)) (now (target .entry)) (now (target .exit)) r ⌝ }
 {

@@ -35,10 +35,12 @@ fn page(kind: &str, entries: usize, moves: usize) -> Input {
     [table, state, page_words(middle, moves as u32)]
 }
 
-/// The program's input: a log of this kind, or one whose first move is refused, so that the program only loads it.
+/// The program's input: a log of this kind, or a global one whose first move is refused, so that the program
+/// loads and checks it and makes no move.
 fn input(kind: &str, entries: usize, moves: usize) -> Vec<u8> {
     let [table, state, mut log] = log(kind, entries, moves);
     if kind == "refused" {
+        // A rule that the table does not have.
         log[1] = table[3];
     }
     program::input(&table, &state, &log)

@@ -24,7 +24,7 @@ returns c =
     let all : l .i ≡ n .result = omega arith in
     gather-end _ _ (n .ensures .0) (rw all at (l .inv .2)) (l .inv .1)
 
--- where a turn whose four bytes are read began, and where the code did
+-- from where a turn's four bytes are read back to its start, and from there to the function's
 abbrev turn : tie.After-shared-slice-known5 Inv-loop μ-loop → tie.At-loop Inv-loop μ-loop
 turn c = c .before .before .before .before .before
 
