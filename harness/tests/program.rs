@@ -9,6 +9,7 @@ use std::os::fd::{FromRawFd, OwnedFd};
 use std::path::{Path, PathBuf};
 use std::process::{Command, Stdio};
 use std::thread;
+use std::time::Duration;
 
 use harness::answer::order;
 use harness::generate::logs::{accepted, broken_off, closed};
@@ -32,11 +33,13 @@ fn programs() -> [PathBuf; 2] {
 }
 
 /// How the input arrives.
-#[derive(Clone, Copy)]
+#[derive(Clone, Copy, Debug)]
 enum Pipe {
     Whole,
-    /// In pieces of up to this many bytes: a read gives one of them, as from a slow pipe.
+    /// In pieces of up to this many bytes, of which each read gives one.
     Pieces(usize),
+    /// The same, with a pause before each, so that the program has to wait.
+    Slow(usize),
 }
 
 extern "C" {
@@ -49,7 +52,7 @@ impl Pipe {
         const O_DIRECT: c_int = 0o40_000;
         const O_CLOEXEC: c_int = 0o2_000_000;
         // Linux: what one write put into the pipe is not joined to the next.
-        let apart = if let Pipe::Pieces(_) = self { O_DIRECT } else { 0 };
+        let apart = if let Pipe::Whole = self { 0 } else { O_DIRECT };
         let mut ends = [0; 2];
         assert_eq!(unsafe { pipe2(ends.as_mut_ptr(), O_CLOEXEC | apart) }, 0, "{}", Error::last_os_error());
         let [read, write] = ends.map(|end| unsafe { OwnedFd::from_raw_fd(end) });
@@ -59,7 +62,7 @@ impl Pipe {
     fn piece(self, bytes: &[u8]) -> usize {
         match self {
             Pipe::Whole => bytes.len().max(1),
-            Pipe::Pieces(piece) => piece,
+            Pipe::Pieces(piece) | Pipe::Slow(piece) => piece,
         }
     }
 }
@@ -75,6 +78,9 @@ fn fed(mut command: Command, bytes: &[u8], pipe: Pipe) -> String {
     thread::scope(|scope| {
         scope.spawn(move || {
             for piece in bytes.chunks(pipe.piece(bytes)) {
+                if let Pipe::Slow(_) = pipe {
+                    thread::sleep(Duration::from_micros(200));
+                }
                 match stdin.write_all(piece) {
                     Err(error) if error.kind() == ErrorKind::BrokenPipe => return,
                     written => written.unwrap(),
@@ -101,9 +107,9 @@ fn prints(bytes: &[u8], expected: &str) {
 /// The reference is not asked: it reads as the standard library does, into room that may be shorter
 /// than a piece.
 #[track_caller]
-fn prints_in_pieces(bytes: &[u8], piece: usize, expected: &str) {
-    let printed = fed(Command::new(proved()), bytes, Pipe::Pieces(piece));
-    assert_eq!(printed, expected, "{} bytes in pieces of {piece}", bytes.len());
+fn prints_through(pipe: Pipe, bytes: &[u8], expected: &str) {
+    let printed = fed(Command::new(proved()), bytes, pipe);
+    assert_eq!(printed, expected, "{} bytes, {pipe:?}", bytes.len());
 }
 
 #[track_caller]
@@ -144,7 +150,7 @@ fn cut_at(bytes: &[u8], [table, state, all]: [usize; 3], cuts: impl Iterator<Ite
         };
         prints(&bytes[..cut], expected);
         for piece in 1..=5 {
-            prints_in_pieces(&bytes[..cut], piece, expected);
+            prints_through(Pipe::Pieces(piece), &bytes[..cut], expected);
         }
     }
 }
@@ -318,16 +324,19 @@ fn five_megabytes() {
     }
 }
 
-// Catches a read that takes a short one for the end of the input, and a reader that stops short of
-// its buffer's end: one byte more than the largest input fills it.
+// Catches a read that takes a short one, or none yet, for the end of the input, and a reader that stops
+// short of its buffer's end: one byte more than the largest input fills it.
 #[test]
 fn a_slow_pipe() {
-    prints_in_pieces(&plant(&case_a()), 100, LINES_A);
-    let (mut bytes, _) = largest();
-    bytes.push(0);
+    let bytes = plant(&case_a());
+    let (mut longer, _) = largest();
+    longer.push(0);
     for piece in 1..=5 {
-        prints_in_pieces(&bytes, piece, "refused 13\n");
+        prints_through(Pipe::Slow(piece), &bytes, LINES_A);
+        prints_through(Pipe::Slow(piece), &bytes[..bytes.len() - 1], "refused 13\n");
+        prints_through(Pipe::Pieces(piece), &longer, "refused 13\n");
     }
+    prints_through(Pipe::Slow(100), &bytes, LINES_A);
 }
 
 // Catches lines for moves that are not there: k = 0 prints only the first line.

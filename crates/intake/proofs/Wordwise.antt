@@ -4,7 +4,7 @@ use mathlib.Core.List.{List, [], _∷_}
 use mathlib.Core.Path.{_≡_, refl, sym, _∙_}
 use native.Mathlib.Numerals.{add-one, towards-suc}
 use native.Mathlib.Omega.{arith}
-use mir.Syntax.{w8}
+use mir.Syntax.{w8, w32}
 use mir.Val.{Fits}
 use lib.ListN.{length, getD, take, set, length-take}
 use lib.Seq.{length-take-le}
@@ -17,20 +17,18 @@ use Rattle.intake.specs.Gather.{Gathered, fitting, length-words}
 abbrev wordFrom : List ℕ → ℕ → ℕ
 wordFrom bytes at = wordOf (getD bytes at 0) (getD bytes (at + 1) 0) (getD bytes (at + 2) 0) (getD bytes (at + 3) 0)
 
--- the bytes of a word are below 256, so that no sum of them overflows
+pub byte-fits : {b : ℕ} → Fits w8 b → Fits w32 b
+byte-fits h = omega (arith, h)
+
+-- the four bytes from a place on, of which no sum overflows
 pub record FourBytes (bytes : List ℕ) (at : ℕ) : Type 0 where
-  pub first : getD bytes at 0 < 256
-  pub second : getD bytes (at + 1) 0 < 256
-  pub third : getD bytes (at + 2) 0 < 256
-  pub fourth : getD bytes (at + 3) 0 < 256
+  pub first : Fits w8 (getD bytes at 0)
+  pub second : Fits w8 (getD bytes (at + 1) 0)
+  pub third : Fits w8 (getD bytes (at + 2) 0)
+  pub fourth : Fits w8 (getD bytes (at + 3) 0)
 
 pub four-bytes : (bytes : List ℕ) (at : ℕ) → ((i : ℕ) → Fits w8 (getD bytes i 0)) → FourBytes bytes at
-four-bytes bytes at known = record {
-  first = omega (arith, known at);
-  second = omega (arith, known (at + 1));
-  third = omega (arith, known (at + 2));
-  fourth = omega (arith, known (at + 3));
-}
+four-bytes bytes at known = record { first = known at; second = known (at + 1); third = known (at + 2); fourth = known (at + 3) }
 
 word-at : (bytes : List ℕ) (n : ℕ) → n < length (wordsOf bytes) → getD (wordsOf bytes) n 0 ≡ wordFrom bytes (4 * n)
 word-at [] n h = absurd (omega arith)

@@ -1,10 +1,10 @@
 -- `words` meets its contract: after i turns the target holds the first i words (`Wordwise`).
-use Prim.Native.Nat.{_+_, _*_, _-_, _≤_}
+use Prim.Native.Nat.{_*_, _-_, _≤_}
 use mathlib.Core.Path.{_≡_, refl}
 use native.Mathlib.Omega.{arith}
 use borrow.Author.Needs.{needs}
 use lib.ListN.{length, length-set}
-use Rattle.intake.proofs.Wordwise.{FourBytes, four-bytes, gatheredTo, gather-next, gather-end}
+use Rattle.intake.proofs.Wordwise.{byte-fits, FourBytes, four-bytes, gatheredTo, gather-next, gather-end}
 use Rattle.intake.proofs.gather.words.Statement.{statement}
 use Rattle.intake.proofs.gather.words.Tie as tie
 
@@ -41,18 +41,6 @@ loop-again c =
 four : (c : tie.After-shared-slice-known5 Inv-loop μ-loop) → FourBytes (start (turn c) .args .bytes .now) (4 * turn c .loop .i)
 four c = four-bytes _ _ (c .shared-slice-known5 .given)
 
-cast-a : tie.Need-cast-a Inv-loop μ-loop
-cast-a c = omega (arith, c .shared-slice-known2 .given (4 * c .before .before .loop .i))
-
-cast-b : tie.Need-cast-b Inv-loop μ-loop
-cast-b c = omega (arith, c .shared-slice-known3 .given (4 * c .before .before .before .loop .i + 1))
-
-cast-c : tie.Need-cast-c Inv-loop μ-loop
-cast-c c = omega (arith, c .shared-slice-known4 .given (4 * c .before .before .before .before .loop .i + 2))
-
-cast-d : tie.Need-cast-d Inv-loop μ-loop
-cast-d c = omega (arith, c .shared-slice-known5 .given (4 * c .before .before .before .before .before .loop .i + 3))
-
 pub words-spec : {M : Type 1} → statement M
 words-spec =
     tie.close
@@ -63,16 +51,16 @@ words-spec =
     loop-holds
     (λ c. search needs)
     (λ c. search needs)
-    cast-a
+    (λ c. byte-fits (c .shared-slice-known2 .given _))
     (λ c. search needs)
     (λ c. search needs)
-    cast-b
+    (λ c. byte-fits (c .shared-slice-known3 .given _))
     (λ c. search needs)
     (λ c. search needs)
-    cast-c
+    (λ c. byte-fits (c .shared-slice-known4 .given _))
     (λ c. search needs)
     (λ c. search needs)
-    cast-d
+    (λ c. byte-fits (c .shared-slice-known5 .given _))
     (λ c. omega (arith, four c))
     (λ c. omega (arith, four c))
     (λ c. omega (arith, four c))
