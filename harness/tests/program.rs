@@ -1,6 +1,6 @@
 //! The program of 01: standard input to standard output. What it has to print comes from 01's text
 //! or from the model (`harness::program`), never from a program. The proved program and the
-//! reference program, made of the plain code, are both asked.
+//! reference program, made of the plain code, are both asked; of input in pieces only the proved one.
 use std::env;
 use std::ffi::c_int;
 use std::fs::File;

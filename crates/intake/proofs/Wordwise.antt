@@ -4,7 +4,7 @@ use mathlib.Core.List.{List, [], _∷_}
 use mathlib.Core.Path.{_≡_, refl, sym, _∙_}
 use native.Mathlib.Numerals.{add-one, towards-suc}
 use native.Mathlib.Omega.{arith}
-use mir.Syntax.{w8, w32}
+use mir.Syntax.{w8}
 use mir.Val.{Fits}
 use lib.ListN.{length, getD, take, set, length-take}
 use lib.Seq.{length-take-le}
@@ -16,9 +16,6 @@ use Rattle.intake.specs.Gather.{Gathered, fitting, length-words}
 -- the word of the four bytes from a place on
 abbrev wordFrom : List ℕ → ℕ → ℕ
 wordFrom bytes at = wordOf (getD bytes at 0) (getD bytes (at + 1) 0) (getD bytes (at + 2) 0) (getD bytes (at + 3) 0)
-
-pub byte-fits : {b : ℕ} → Fits w8 b → Fits w32 b
-byte-fits h = omega (arith, h)
 
 -- the four bytes from a place on, of which no sum overflows
 pub record FourBytes (bytes : List ℕ) (at : ℕ) : Type 0 where

@@ -2,9 +2,9 @@
 use Prim.Native.Nat.{_*_, _-_, _≤_}
 use mathlib.Core.Path.{_≡_, refl}
 use native.Mathlib.Omega.{arith}
-use borrow.Author.Needs.{needs}
+use borrow.Author.Needs.{needs, fits-under}
 use lib.ListN.{length, length-set}
-use Rattle.intake.proofs.Wordwise.{byte-fits, FourBytes, four-bytes, gatheredTo, gather-next, gather-end}
+use Rattle.intake.proofs.Wordwise.{FourBytes, four-bytes, gatheredTo, gather-next, gather-end}
 use Rattle.intake.proofs.gather.words.Statement.{statement}
 use Rattle.intake.proofs.gather.words.Tie as tie
 
@@ -51,16 +51,16 @@ words-spec =
     loop-holds
     (λ c. search needs)
     (λ c. search needs)
-    (λ c. byte-fits (c .shared-slice-known2 .given _))
+    (λ c. fits-under _ _ 256 (c .shared-slice-known2 .given _ .fits) tt)
     (λ c. search needs)
     (λ c. search needs)
-    (λ c. byte-fits (c .shared-slice-known3 .given _))
+    (λ c. fits-under _ _ 256 (c .shared-slice-known3 .given _ .fits) tt)
     (λ c. search needs)
     (λ c. search needs)
-    (λ c. byte-fits (c .shared-slice-known4 .given _))
+    (λ c. fits-under _ _ 256 (c .shared-slice-known4 .given _ .fits) tt)
     (λ c. search needs)
     (λ c. search needs)
-    (λ c. byte-fits (c .shared-slice-known5 .given _))
+    (λ c. fits-under _ _ 256 (c .shared-slice-known5 .given _ .fits) tt)
     (λ c. omega (arith, four c))
     (λ c. omega (arith, four c))
     (λ c. omega (arith, four c))
