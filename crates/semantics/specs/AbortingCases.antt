@@ -36,7 +36,7 @@ breaksOff found place own = record { found = found; stated = record { number = 1
 
 -- Three transactions of the two-lot plant, the second with an abort mark: a message of each on the merge port (4, 6, 8), one of the second on the
 -- local port (9) and on the global port (10), and one that is global (11).
-pub three : List ℕ
+unfoldable pub three : List ℕ
 three =
     12 ∷ 4
     ∷ 1 ∷ 2 ∷ 3 ∷ 2 ∷ 1 ∷ 2 ∷ 2 ∷ 3 ∷ 3 ∷ 2 ∷ 2 ∷ 0
@@ -44,7 +44,7 @@ three =
     ∷ []
 
 -- a local rule that consumes one and emits two, a global one that begins with a message and an abort mark inside, and a local one that consumes two
-pub growing : List ℕ
+unfoldable pub growing : List ℕ
 growing =
     1 ∷ 1 ∷ 0 ∷ 3 ∷ 9
     ∷ 0 ∷ 0 ∷ 0 ∷ 1 ∷ 1 ∷ 1 ∷ 1 ∷ 2 ∷ 2
@@ -54,7 +54,7 @@ growing =
     ∷ []
 
 -- two transactions with two messages each, the second with an abort mark
-pub two : List ℕ
+unfoldable pub two : List ℕ
 two =
     7 ∷ 3
     ∷ 1 ∷ 2 ∷ 2 ∷ 1 ∷ 1 ∷ 2 ∷ 2

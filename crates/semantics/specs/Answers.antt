@@ -11,6 +11,7 @@ use Rattle.semantics.specs.Move.{unless, firstFault, Move, moveOk, moveO
 use Rattle.semantics.specs.Log.{moveCount, movesOf, logSizesOk, logWords, Ran, completed, stopped, run}
 use Rattle.semantics.specs.Serial.{beginsEmit, anyOpen, serial, serialFits}
 use Rattle.semantics.specs.Enabled.{enabled, moveWords, pageCount, pageOf}
+use Rattle.semantics.specs.Preview.{previewed}
 use Rattle.semantics.specs.declared.Refusal.{Refusal}
 use Rattle.semantics.specs.declared.Refusal.the-variants.{TableSizes, TableContents, StateSizes, StateContents, MoveForm, TargetTooShort}
 use Rattle.semantics.specs.declared.Refusal.the-variants.{WrongPick, WrongOwner, NoTransaction, EndNotAllowed, NoMoreIds, TooManyEntries}
@@ -22,6 +23,9 @@ use Rattle.semantics.specs.declared.Outcome.the-variants.{Passed, Writte
 use Rattle.semantics.specs.declared.Answer.{Answer}
 use Rattle.semantics.specs.declared.Page.{Page}
 use Rattle.semantics.specs.declared.Listed.{Listed}
+use Rattle.semantics.specs.declared.Preview.{Preview}
+use Rattle.semantics.specs.declared.Previewed.{Previewed}
+use Rattle.semantics.specs.declared.Previewed.the-variants.{Accepted, Rejected}
 use Rattle.semantics.specs.declared.Sizes.{Sizes}
 
 -- ---- the numbers of 01, and 18 of 02 (M-105)
@@ -241,3 +245,21 @@ listMoves t s first count target = pageAnswer (record {
 
 unfoldable pub listMovesTarget : List ℕ → List ℕ → ℕ → ℕ → List ℕ → List ℕ
 listMovesTarget t s first count target = targetAfter (listResult lineCeiling t s first count target) target
+
+-- ---- the preview of a move (02, M-115)
+
+abbrev pub unlessRejected : Verdict → Previewed → Previewed
+unlessRejected Allowed x = x
+unlessRejected (Denied r) x = Rejected r
+
+-- 1, 2, 3, 4, and then what the move would come to: there is no target, so no 6
+unfoldable pub previewResult : ℕ → List ℕ → List ℕ → List ℕ → Previewed
+previewResult ceiling t s m = unlessRejected (stateVerdict t s) (previewed ceiling (tableOf t) (stateOf s) m)
+
+-- what C gets: 0 and the three figures, or the refusal's number and nothing else
+abbrev pub previewAnswer : Previewed → Preview
+previewAnswer (Accepted f) = record { number = 0; entries = f .entries; next = f .next; id = f .id }
+previewAnswer (Rejected r) = record { number = number r; entries = 0; next = 0; id = 0 }
+
+unfoldable pub previewMove : List ℕ → List ℕ → List ℕ → Preview
+previewMove t s m = previewAnswer (previewResult lineCeiling t s m)

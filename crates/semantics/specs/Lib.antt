@@ -5,10 +5,12 @@ pub mod Move
 pub mod Log
 pub mod Serial
 pub mod Enabled
+pub mod Preview
 pub mod Answers
 pub mod Cases
 pub mod OddCases
 pub mod AbortingCases
 pub mod ListCases
+pub mod PreviewCases
 pub mod Program
 pub mod ProgramCases

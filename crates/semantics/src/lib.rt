@@ -60,6 +60,29 @@ pub struct Page {
     pub length: u64,
 }
 
+// What a move that is accepted would leave, by the preview (02, M-115): the entries in all, the next id
+// (01's next ticket), and the id of the transaction that the move concerns, 0 where there is none.
+pub struct Foreseen {
+    pub entries: u32,
+    pub next: u32,
+    pub id: u32,
+}
+
+// What the preview of a move says.
+pub enum Previewed {
+    Accepted(Foreseen),
+    Rejected(Refusal),
+}
+
+// The same in numbers, for C.
+#[repr(C)]
+pub struct Preview {
+    pub number: u32,
+    pub entries: u32,
+    pub next: u32,
+    pub id: u32,
+}
+
 // 01's G, L, M, R and A: how many global, local and merge ports (plant, batch, joining ports), rules
 // and atoms.
 pub struct Sizes {
