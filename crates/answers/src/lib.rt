@@ -1,10 +1,12 @@
 // The numbers of documents 01 and 02, as code.
 ghost use mathlib.Core.Path.{_≡_};
-ghost use Rattle.semantics.specs.Answers.{number, answerOf, pageAnswer};
+ghost use Rattle.semantics.specs.Answers.{number, answerOf, pageAnswer, previewAnswer};
 use semantics::Answer;
 use semantics::Listed;
 use semantics::Outcome;
 use semantics::Page;
+use semantics::Preview;
+use semantics::Previewed;
 use semantics::Refusal;
 
 pub fn number_of(refusal: Refusal) -> u32
@@ -71,5 +73,24 @@ pub fn page_of(listed: Listed) -> Page
         number: answer.number,
         words: answer.words,
         length: listed.length,
+    }
+}
+
+pub fn preview_of(previewed: Previewed) -> Preview
+    ensures { λ r. ⌜ r ≡ previewAnswer previewed ⌝ }
+{
+    match previewed {
+        Previewed::Accepted(foreseen) => Preview {
+            number: 0,
+            entries: foreseen.entries,
+            next: foreseen.next,
+            id: foreseen.id,
+        },
+        Previewed::Rejected(refusal) => Preview {
+            number: number_of(refusal),
+            entries: 0,
+            next: 0,
+            id: 0,
+        },
     }
 }

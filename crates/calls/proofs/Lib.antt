@@ -3,4 +3,5 @@ pub mod Results
 pub mod Listing
 pub mod Running
 pub mod Moving
+pub mod Previewing
 pub mod Serializing

@@ -4,6 +4,7 @@ mod checks;
 mod logs;
 mod moves;
 mod pages;
+mod previews;
 mod serials;
 
 pub use checks::check_state;
@@ -11,4 +12,5 @@ pub use checks::check_table;
 pub use logs::run;
 pub use moves::make_move;
 pub use pages::list_moves;
+pub use previews::preview;
 pub use serials::serialize;

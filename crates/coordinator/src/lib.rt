@@ -1,10 +1,12 @@
 // The public calls for C and Rust: the archive of this crate is the one that buyers link.
 ghost use mathlib.Core.Path.{_≡_};
-ghost use Rattle.semantics.specs.Answers.{checkTable, checkState, makeMove, makeMoveTarget, listMoves, listMovesTarget, runLog, runLogTarget, serialize, serializeTarget};
+ghost use Rattle.semantics.specs.Answers.{checkTable, checkState, makeMove, makeMoveTarget, previewMove, listMoves, listMovesTarget, runLog, runLogTarget, serialize, serializeTarget};
 use answers::answer_of;
 use answers::page_of;
+use answers::preview_of;
 use semantics::Answer;
 use semantics::Page;
+use semantics::Preview;
 
 #[no_mangle]
 pub extern "C" fn coordinator_check_table(table: &[u32]) -> Answer
@@ -31,6 +33,17 @@ pub extern "C" fn coordinator_move<'a>(
     ensures contents { λ _. ⌜ now (target .exit) ≡ makeMoveTarget (now (table .entry)) (now (state .entry)) (now (mv .entry)) (now (target .entry)) ⌝ }
 {
     answer_of(calls::make_move(table, state, mv, target))
+}
+
+#[no_mangle]
+pub extern "C" fn coordinator_preview<'a>(
+    table: &'a [u32],
+    state: &'a [u32],
+    mv: &'a [u32],
+) -> Preview
+    ensures { λ r. ⌜ r ≡ previewMove (now (table .entry)) (now (state .entry)) (now (mv .entry)) ⌝ }
+{
+    preview_of(calls::preview(table, state, mv))
 }
 
 #[no_mangle]

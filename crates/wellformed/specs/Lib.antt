@@ -21,3 +21,4 @@ pub mod OwnNumbers
 pub mod Unmarked
 pub mod RunKeeps
 pub mod Calls
+pub mod AsMove
