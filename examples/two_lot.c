@@ -1,6 +1,6 @@
 /*
- * Log (a) of document 01's two-lot plant, case (b): its commit one move too early, and the moves that
- * are enabled at the start.
+ * Log (a) of document 01's two-lot plant, case (b): its commit one move too early, and at the start the
+ * enabled moves and the previews of two moves, of which the second would be refused.
  */
 #include "coordinator.h"
 
@@ -28,6 +28,9 @@ static const uint32_t log_b[] = {
     0, 0, 1, 1, 0x01000001,
     0, 0, 0, 0, 0, 0, 0, 0, 1, 0, 0, 0, 3, 0, 0, 0, 0, 0, 0, 0,
 };
+
+static const uint32_t begin[] = {0, 0, 0, 0, 0};
+static const uint32_t commit[] = {0x01000001, 0, 0, 0, 0};
 
 static void run(const char *name, const uint32_t *log, size_t log_len)
 {
@@ -63,10 +66,24 @@ static void list(void)
     } while (first < page.length);
 }
 
+static void preview(const char *name, const uint32_t *mv)
+{
+    coordinator_preview_answer answer =
+        coordinator_preview(table, LENGTH(table), start, LENGTH(start), mv, COORDINATOR_MOVE_WORDS);
+    if (answer.number != COORDINATOR_ACCEPTED) {
+        printf("%s: would be refused with %" PRIu32 "\n", name, answer.number);
+    } else {
+        printf("%s: would leave %" PRIu32 " entries, next id %" PRIu32 "; transaction %" PRIu32 "\n", name,
+               answer.entries, answer.next, answer.id);
+    }
+}
+
 int main(void)
 {
     run("(a)", log_a, LENGTH(log_a));
     run("(b)", log_b, LENGTH(log_b));
     list();
+    preview("rule 0", begin);
+    preview("commit 1", commit);
     return 0;
 }

@@ -62,7 +62,7 @@ extern "C" {
     (5u * ((count) < COORDINATOR_MAX_PAGE_MOVES ? (count) : COORDINATOR_MAX_PAGE_MOVES))
 
 /* Numbers. */
-#define COORDINATOR_ACCEPTED 0u          /* a check passed, or words were written */
+#define COORDINATOR_ACCEPTED 0u          /* a check passed, words were written, or a preview has figures */
 
 /* Numbers: a list is not well formed, or not fit for the call. */
 #define COORDINATOR_TABLE_SIZES 1u       /* table: a size is over its limit or does not fit the length */
@@ -93,6 +93,14 @@ typedef struct coordinator_answer {
     uint32_t own;    /* COORDINATOR_MOVE_REFUSED: the move's own number, 5, 7 to 12, or 18; else 0 */
 } coordinator_answer;
 
+typedef struct coordinator_preview_answer {
+    uint32_t number;  /* one of the numbers above */
+    uint32_t entries; /* accepted: the entries of the state after the move; else 0 */
+    uint32_t next;    /* accepted: the next id (ticket) of that state; else 0 */
+    uint32_t id;      /* accepted: the transaction (batch) that the move begins, reacts in, commits or aborts,
+                         the smallest of those that it merges, 0 for a global rule without begin; else 0 */
+} coordinator_preview_answer;
+
 typedef struct coordinator_page {
     uint32_t number; /* one of the numbers above */
     uint32_t words;  /* accepted: the words written, 5 for each move of the page; else 0 */
@@ -114,6 +122,14 @@ coordinator_answer coordinator_move(const uint32_t *table, size_t table_len,
                                     const uint32_t *state, size_t state_len,
                                     const uint32_t *move, size_t move_len,
                                     uint32_t *target, size_t target_len);
+
+/* What one move would do: the number of coordinator_move with a long enough target, and the entries and
+ * next id of the state after it. No move is made and there is no target, so there is no 6. The answer is
+ * for the state handed in: after another move, ask again.
+ * Refusals: 1, 2, 3, 4, 5, 7, 8, 18, 9, 10, 11, 12. Stack: 23.5 KB. */
+coordinator_preview_answer coordinator_preview(const uint32_t *table, size_t table_len,
+                                               const uint32_t *state, size_t state_len,
+                                               const uint32_t *move, size_t move_len);
 
 /* The state after a log's moves, one after another.
  * Refusals: 1, 2, 3, 4, 13, 6, 16. Stack: 25.4 KB. */

@@ -1,5 +1,5 @@
 //! The C interface of the archive, declared once; `include/coordinator.h` says the same to C.
-use crate::Refusal;
+use crate::{Preview, Refusal};
 
 /// Number 0: accepted, with the words written. Place and own only with 16, else 0.
 #[repr(C)]
@@ -19,6 +19,27 @@ impl Answer {
         match number {
             0 => Ok(words as usize),
             16 => Err(Refusal::MoveRefused { place, own }),
+            number => Err(Refusal::from_number(number)),
+        }
+    }
+}
+
+/// Number 0: accepted, with what the move would do; else the other figures are 0.
+#[repr(C)]
+pub struct PreviewAnswer {
+    number: u32,
+    entries: u32,
+    next: u32,
+    id: u32,
+}
+
+impl PreviewAnswer {
+    /// What the move would do, or why it would be refused.
+    pub fn result(self) -> Result<Preview, Refusal> {
+        let PreviewAnswer { number, entries, next, id } = self;
+        debug_assert!(number == 0 || (entries, next, id) == (0, 0, 0), "a refusal has figures");
+        match number {
+            0 => Ok(Preview { entries, next, id }),
             number => Err(Refusal::from_number(number)),
         }
     }
@@ -57,7 +78,7 @@ type OnTarget = unsafe extern "C" fn(
 ) -> Answer;
 
 mod c {
-    use super::{Answer, Page};
+    use super::{Answer, Page, PreviewAnswer};
 
     extern "C" {
         pub fn coordinator_check_table(table: *const u32, table_len: usize) -> Answer;
@@ -77,6 +98,14 @@ mod c {
             target: *mut u32,
             target_len: usize,
         ) -> Answer;
+        pub fn coordinator_preview(
+            table: *const u32,
+            table_len: usize,
+            state: *const u32,
+            state_len: usize,
+            mv: *const u32,
+            mv_len: usize,
+        ) -> PreviewAnswer;
         pub fn coordinator_run(
             table: *const u32,
             table_len: usize,
@@ -138,6 +167,10 @@ fn on_target(call: OnTarget, table: &[u32], state: &[u32], third: &[u32], target
 
 pub fn make_move(table: &[u32], state: &[u32], mv: &[u32], target: &mut [u32]) -> Answer {
     on_target(c::coordinator_move, table, state, mv, target)
+}
+
+pub fn preview(table: &[u32], state: &[u32], mv: &[u32]) -> PreviewAnswer {
+    unsafe { c::coordinator_preview(table.as_ptr(), table.len(), state.as_ptr(), state.len(), mv.as_ptr(), mv.len()) }
 }
 
 pub fn run(table: &[u32], state: &[u32], log: &[u32], target: &mut [u32]) -> Answer {

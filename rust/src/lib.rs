@@ -5,6 +5,8 @@
 //! words from a file or a line can be handed over as they are: every call checks all that it is
 //! handed, and answers a [`Refusal`] with the number of document 01 or 02. [`TableBuilder`],
 //! [`StateBuilder`], [`LogBuilder`] and [`react`], [`commit`], [`abort`] write the words.
+//! [`enabled_moves`] goes through the moves that can be made, [`preview`] tells what one would do, and
+//! [`make_move`] makes it.
 //!
 //! No call allocates, keeps anything, or panics. A refused call leaves its target as it was; an
 //! accepted one leaves it as it was beyond the words that it gives back. Each call runs in a
@@ -37,12 +39,14 @@
 mod boundary;
 mod log;
 mod page;
+mod preview;
 mod refusal;
 mod state;
 mod table;
 
 pub use log::{abort, commit, react, Log, LogBuilder, Move};
 pub use page::{enabled_moves, EnabledMoves, Page};
+pub use preview::{preview, Preview};
 pub use refusal::Refusal;
 pub use state::{Entry, Item, State, StateBuilder};
 pub use table::{Atom, Table, TableBuilder, Value};

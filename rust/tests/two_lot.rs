@@ -103,12 +103,23 @@ fn a_move() {
     assert_eq!(refused, Err(Refusal::TargetTooShort));
 }
 
+fn case_a() -> [[u32; MOVE_WORDS]; 6] {
+    [react(0, &[0]), react(0, &[0]), react(1, &[1]), react(1, &[3]), react(2, &[4, 5]), commit(1)]
+}
+
+/// The state after so many moves of (a).
+fn after(moves: usize) -> Vec<u32> {
+    let mut target = [0; STATE_TARGET_WORDS];
+    let log = log(&case_a()[..moves]);
+    run(Table::new(&table()), State::new(&start()), Log::new(&log), &mut target).unwrap().words().to_vec()
+}
+
 // Catches a run whose answer or end state is not 01's: cases (a) and (b).
 #[test]
 fn a_run() {
     let (table, start) = (table(), start());
     let mut target = [0; STATE_TARGET_WORDS];
-    let a = [react(0, &[0]), react(0, &[0]), react(1, &[1]), react(1, &[3]), react(2, &[4, 5]), commit(1)];
+    let a = case_a();
     let end = run(Table::new(&table), State::new(&start), Log::new(&log(&a)), &mut target).unwrap();
     assert_eq!(end.words(), [2, 3, 0, 0, 0x0001_0007, 0x0001_0009]);
     let b = [&a[..4], &[commit(1)]].concat();
@@ -146,22 +157,81 @@ fn an_abort_mark() {
     let refused = run(table, state, Log::new(&log(&[react(1, &[2]), abort(1)])), &mut target).unwrap_err();
     assert_eq!(refused, Refusal::MoveRefused { place: 0, own: 18 });
     assert_eq!(refused.own(), Some(Refusal::TransactionAborting));
+    assert_eq!(preview(table, state, Move::new(&react(1, &[2]))), Err(Refusal::TransactionAborting));
     assert_eq!(enabled_moves(table, state).unwrap().collect::<Vec<_>>(), [abort(1)]);
     let end = make_move(table, state, Move::new(&abort(1)), &mut target).unwrap();
     assert_eq!(end.words(), [1, 2, 0, 7]);
 }
 
-/// The state after the first two moves of (a): both transactions have begun.
-fn both_begun() -> Vec<u32> {
+/// The figures of a preview, or why the move would be refused.
+fn previewed(table: &[u32], state: &[u32], mv: &[u32]) -> Result<[u32; 3], Refusal> {
+    preview(Table::new(table), State::new(state), Move::new(mv)).map(|after| [after.entries, after.next, after.id])
+}
+
+// Catches a preview whose figures are swapped, or are not those of the state that the move leaves: (a).
+#[test]
+fn previews_of_case_a() {
+    let figures = [[4, 2, 1], [6, 3, 2], [6, 3, 1], [6, 3, 2], [6, 3, 1], [2, 3, 1]];
+    for (moves, (mv, figures)) in case_a().iter().zip(figures).enumerate() {
+        assert_eq!(previewed(&table(), &after(moves), mv), Ok(figures), "{moves}");
+        let left = after(moves + 1);
+        let left = State::new(&left);
+        assert_eq!([left.entries().unwrap().len() as u32, left.next().unwrap()], figures[..2], "{moves}");
+    }
+}
+
+// Catches a preview that is refused otherwise than the move would be: (b), (e), (f), (g), and 1 to 5.
+#[test]
+fn refused_previews() {
+    let cases = [
+        (4, commit(1), Refusal::EndNotAllowed),
+        (4, react(2, &[4, 4]), Refusal::WrongPick),
+        (1, abort(1), Refusal::EndNotAllowed),
+        (2, commit(3), Refusal::NoTransaction),
+    ];
     let mut target = [0; STATE_TARGET_WORDS];
-    let log = log(&[react(0, &[0]), react(0, &[0])]);
-    run(Table::new(&table()), State::new(&start()), Log::new(&log), &mut target).unwrap().words().to_vec()
+    for (moves, mv, refusal) in cases {
+        let (table, state) = (table(), after(moves));
+        assert_eq!(previewed(&table, &state, &mv), Err(refusal));
+        let made = make_move(Table::new(&table), State::new(&state), Move::new(&mv), &mut target);
+        assert_eq!(made, Err(refusal));
+    }
+    let (table, start, mv) = (table(), start(), react(0, &[0]));
+    let mut wrong = table.clone();
+    wrong[28] = 0x6000_0000;
+    assert_eq!(previewed(&[], &[], &[]), Err(Refusal::TableSizes));
+    assert_eq!(previewed(&wrong, &[], &[]), Err(Refusal::TableContents));
+    assert_eq!(previewed(&table, &[], &[]), Err(Refusal::StateSizes));
+    assert_eq!(previewed(&table, &[1, 1, 1, 7], &[]), Err(Refusal::StateContents));
+    assert_eq!(previewed(&table, &start, &mv[..4]), Err(Refusal::MoveForm));
+}
+
+// Catches a preview that names another transaction than the one concerned: none for a global rule without
+// begin, the last id, the smallest of those merged, and the one that ends under the id that a merge left it.
+#[test]
+fn the_transaction_of_a_preview() {
+    let value = Value::Received(0);
+    let global = TableBuilder::new(1, 0, 0).rule([Atom::Consume { port: 0 }, Atom::Emit { port: 0, value }]).words();
+    let state = StateBuilder::new(9).message(0, 0, 7).words();
+    assert_eq!(previewed(&global, &state, &react(0, &[0])), Ok([1, 9, 0]));
+    let last = StateBuilder::new(MAX_NEXT - 1).message(0, 0, 7).words();
+    assert_eq!(previewed(&table(), &last, &react(0, &[0])), Ok([3, MAX_NEXT, MAX_NEXT - 1]));
+    let two = [5, 3].into_iter().fold(StateBuilder::new(9), |state, id| {
+        state.entry(id.into(), Item::MemberMark { id }).message(id.into(), 3, 7)
+    });
+    assert_eq!(previewed(&table(), &two.words(), &react(2, &[1, 3])), Ok([4, 9, 3]));
+    assert_eq!(previewed(&table(), &two.words(), &react(2, &[3, 1])), Ok([4, 9, 3]));
+    let merged = [3, 5].into_iter().fold(StateBuilder::new(9), |state, id| state.entry(3, Item::MemberMark { id }));
+    assert_eq!(previewed(&table(), &merged.words(), &commit(3)), Ok([0, 9, 3]));
+    assert_eq!(previewed(&table(), &merged.words(), &commit(5)), Err(Refusal::NoTransaction));
+    let aborting = merged.entry(3, Item::Compensation { port: 0, value: 7 }).entry(3, Item::AbortMark).words();
+    assert_eq!(previewed(&table(), &aborting, &abort(3)), Ok([1, 9, 3]));
 }
 
 // Catches a page whose moves or length are lost on the way, and a target that is asked for too much.
 #[test]
 fn a_page() {
-    let (table, state) = (table(), both_begun());
+    let (table, state) = (table(), after(2));
     let (table, state) = (Table::new(&table), State::new(&state));
     let all = [react(1, &[1]), react(1, &[4]), react(3, &[1]), react(3, &[4])];
     let mut target = [u32::MAX; page_target_words(9)];
@@ -181,7 +251,7 @@ fn a_page() {
 // Catches an iterator that loses or repeats moves, or that starts on a list that is refused.
 #[test]
 fn all_enabled_moves() {
-    let (table, start, begun) = (table(), start(), both_begun());
+    let (table, start, begun) = (table(), start(), after(2));
     let moves = |state: &[u32]| enabled_moves(Table::new(&table), State::new(state)).map(Iterator::collect::<Vec<_>>);
     assert_eq!(moves(&start), Ok(vec![react(0, &[0]), react(0, &[1])]));
     assert_eq!(moves(&begun), Ok(vec![react(1, &[1]), react(1, &[4]), react(3, &[1]), react(3, &[4])]));
