@@ -71,12 +71,51 @@ pub fn page_on_target(call: OnPage, table: &[u32], state: &[u32], asked: &[u32],
     answer
 }
 
+/// What the preview of a move answers: the number with which the move would be refused, 0 for none, and what
+/// it would leave. On a refusal all figures are 0.
+#[derive(Clone, Copy, Debug, PartialEq, Eq)]
+pub struct Preview {
+    pub number: u32,
+    /// The entries of the state after the move.
+    pub entries: u32,
+    /// The next id of that state.
+    pub next: u32,
+    /// The transaction concerned: begun, reacting, committed or aborted, after a merge the smallest id of
+    /// those merged; 0 for none.
+    pub id: u32,
+}
+
+impl Preview {
+    /// A move that would be made.
+    pub fn accepted(entries: usize, next: u32, id: u32) -> Preview {
+        Preview { number: 0, entries: entries as u32, next, id }
+    }
+
+    /// A move that would be refused.
+    pub fn refused(number: u32) -> Preview {
+        Preview { number, entries: 0, next: 0, id: 0 }
+    }
+}
+
+/// The preview on a table, a state and a move.
+pub type OnMove = fn(&[u32], &[u32], &[u32]) -> Preview;
+
+/// The preview in the shape of the other calls. Its figures go to the front of the target, so that a target
+/// has all that is answered.
+pub fn preview_on_target(call: OnMove, table: &[u32], state: &[u32], mv: &[u32], target: &mut [u32]) -> Answer {
+    match call(table, state, mv) {
+        Preview { number: 0, entries, next, id } => Answer::write(&[entries, next, id], target),
+        Preview { number, .. } => Answer::Refused(number),
+    }
+}
+
 /// The order of faults for each call, by 01 and 02: the first one that an input has counts. 15 comes
 /// twice, for the log's start and its end.
 pub mod order {
     pub const CHECK_TABLE: [u32; 2] = [1, 2];
     pub const CHECK_STATE: [u32; 4] = [1, 2, 3, 4];
     pub const MOVE: [u32; 13] = [1, 2, 3, 4, 5, 6, 7, 8, 18, 9, 10, 11, 12];
+    pub const PREVIEW: [u32; 12] = [1, 2, 3, 4, 5, 7, 8, 18, 9, 10, 11, 12];
     pub const RUN: [u32; 7] = [1, 2, 3, 4, 13, 6, 16];
     pub const SERIALIZE: [u32; 11] = [1, 2, 3, 4, 13, 6, 14, 15, 16, 15, 17];
     pub const LIST_MOVES: [u32; 5] = [1, 2, 3, 4, 6];

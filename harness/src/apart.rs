@@ -118,6 +118,15 @@ pub fn moves(first: usize, moves: &[Move]) -> String {
     (first..).zip(moves).map(line).collect()
 }
 
+/// The columns of `preview`.
+pub const PREVIEWS_HEAD: &str = "case  after  head        picks    number  entries  next  id\n";
+
+/// A move of a case after so many others, with what its preview answers: number, entries, next id and id.
+pub fn preview(case: char, after: usize, mv: Move, [number, entries, next, id]: [u32; 4]) -> String {
+    let (head, picks, does) = (mv.head(), picks(mv), does(mv));
+    format!("({case}) {after:>7}  {head:#010x}  {picks} {number:>7} {entries:>8} {next:>5} {id:>3}  {does}\n")
+}
+
 /// A log: each move's head and picks. The words follow its layout; `was` gives each move's place in
 /// the log that this is the serial log of.
 pub fn log(words: &[u32], was: Option<&[usize]>) -> String {

@@ -24,6 +24,7 @@ pub mod aborting;
 pub mod lists;
 pub mod logs;
 pub mod moves;
+pub mod previews;
 pub mod state_faults;
 pub mod states;
 pub mod table_faults;

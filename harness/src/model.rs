@@ -10,6 +10,7 @@ pub mod colours;
 pub mod definitions;
 pub mod list;
 pub mod ordered;
+pub mod preview;
 pub mod solution;
 
 pub use calls::*;

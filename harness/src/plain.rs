@@ -5,8 +5,11 @@ mod serial;
 mod state;
 mod step;
 mod table;
+mod verdict;
 
-use crate::answer::{Answer, Page};
+use std::ops::Deref;
+
+use crate::answer::{Answer, Page, Preview};
 use crate::words::{page_target, MAX_ENTRIES, MAX_MOVES, STATE_TARGET};
 use list::List;
 use state::State;
@@ -31,13 +34,35 @@ pub fn make_move(table: &[u32], state: &[u32], mv: &[u32], target: &mut [u32]) -
 fn moved(table: &[u32], state: &[u32], mv: &[u32], room: usize) -> Result<State, u32> {
     let table = Table::read(table)?;
     let mut state = State::read(&table, state)?;
-    let &[head, ref picks @ ..] = <&[u32; 5]>::try_from(mv).map_err(|_| 5u32)?;
-    let call = Call::read(&table, head, picks)?;
+    let (call, picks) = Call::of_words(&table, mv)?;
     if room < STATE_TARGET {
         return Err(6);
     }
     state.make(&table, call, picks)?;
     Ok(state)
+}
+
+pub fn preview(table: &[u32], state: &[u32], mv: &[u32]) -> Preview {
+    let previewed = || {
+        let table = Table::read(table)?;
+        previewed(&table, State::read(&table, state)?, mv)
+    };
+    previewed().unwrap_or_else(Preview::refused)
+}
+
+/// The same on the state's words as they are, without columns of its own. No other call does so: a state laid
+/// out otherwise would need another preview. For the benchmark, as what there is to gain.
+pub fn preview_in_place(table: &[u32], state: &[u32], mv: &[u32]) -> Preview {
+    let previewed = || {
+        let table = Table::read(table)?;
+        previewed(&table, State::of_words(&table, state)?, mv)
+    };
+    previewed().unwrap_or_else(Preview::refused)
+}
+
+fn previewed<C: Deref<Target = [u32]>>(table: &Table, state: State<C>, mv: &[u32]) -> Result<Preview, u32> {
+    let (call, picks) = Call::of_words(table, mv)?;
+    state.preview(table, call, picks)
 }
 
 /// A log's heads and picks, found to be of the right length.

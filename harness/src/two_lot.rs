@@ -41,6 +41,9 @@ pub fn lists_a() -> [Vec<Move>; 7] {
     ]
 }
 
+/// What the preview of each move of (a) says before it is made: entries, next id, and the id concerned.
+pub const PREVIEWS_A: [[u32; 3]; 6] = [[4, 2, 1], [6, 3, 2], [6, 3, 1], [6, 3, 2], [6, 3, 1], [2, 3, 1]];
+
 /// What the program prints for case (a), whole.
 pub const LINES_A: &str = "\
 moves 6 entries 2 next 1

@@ -10,19 +10,27 @@ fn the_benchmark_runs() {
     let run = Command::new(env!("CARGO_BIN_EXE_bench")).arg("--smoke").output().unwrap();
     let printed = String::from_utf8(run.stdout).unwrap();
     assert!(run.status.success(), "{printed}{}", String::from_utf8_lossy(&run.stderr));
-    for name in ["check_table", "check_state", "move", "run", "serialize", "list_moves"] {
+    for name in ["check_table", "check_state", "move", "preview", "run", "serialize", "list_moves"] {
         assert!(printed.contains(&format!("| {name} ")), "{name} in\n{printed}");
     }
+    assert!(printed.contains("| / move |"), "no preview beside its move in\n{printed}");
 }
 
 #[test]
 fn the_count_runs() {
+    let runs = |arguments: &[&str]| {
+        let run = Command::new(env!("CARGO_BIN_EXE_count")).args(arguments).output().unwrap();
+        assert!(run.status.success(), "{arguments:?}: {}", String::from_utf8_lossy(&run.stderr));
+    };
+    for kind in ["global", "begin", "local", "merge", "commit", "abort"] {
+        runs(&["move", kind, "16"]);
+        runs(&["preview", kind, "16"]);
+    }
     for (call, kinds) in
         [("run", ["merges", "global"]), ("serialize", ["merges", "global"]), ("list_moves", ["local", "global"])]
     {
         for kind in kinds {
-            let run = Command::new(env!("CARGO_BIN_EXE_count")).args([call, kind, "16", "16"]).output().unwrap();
-            assert!(run.status.success(), "{call} {kind}: {}", String::from_utf8_lossy(&run.stderr));
+            runs(&[call, kind, "16", "16"]);
         }
     }
 }

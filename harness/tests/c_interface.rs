@@ -1,7 +1,7 @@
 //! The header and the archive as a C compiler sees them.
 mod common;
 
-use std::collections::BTreeMap;
+use std::collections::{BTreeMap, BTreeSet};
 use std::env;
 use std::fs;
 use std::path::{Path, PathBuf};
@@ -61,13 +61,100 @@ fn the_header_stands_alone() {
 
 /// The header's constants.
 fn constants() -> BTreeMap<String, u64> {
-    let text = fs::read_to_string(Path::new(ROOT).join("include/coordinator.h")).unwrap();
+    let text = file("include/coordinator.h");
     let constant = |line: &str| {
         let mut parts = line.strip_prefix("#define COORDINATOR_")?.split_whitespace();
         let name = parts.next()?;
         Some((name.to_string(), parts.next()?.strip_suffix('u')?.parse().ok()?))
     };
     text.lines().filter_map(constant).collect()
+}
+
+fn file(path: &str) -> String {
+    fs::read_to_string(Path::new(ROOT).join(path)).unwrap_or_else(|error| panic!("{path}: {error}"))
+}
+
+/// C's text without its comments.
+fn uncommented(text: &str) -> String {
+    let mut parts = text.split("/*");
+    let first = parts.next().unwrap_or_default().to_string();
+    parts.fold(first, |text, part| text + part.split_once("*/").expect("a comment without an end").1)
+}
+
+/// Fields or parameters of C as Rust has them: `const uint32_t *move` as `mv: *const u32`.
+fn in_rust(parts: &str, between: char) -> String {
+    let part = |part: &str| {
+        let (kind, name) = part.split_at(part.rfind([' ', '*']).unwrap() + 1);
+        let kind = match kind.trim() {
+            "uint32_t" => "u32",
+            "uint64_t" => "u64",
+            "size_t" => "usize",
+            "const uint32_t *" => "*const u32",
+            "uint32_t *" => "*mut u32",
+            other => panic!("{other} in the header"),
+        };
+        // `move` is no name in Rust.
+        let name = match name {
+            "move" => "mv",
+            "move_len" => "mv_len",
+            other => other,
+        };
+        format!("{name}: {kind}")
+    };
+    let parts = parts.split(between).map(str::trim).filter(|part| !part.is_empty());
+    parts.map(part).collect::<Vec<_>>().join(", ")
+}
+
+/// `preview_answer` as `PreviewAnswer`.
+fn camel(name: &str) -> String {
+    name.split('_').map(|word| word[..1].to_uppercase() + &word[1..]).collect()
+}
+
+/// The structs and calls that the header declares, in the words of Rust.
+fn declared_in_c() -> BTreeSet<String> {
+    let header = uncommented(&file("include/coordinator.h"));
+    let structs = header.split("typedef struct coordinator_").skip(1).map(|rest| {
+        let (name, rest) = rest.split_once(" {").unwrap();
+        format!("{} {{ {} }}", camel(name), in_rust(rest.split_once('}').unwrap().0, ';'))
+    });
+    let calls = header.split("\ncoordinator_").skip(1).map(|rest| {
+        let (call, parameters) = rest.split_once(");").unwrap().0.split_once('(').unwrap();
+        let (answer, name) = call.split_once(" coordinator_").unwrap();
+        format!("{name}({}) -> {}", in_rust(parameters, ','), camel(answer))
+    });
+    structs.chain(calls).collect()
+}
+
+/// The structs and calls that the crate declares.
+fn declared_in_rust() -> BTreeSet<String> {
+    let boundary = file("rust/src/boundary.rs");
+    let listed = |parts: &str| {
+        let parts = parts.split(',').map(str::trim).filter(|part| !part.is_empty());
+        parts.collect::<Vec<_>>().join(", ")
+    };
+    let structs = boundary.split("#[repr(C)]\npub struct ").skip(1).map(|rest| {
+        let (name, rest) = rest.split_once(" {").unwrap();
+        format!("{name} {{ {} }}", listed(rest.split_once('}').unwrap().0))
+    });
+    let calls = boundary.split("pub fn coordinator_").skip(1).map(|rest| {
+        let (call, answer) = rest.split_once(';').unwrap().0.split_once(") -> ").unwrap();
+        let (name, parameters) = call.split_once('(').unwrap();
+        format!("{name}({}) -> {answer}", listed(parameters))
+    });
+    structs.chain(calls).collect()
+}
+
+// Catches a field or a parameter that the header and the Rust crate have in another order or of another
+// type, and a call that one of them lacks.
+#[test]
+fn header_and_crate_declare_the_same() {
+    let (c, rust) = (declared_in_c(), declared_in_rust());
+    let preview = "preview(table: *const u32, table_len: usize, state: *const u32, state_len: usize, \
+        mv: *const u32, mv_len: usize) -> PreviewAnswer";
+    for one in ["PreviewAnswer { number: u32, entries: u32, next: u32, id: u32 }", preview] {
+        assert!(c.contains(one), "{one} is not in {c:#?}");
+    }
+    assert_eq!(c, rust);
 }
 
 /// `NoMoreIds` as `NO_MORE_IDS`.
@@ -85,10 +172,11 @@ fn upper(name: &str) -> String {
 // Catches an order of refusals in the header that is not 01's or 02's.
 #[test]
 fn the_header_gives_the_order_of_refusals() {
-    let calls: [(&str, &[u32]); 6] = [
+    let calls: [(&str, &[u32]); 7] = [
         ("check_table", &order::CHECK_TABLE),
         ("check_state", &order::CHECK_STATE),
         ("move", &order::MOVE),
+        ("preview", &order::PREVIEW),
         ("run", &order::RUN),
         ("serialize", &order::SERIALIZE),
         ("list_moves", &order::LIST_MOVES),

@@ -14,8 +14,9 @@ use std::path::Path;
 use std::process::Command;
 
 use common::demand3::Demand3;
-use common::{check_state, check_table, gives, make_move, on_target, run, serialize, shrinking, Asked, MAKE_MOVE};
-use harness::answer::{order, Answer};
+use common::{check_state, check_table, gives, make_move, on_target, preview, run, serialize, shrinking};
+use common::{Asked, MAKE_MOVE};
+use harness::answer::{order, Answer, Preview};
 use harness::markdown::{blocks, links, prose, rows, Block};
 use harness::two_lot::{self, case_a, case_c, case_d, lists_a, serial_d};
 use harness::words::{log_words, role, Atom, Entry, Move, State, Table};
@@ -145,6 +146,7 @@ fn generated() -> BTreeMap<String, String> {
         ("log d".into(), apart::log(&log_words(&case_d()), None)),
         ("lists a".into(), lists()),
         ("page".into(), page()),
+        ("previews".into(), previews()),
         ("abort mark".into(), abort_mark()),
         ("refusals".into(), refusals()),
         ("order".into(), orders()),
@@ -200,6 +202,24 @@ fn page() -> String {
     asked + apart::MOVES_HEAD + &apart::moves(first as usize, &moves)
 }
 
+/// The preview of each move of (a), and of the cases that are refused.
+fn previews() -> String {
+    let accepted = case_a().into_iter().zip(two_lot::PREVIEWS_A).enumerate();
+    let accepted = accepted.map(|(after, (mv, [entries, next, id]))| ('a', after, mv, [0, entries, next, id]));
+    let refused =
+        two_lot::refused().map(|refused| (refused.case, refused.after, refused.mv, [refused.number, 0, 0, 0]));
+    let line = |(case, moves, mv, figures): (char, usize, Move, [u32; 4])| {
+        let (table, state) = (two_lot::table(), after(moves));
+        let Preview { number, entries, next, id } = preview(&table, &state, &mv.words());
+        assert_eq!([number, entries, next, id], figures, "({case}) after {moves}");
+        // The number is that of the move, and so are the figures of the state that it leaves.
+        let (made, left) = make_move(&table, &state, &mv.words());
+        assert_eq!((made.number(), left.get(..2).unwrap_or(&[0, 0])), (figures[0], &figures[1..3]));
+        apart::preview(case, moves, mv, figures)
+    };
+    apart::PREVIEWS_HEAD.to_string() + &accepted.chain(refused).map(line).collect::<String>()
+}
+
 /// A transaction with an abort mark: a merge with it is refused, and the list has its abort alone.
 fn abort_mark() -> String {
     let (table, state, mv) = (two_lot::table(), two_lot::aborting(), two_lot::merge_with_aborting());
@@ -216,10 +236,11 @@ fn abort_mark() -> String {
 }
 
 fn orders() -> String {
-    let calls: [(&str, &[u32]); 7] = [
+    let calls: [(&str, &[u32]); 8] = [
         ("check_table", &order::CHECK_TABLE),
         ("check_state", &order::CHECK_STATE),
         ("move", &order::MOVE),
+        ("preview", &order::PREVIEW),
         ("run", &order::RUN),
         ("serialize", &order::SERIALIZE),
         ("list_moves", &order::LIST_MOVES),
@@ -323,6 +344,8 @@ fn the_c_program_has_the_words_of_01() {
     assert_eq!(c_array(&program, "start"), two_lot::start());
     assert_eq!(c_array(&program, "log_a"), log_words(&case_a()));
     assert_eq!(c_array(&program, "log_b"), log_words(&b.log()));
+    assert_eq!(c_array(&program, "begin"), case_a()[0].words());
+    assert_eq!(c_array(&program, "commit"), case_a()[5].words());
 }
 
 // Catches a link to a file that is not there.

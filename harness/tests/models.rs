@@ -3,10 +3,11 @@ mod common;
 
 use std::collections::BTreeMap;
 
-use harness::answer::Answer;
+use harness::answer::{Answer, Preview};
 use harness::generate::lists::{listed, met};
 use harness::generate::logs::{accepted, closed};
 use harness::generate::moves::open;
+use harness::generate::previews::{self, asked};
 use harness::generate::states::{messages, state};
 use harness::generate::tables::{table, Shape};
 use harness::generate::tally::Tally;
@@ -280,4 +281,38 @@ fn the_plain_code_lists_the_models_moves() {
         tally.add(met(&mut random, &table, &state, &expected));
     }
     tally.has_all(40);
+}
+
+/// The smallest id of a transaction that is not as it was, 0 if there is none.
+fn touched(before: &Solution, after: &Solution) -> u32 {
+    let ids = before.transactions.keys().chain(after.transactions.keys());
+    ids.copied().filter(|id| before.transactions.get(id) != after.transactions.get(id)).min().unwrap_or(0)
+}
+
+// Catches a preview whose figures are not those of the calculus, the plain code's too, which makes no move: the
+// molecules after the move are counted, and the transactions compared with those before it.
+#[test]
+fn previews_are_of_the_solution_after_the_move() {
+    let mut random = Random::new(605);
+    let mut tally = Tally::default();
+    for round in 0..20_000 {
+        let (table, state, words) = asked(&mut random, round);
+        let (table_words, state_words) = (table.words(), state.words());
+        let definitions = Definitions::read(&table_words).unwrap();
+        let before = Ordered::read(&definitions, &state_words).unwrap();
+        let mut after = before.clone();
+        let expected = match after.make_words(&definitions, &words, 0, 1_024) {
+            Err(number) => Preview::refused(number),
+            Ok(_) => {
+                let entries = molecules(&after.solution).len();
+                let mv = Move::from_words(&words).unwrap();
+                tally.add(previews::met(&table, &state, &mv, entries));
+                Preview::accepted(entries, after.solution.next, touched(&before.solution, &after.solution))
+            }
+        };
+        for preview in [model::preview, plain::preview] {
+            assert_eq!(preview(&table_words, &state_words, &words), expected, "{words:x?} of {table:?} {state:?}");
+        }
+    }
+    tally.has_all(20);
 }

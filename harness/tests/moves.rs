@@ -1,7 +1,8 @@
 //! The single move: all implementations on right, damaged and random input.
 mod common;
 
-use common::{check_state, gives, make_move, on_target, refused, MAKE_MOVE};
+use common::faulty::{any_words, first_fault_counts, long_noise, noise, wrong_words};
+use common::{after, check_state, every_rule, gives, make_move, on_target, refused, MAKE_MOVE};
 use harness::answer::{order, Answer};
 use harness::generate::aborting::{marked, met, number, reaction_among};
 use harness::generate::moves::{aborting, allowed, changed, consumes};
@@ -14,15 +15,6 @@ use harness::words::{act, role, Atom, Entry, Move, State, Table};
 
 fn react(rule: u32, picks: &[u32]) -> Vec<u32> {
     Move::react(rule, picks).words()
-}
-
-/// The state of the two-lot plant after these moves.
-fn after(moves: &[Move]) -> Vec<u32> {
-    moves.iter().fold(two_lot::start(), |state, mv| {
-        let (answer, words) = make_move(&two_lot::table(), &state, &mv.words());
-        assert_eq!(answer.number(), 0);
-        words
-    })
 }
 
 // Catches a coordinator that refuses all, gives the start back or has one fixed end state.
@@ -86,27 +78,11 @@ fn a_merge_takes_everything_of_each_transaction() {
     gives(make_move(&table, &stopped, &Move::abort(4).words()), &State { next: 9, entries: freed }.words());
 }
 
-/// A begin with an abort mark inside, a local rule, merge rules of one to four consumes, and a global rule.
-fn with_aborts() -> Table {
-    let merge = |picks: usize| [vec![Atom::consume(2); picks], vec![Atom::received(role::EMIT, 2, 0)]].concat();
-    let begin = vec![
-        Atom::consume(0),
-        Atom::BEGIN,
-        Atom::received(role::BODY, 1, 0),
-        Atom::received(role::BODY, 2, 0),
-        Atom::received(role::COMPENSATE, 0, 0),
-        Atom::ABORT,
-    ];
-    let local = vec![Atom::consume(1), Atom::received(role::EMIT, 1, 0)];
-    let global = vec![Atom::consume(0), Atom::received(role::EMIT, 0, 0)];
-    Table { global: 1, local: 1, merge: 1, rules: vec![begin, local, merge(1), merge(2), merge(3), merge(4), global] }
-}
-
 // Catches an abort mark that is looked for only in the first, the last or the smallest transaction of a
 // merge, or where none of the picked ones has it: every choice of transactions with a mark.
 #[test]
 fn no_pick_is_in_an_aborting_transaction() {
-    let table = with_aborts().words();
+    let table = every_rule().words();
     for marks in 0..1u32 << 4 {
         let marked = |id: u32| marks >> (id - 1) & 1 == 1;
         // Ids fall, so that the first pick is not in the smallest transaction.
@@ -149,7 +125,7 @@ fn no_pick_is_in_an_aborting_transaction() {
 // place of a small state, and in a full one the ends and what a search in chunks could miss.
 #[test]
 fn an_abort_mark_at_any_place() {
-    let table = with_aborts().words();
+    let table = every_rule().words();
     let some = [0, 1, 2, 15, 16, 31, 32, 63, 64, 127, 128, 511, 512, 1_007, 1_008, 1_021, 1_022, 1_023];
     for (n, places) in [(70, (0..70).collect()), (1_024, some.to_vec())] {
         for place in places {
@@ -170,7 +146,7 @@ fn an_abort_mark_at_any_place() {
 // Catches a begin that is refused for the abort mark inside it, and a reaction in what it began.
 #[test]
 fn a_transaction_begun_with_an_abort_mark_only_aborts() {
-    let table = with_aborts().words();
+    let table = every_rule().words();
     let start = State { next: 1, entries: vec![Entry::message(0, 0, 7)] }.words();
     let (answer, begun) = make_move(&table, &start, &react(0, &[0]));
     assert_eq!(answer, Answer::Accepted(12));
@@ -364,38 +340,12 @@ fn random_changed_moves() {
 #[test]
 fn words_of_a_move() {
     let (table, state) = (two_lot::table(), after(&case_a()[..2]));
-    let head = |head: u32| make_move(&table, &state, &[head, 0, 0, 0, 0]);
-    for head_word in
-        [0x0000_0004, 0x0001_0000, 0x00FF_FFFF, 0x0100_0000, 0x0200_0000, 0x0101_0000, 0x0201_0000, 0x01FF_FFFF]
-    {
-        refused(head(head_word), 5);
+    for (words, number) in wrong_words() {
+        refused(make_move(&table, &state, &words), number);
     }
-    for kind in 3..256 {
-        refused(head(kind << 24 | 1), 5);
-        refused(head(kind << 24), 5);
-    }
-    for head_word in [0x0100_0003, 0x0100_FFFF, 0x0200_FFFF] {
-        refused(head(head_word), 9);
-    }
-    for unused in 0..4 {
-        for word in [1, u32::MAX] {
-            let mut end = Move::commit(1).words();
-            end[1 + unused] = word;
-            refused(make_move(&table, &state, &end), 5);
-            if unused > 0 {
-                let mut one = react(1, &[1]);
-                one[1 + unused] = word;
-                refused(make_move(&table, &state, &one), 5);
-            }
-        }
-    }
-    let mut random = Random::new(303);
-    for length in (0..=12).chain([100, 100_000]) {
-        for _ in 0..200 {
-            let words: Vec<u32> = (0..length).map(|_| random.edge_word()).collect();
-            let (answer, _) = make_move(&table, &state, &words);
-            assert!(length == 5 || answer == Answer::Refused(5));
-        }
+    for words in any_words(&mut Random::new(303)) {
+        let (answer, _) = make_move(&table, &state, &words);
+        assert!(words.len() == 5 || answer == Answer::Refused(5));
     }
 }
 
@@ -438,134 +388,22 @@ fn targets_of_a_move() {
     }
 }
 
-/// A move that faults are put into.
-#[derive(Clone, Copy, Debug, PartialEq, Eq)]
-enum Kind {
-    Begin,
-    Local,
-    Merge,
-    Commit,
-}
-
-impl Kind {
-    /// The faults that a move of this kind can have besides 1 to 6. Only a begin can lack an id, and it picks
-    /// nothing inside a transaction, so 18 and 11 never meet. Messages on merge ports are always inside
-    /// transactions, so a merge has no 8. 9 and 10 are of ends.
-    fn faults(self) -> &'static [u32] {
-        match self {
-            Kind::Begin => &[7, 8, 11, 12],
-            Kind::Local => &[7, 8, 18, 12],
-            Kind::Merge => &[7, 18, 12],
-            Kind::Commit => &[9, 10],
-        }
-    }
-}
-
-/// Input of a move of this kind that has exactly the faults asked for; `wrong` is the pick with fault 7.
-fn faulty(faults: &[u32], kind: Kind, wrong: usize) -> ([Vec<u32>; 3], usize) {
-    let has = |number| faults.contains(&number);
-    let begin = vec![
-        Atom::consume(0),
-        Atom::consume(0),
-        Atom::BEGIN,
-        Atom::constant(role::BODY, 1, 0),
-        Atom::constant(role::BODY, 1, 0),
-    ];
-    let grow = |port| [vec![Atom::consume(port); 2], vec![Atom::constant(role::EMIT, port, 0); 3]].concat();
-    let other = vec![Atom::new(role::CONSUME, if has(2) { 1 } else { 0 }, 0, 0)];
-    let mut table = Table { global: 1, local: 1, merge: 1, rules: vec![begin, grow(1), grow(2), other] }.words();
-    if has(1) {
-        table.push(0);
-    }
-    let mut entries = vec![
-        Entry::message(0, 0, 1),
-        Entry::message(if has(8) { 3 } else { 0 }, 0, 2),
-        Entry::member_mark(3, 3),
-        Entry::message(3, if has(10) { 1 } else { 0 }, 2),
-        Entry::member_mark(5, 5),
-        Entry::member_mark(6, 6),
-        Entry::message(5, 1, 3),
-        Entry::message(if has(8) { 6 } else { 5 }, 1, 4),
-        Entry::message(6, 2, 5),
-        Entry::message(5, 2, 6),
-    ];
-    if has(18) {
-        entries.push(Entry::abort_mark(5));
-    }
-    let n = if has(12) { 1_024 } else { 900 };
-    entries.resize(n, Entry::message(0, 0, 9));
-    if has(4) {
-        entries[n - 1].kind = 4;
-    }
-    let mut state = State { next: if has(11) { 65_536 } else { 7 }, entries }.words();
-    if has(3) {
-        state.pop();
-    }
-    let mut mv = match kind {
-        Kind::Begin => react(0, &[0, 1]),
-        Kind::Local => react(1, &[6, 7]),
-        Kind::Merge => react(2, &[8, 9]),
-        Kind::Commit => Move::commit(if has(9) { 2 } else { 3 }).words(),
-    };
-    if has(7) {
-        mv[1 + wrong] = 1_024;
-    }
-    if has(5) {
-        mv[4] = 1;
-    }
-    ([table, state, mv], if has(6) { 2_049 } else { 2_050 })
-}
-
-// Catches refusals in another order than 01's and 02's: every set of faults that can meet in one move, and
-// with them those of others that this move does not have. Picks are tested all for 7, then for 8, then for
-// 18: the pick with 7 stands before or behind one in a transaction with an abort mark.
+// Catches refusals in another order than 01's and 02's.
 #[test]
 fn the_first_fault_counts() {
-    let kinds: [(Kind, &[u32]); 5] = [
-        (Kind::Begin, &[1, 2, 3, 4, 5, 6, 7, 8, 18, 11, 12]),
-        (Kind::Local, &[1, 2, 3, 4, 5, 6, 7, 8, 18, 11, 12]),
-        (Kind::Merge, &[1, 2, 3, 4, 5, 6, 7, 18, 11, 12]),
-        (Kind::Commit, &[1, 2, 3, 4, 5, 6, 9, 18, 12]),
-        (Kind::Commit, &[1, 2, 3, 4, 5, 6, 10, 18, 11]),
-    ];
-    for (kind, numbers) in kinds {
-        for set in 0..1u32 << numbers.len() {
-            let faults: Vec<u32> =
-                (0..numbers.len()).filter(|bit| set >> bit & 1 == 1).map(|bit| numbers[bit]).collect();
-            let counts = |number: &u32| faults.contains(number) && (*number <= 6 || kind.faults().contains(number));
-            let first = order::MOVE.into_iter().find(counts).unwrap_or(0);
-            for wrong in if faults.contains(&7) { 0..2 } else { 0..1 } {
-                let ([table, state, mv], room) = faulty(&faults, kind, wrong);
-                let (answer, _) = on_target(MAKE_MOVE, [&table, &state, &mv], room);
-                assert_eq!(answer.number(), first, "{kind:?} {faults:?}");
-            }
-        }
-    }
+    first_fault_counts(&order::MOVE, |parts, room| on_target(MAKE_MOVE, parts, room).0.number());
 }
 
 // Catches a trap on noise in any part.
 #[test]
 fn noise_gets_one_answer() {
     let mut random = Random::new(304);
-    let (table, state) = (two_lot::table(), after(&case_a()[..4]));
     for _ in 0..3_000 {
-        let mut parts = [table.clone(), state.clone(), react(1, &[1])];
-        let part = random.index(3);
-        let length = random.pick(&[0, 1, 4, 5, 6, 12, 29, 200]);
-        match random.below(3) {
-            0 => parts[part] = (0..length).map(|_| random.edge_word()).collect(),
-            _ => {
-                let at = random.index(parts[part].len());
-                parts[part][at] = random.edge_word();
-            }
-        }
+        let [table, state, mv] = noise(&mut random);
         let room = random.pick(&[0, 1, 2_049, 2_050, 2_051]);
-        on_target(MAKE_MOVE, [&parts[0], &parts[1], &parts[2]], room);
+        on_target(MAKE_MOVE, [&table, &state, &mv], room);
     }
-    let long: Vec<u32> = (0..100_000).map(|_| random.word()).collect();
-    for part in 0..3 {
-        let mut parts = [&table[..], &state[..], &[0, 0, 0, 0, 0][..]];
-        parts[part] = &long;
-        on_target(MAKE_MOVE, parts, 2_050);
+    for [table, state, mv] in long_noise(&mut random) {
+        make_move(&table, &state, &mv);
     }
 }

@@ -6,7 +6,7 @@ use std::path::Path;
 use std::thread;
 
 use common::{header_comment, Asked};
-use harness::answer::{page_on_target, page_words, Answer, OnTarget, Page};
+use harness::answer::{page_on_target, page_words, preview_on_target, Answer, OnTarget, Page};
 use harness::generate::workloads::{fours, global_log, members, merge_log, mixed, single_moves, spread, table};
 use harness::markdown::{prose, rows};
 use harness::random::Random;
@@ -25,21 +25,27 @@ struct Call {
     inputs: Vec<[Vec<u32>; 3]>,
 }
 
-fn calls() -> [Call; 6] {
+/// A page from the middle of a list, for each class of rules.
+fn pages(random: &mut Random) -> Vec<[Vec<u32>; 3]> {
+    let page = |(class, open)| {
+        let table = fours(random, [8, 4, 4], class);
+        let state = spread(random, &table, class, 1_024, open);
+        let (table, state) = (table.words(), state.words());
+        let middle = plain::list_moves(&table, &state, 0, 0, &mut []).length / 2;
+        [table, state, page_words(middle, 256)]
+    };
+    [(0, 0), (1, 300), (2, 300)].map(page).to_vec()
+}
+
+fn calls() -> [Call; 7] {
     let mut random = Random::new(802);
     let full = table(64, 512);
     let input = |state: State, third: Vec<u32>| [full.words(), state.words(), third];
     let states = vec![input(mixed(&[], 1_024), vec![]), input(members(1_024), vec![])];
-    let moves = single_moves(&full, 1_022).into_iter().map(|(_, state, mv)| input(state, mv.words())).collect();
+    let moves = single_moves(&full, 1_022).into_iter().map(|(_, state, mv)| input(state, mv.words()));
+    let moves: Vec<_> = moves.collect();
     let logs = [merge_log(&mut random, &full, 1_024, 1_024), global_log(&mut random, &full, 1_024, 1_024)];
     let logs: Vec<_> = logs.into_iter().map(|(start, log)| input(start, log_words(&log))).collect();
-    let lists = [(0, 0), (1, 300), (2, 300)].map(|(class, open)| {
-        let table = fours(&mut random, [8, 4, 4], class);
-        let state = spread(&mut random, &table, class, 1_024, open);
-        let (table, state) = (table.words(), state.words());
-        let middle = plain::list_moves(&table, &state, 0, 0, &mut []).length / 2;
-        [table, state, page_words(middle, 256)]
-    });
     [
         Call {
             name: "check_table",
@@ -53,14 +59,20 @@ fn calls() -> [Call; 6] {
             plain: |table, state, _, _| plain::check_state(table, state),
             inputs: states,
         },
-        Call { name: "move", library: library::make_move, plain: plain::make_move, inputs: moves },
+        Call { name: "move", library: library::make_move, plain: plain::make_move, inputs: moves.clone() },
+        Call {
+            name: "preview",
+            library: |table, state, mv, target| preview_on_target(library::preview, table, state, mv, target),
+            plain: |table, state, mv, target| preview_on_target(plain::preview, table, state, mv, target),
+            inputs: moves,
+        },
         Call { name: "run", library: library::run, plain: plain::run, inputs: logs.clone() },
         Call { name: "serialize", library: library::serialize, plain: plain::serialize, inputs: logs },
         Call {
             name: "list_moves",
             library: |table, state, asked, target| page_on_target(library::list_moves, table, state, asked, target),
             plain: |table, state, asked, target| page_on_target(plain::list_moves, table, state, asked, target),
-            inputs: lists.to_vec(),
+            inputs: pages(&mut random),
         },
     ]
 }
@@ -120,6 +132,7 @@ fn workloads_are_accepted() {
             assert_eq!(common::check_state(&words, &members(n).words()).number(), 0);
             for (act, state, mv) in single_moves(&table, n) {
                 assert_eq!(common::make_move(&words, &state.words(), &mv.words()).0.number(), 0, "{act}");
+                assert_eq!(common::preview(&words, &state.words(), &mv.words()).number, 0, "{act}");
             }
             for k in [16, 128] {
                 for (start, log) in [merge_log(&mut random, &table, n, k), global_log(&mut random, &table, n, k)] {

@@ -6,7 +6,7 @@ use std::env::args;
 use std::hint::black_box;
 use std::time::Instant;
 
-use harness::answer::{page_on_target, page_words, OnTarget};
+use harness::answer::{page_on_target, page_words, preview_on_target, OnTarget};
 use harness::generate::workloads::{
     fours, global_log, members, merge_log, messages, mixed, single_moves, spread, table,
 };
@@ -40,6 +40,14 @@ const CHECK_STATE: Pair = Pair {
     rust: |table, state, _, _| plain::check_state(table, state),
 };
 const MAKE_MOVE: Pair = Pair { name: "move", ours: library::make_move, rust: plain::make_move };
+const PREVIEW: Pair = Pair {
+    name: "preview",
+    ours: |table, state, mv, target| preview_on_target(library::preview, table, state, mv, target),
+    rust: |table, state, mv, target| preview_on_target(plain::preview, table, state, mv, target),
+};
+/// Plain Rust on a state's words in place.
+const IN_PLACE: OnTarget =
+    |table, state, mv, target| preview_on_target(plain::preview_in_place, table, state, mv, target);
 const RUN: Pair = Pair { name: "run", ours: library::run, rust: plain::run };
 const SERIALIZE: Pair = Pair { name: "serialize", ours: library::serialize, rust: plain::serialize };
 const LIST_MOVES: Pair = Pair {
@@ -56,7 +64,7 @@ struct Effort {
     round: u64,
 }
 
-/// The best times of one call, in nanoseconds.
+/// The best times of one call and of what it is measured beside, in nanoseconds.
 #[derive(Clone, Copy)]
 struct Times {
     ours: f64,
@@ -87,6 +95,8 @@ struct Bench {
     growth: Vec<Growth>,
     /// The ratios of each call.
     ratios: Vec<(&'static str, Vec<f64>)>,
+    /// Our times of a preview beside those of other calls, by input.
+    beside: Vec<(String, [Times; 2])>,
     /// The deepest stack of each call.
     stack: Vec<(&'static str, usize)>,
 }
@@ -135,6 +145,7 @@ impl Bench {
             copies: Vec::new(),
             growth: Vec::new(),
             ratios: Vec::new(),
+            beside: Vec::new(),
             stack: Vec::new(),
         }
     }
@@ -150,41 +161,17 @@ impl Bench {
 
     /// Measures both on the same inputs, which are taken in turn, and prints a row.
     fn row(&mut self, pair: &Pair, what: &str, table: &Table, inputs: &[Input]) -> Times {
-        let table = table.words();
-        let inputs: Vec<(Vec<u32>, &[u32])> = inputs.iter().map(|(state, third)| (state.words(), &third[..])).collect();
-        let room = inputs.iter().map(|(_, third)| third.len()).fold(STATE_TARGET, usize::max);
-        let (mut ours, mut rust) = (vec![0; room], vec![0; room]);
-        for (state, third) in &inputs {
-            let answer = (pair.ours)(&table, state, third, &mut ours);
-            assert_eq!(answer, (pair.rust)(&table, state, third, &mut rust), "{} {what}", pair.name);
-            assert!(ours == rust && answer.number() == 0, "{} {what}: {answer:?}", pair.name);
-        }
-
-        let (mut turns_ours, mut turns_rust) = (inputs.iter().cycle(), inputs.iter().cycle());
-        let mut call_ours = || {
-            let (state, third) = turns_ours.next().unwrap();
-            black_box((pair.ours)(black_box(&table), black_box(state), black_box(third), black_box(&mut ours)));
-        };
-        let mut call_rust = || {
-            let (state, third) = turns_rust.next().unwrap();
-            black_box((pair.rust)(black_box(&table), black_box(state), black_box(third), black_box(&mut rust)));
-        };
-        let turns = inputs.len();
-        let (of_ours, of_rust) =
-            (repeats(self.effort, turns, &mut call_ours), repeats(self.effort, turns, &mut call_rust));
-        let mut times = Times { ours: f64::MAX, rust: f64::MAX };
-        for _ in 0..self.effort.rounds {
-            times.ours = times.ours.min(nanoseconds(of_ours, &mut call_ours));
-            times.rust = times.rust.min(nanoseconds(of_rust, &mut call_rust));
-        }
-        let (state, third) = &inputs[0];
+        let words = Words::new(table, inputs);
+        words.agree(pair, what);
+        let times = words.times(self.effort, pair.ours, pair.rust);
+        let (state, third) = &words.inputs[0];
         // A table's check has no state.
         let copies = match state.len() {
             2 => "-".into(),
             words => format!("{:.0}", times.ours / self.copy_time(words)),
         };
         println!(
-            "| {:<11} | {what:<46} | {:>5.2} | {:>10.2} | {:>10.2} | {copies:>7} |",
+            "| {:<11} | {what:<46} | {:>5.2} | {:>10.3} | {:>10.3} | {copies:>7} |",
             pair.name,
             times.ratio(),
             times.ours / 1e3,
@@ -194,10 +181,62 @@ impl Bench {
             Some((_, ratios)) => ratios.push(times.ratio()),
             None => self.ratios.push((pair.name, vec![times.ratio()])),
         }
+        let mut target = words.target();
         let used = stack::used(|| {
-            (pair.ours)(&table, state, third, &mut ours);
+            (pair.ours)(&words.table, state, third, &mut target);
         });
         note(&mut self.stack, pair.name, used);
+        times
+    }
+}
+
+/// The words of a table and of inputs under it.
+struct Words<'a> {
+    table: Vec<u32>,
+    inputs: Vec<(Vec<u32>, &'a [u32])>,
+}
+
+impl<'a> Words<'a> {
+    fn new(table: &Table, inputs: &'a [Input]) -> Words<'a> {
+        let inputs = inputs.iter().map(|(state, third)| (state.words(), &third[..])).collect();
+        Words { table: table.words(), inputs }
+    }
+
+    /// A target that is long enough for every call.
+    fn target(&self) -> Vec<u32> {
+        vec![0; self.inputs.iter().map(|(_, third)| third.len()).fold(STATE_TARGET, usize::max)]
+    }
+
+    /// Both accept each input with the same answer and target.
+    fn agree(&self, pair: &Pair, what: &str) {
+        let (mut ours, mut rust) = (self.target(), self.target());
+        for (state, third) in &self.inputs {
+            let answer = (pair.ours)(&self.table, state, third, &mut ours);
+            assert_eq!(answer, (pair.rust)(&self.table, state, third, &mut rust), "{} {what}", pair.name);
+            assert!(ours == rust && answer.number() == 0, "{} {what}: {answer:?}", pair.name);
+        }
+    }
+
+    /// The call on one input after the other.
+    fn in_turn(&self, call: OnTarget) -> impl FnMut() + use<'_, 'a> {
+        let mut turns = self.inputs.iter().cycle();
+        let mut target = self.target();
+        move || {
+            let (state, third) = turns.next().unwrap();
+            black_box(call(black_box(&self.table), black_box(state), black_box(third), black_box(&mut target)));
+        }
+    }
+
+    /// The best times of two calls in interleaved rounds.
+    fn times(&self, effort: Effort, ours: OnTarget, rust: OnTarget) -> Times {
+        let (mut ours, mut rust) = (self.in_turn(ours), self.in_turn(rust));
+        let turns = self.inputs.len();
+        let (of_ours, of_rust) = (repeats(effort, turns, &mut ours), repeats(effort, turns, &mut rust));
+        let mut times = Times { ours: f64::MAX, rust: f64::MAX };
+        for _ in 0..effort.rounds {
+            times.ours = times.ours.min(nanoseconds(of_ours, &mut ours));
+            times.rust = times.rust.min(nanoseconds(of_rust, &mut rust));
+        }
         times
     }
 }
@@ -261,16 +300,21 @@ impl Bench {
         }
     }
 
-    fn make_move(&mut self) {
+    /// A call on a single move of each kind, and our own time beside those of two others on the same inputs.
+    fn single(&mut self, pair: &Pair, others: Option<[OnTarget; 2]>) {
         for Named(name, table) in [self.small.clone(), self.full.clone()] {
             for (kind, &(act, ..)) in single_moves(&table, 16).iter().enumerate() {
-                let mut line = Growth::new(format!("move, {act}, {name}"));
+                let mut line = Growth::new(format!("{}, {act}, {name}", pair.name));
                 for &n in self.entries {
                     // A begin adds two entries.
                     let n = n.min(1_022);
                     let (_, state, mv) = single_moves(&table, n).swap_remove(kind);
-                    let what = format!("{name}, {n} entries, {act}");
-                    line.push(n, self.row(&MAKE_MOVE, &what, &table, &[(state, mv.words().to_vec())]));
+                    let (what, inputs) = (format!("{name}, {n} entries, {act}"), [(state, mv.words())]);
+                    line.push(n, self.row(pair, &what, &table, &inputs));
+                    if let Some(others) = others {
+                        let words = Words::new(&table, &inputs);
+                        self.beside.push((what, others.map(|other| words.times(self.effort, pair.ours, other))));
+                    }
                 }
                 self.growth.push(line);
             }
@@ -336,11 +380,54 @@ type Measure = fn(&mut Bench);
 const CALLS: &[(&str, Measure)] = &[
     (CHECK_TABLE.name, Bench::check_table),
     (CHECK_STATE.name, Bench::check_state),
-    (MAKE_MOVE.name, Bench::make_move),
+    (MAKE_MOVE.name, |bench| bench.single(&MAKE_MOVE, None)),
+    (PREVIEW.name, |bench| bench.single(&PREVIEW, Some([MAKE_MOVE.ours, IN_PLACE]))),
     (RUN.name, |bench| bench.logs(&RUN)),
     (SERIALIZE.name, |bench| bench.logs(&SERIALIZE)),
     (LIST_MOVES.name, Bench::list_moves),
 ];
+
+/// What is printed behind the rows.
+impl Bench {
+    fn growth(&self) {
+        println!("\nHow the cost grows with the size (atoms, entries or moves):\n");
+        println!("| {:<35} | size          |  size |  ours |  Rust |", "call");
+        println!("|{:-<37}|---------------|-------|-------|-------|", "");
+        self.growth.iter().for_each(Growth::print);
+    }
+
+    fn beside(&self) {
+        if self.beside.is_empty() {
+            return;
+        }
+        println!("\nOur preview beside our move, and beside plain Rust on the state's words in place:\n");
+        println!("| {:<35} | / move | preview in µs | move in µs | / in place | preview in µs | Rust in µs |", "input");
+        println!("|{:-<37}|--------|---------------|------------|------------|---------------|------------|", "");
+        for (what, [made, in_place]) in &self.beside {
+            let [a, b, c, d] = [made.ours, made.rust, in_place.ours, in_place.rust].map(|time| time / 1e3);
+            let (made, in_place) = (made.ratio(), in_place.ratio());
+            println!("| {what:<35} | {made:>6.2} | {a:>13.3} | {b:>10.3} | {in_place:>10.2} | {c:>13.3} | {d:>10.3} |");
+        }
+    }
+
+    fn copies(&mut self) {
+        println!("\nOne memcpy of the state's words:\n");
+        for &n in self.entries {
+            println!("- {n} entries: {:.3} µs", self.copy_time(2 + 2 * n) / 1e3);
+        }
+    }
+
+    fn worst(&mut self) {
+        println!("\nThe worst and the median ratio and the deepest stack of each call:\n");
+        println!("| {:<11} | worst | median | stack in bytes |", "call");
+        println!("|{:-<13}|-------|--------|----------------|", "");
+        for ((name, ratios), (_, stack)) in self.ratios.iter_mut().zip(&self.stack) {
+            ratios.sort_by(f64::total_cmp);
+            let (worst, median) = (ratios[ratios.len() - 1], ratios[ratios.len() / 2]);
+            println!("| {name:<11} | {worst:>5.2} | {median:>6.2} | {stack:>14} |");
+        }
+    }
+}
 
 fn main() {
     let (flags, chosen): (Vec<String>, Vec<String>) = args().skip(1).partition(|argument| argument == "--smoke");
@@ -360,22 +447,8 @@ fn main() {
         }
     }
 
-    println!("\nHow the cost grows with the size (atoms, entries or moves):\n");
-    println!("| {:<35} | size          |  size |  ours |  Rust |", "call");
-    println!("|{:-<37}|---------------|-------|-------|-------|", "");
-    bench.growth.iter().for_each(Growth::print);
-
-    println!("\nOne memcpy of the state's words:\n");
-    for &n in bench.entries {
-        println!("- {n} entries: {:.3} µs", bench.copy_time(2 + 2 * n) / 1e3);
-    }
-
-    println!("\nThe worst and the median ratio and the deepest stack of each call:\n");
-    println!("| {:<11} | worst | median | stack in bytes |", "call");
-    println!("|{:-<13}|-------|--------|----------------|", "");
-    for ((name, ratios), (_, stack)) in bench.ratios.iter_mut().zip(&bench.stack) {
-        ratios.sort_by(f64::total_cmp);
-        let (worst, median) = (ratios[ratios.len() - 1], ratios[ratios.len() / 2]);
-        println!("| {name:<11} | {worst:>5.2} | {median:>6.2} | {stack:>14} |");
-    }
+    bench.growth();
+    bench.beside();
+    bench.copies();
+    bench.worst();
 }

@@ -1,12 +1,12 @@
-//! One log, or a page of one list, ten times through a call and ten times through its plain counterpart:
-//! run it under `valgrind --tool=callgrind` to count the instructions of both. Or the bytes of an input, to
-//! count those of the program.
+//! One log, one move, or a page of one list, ten times through a call and ten times through its plain
+//! counterpart: run it under `valgrind --tool=callgrind` to count the instructions of both. Or the bytes of an
+//! input, to count those of the program.
 use std::env::args;
 use std::hint::black_box;
 use std::io::{stdout, Write};
 
-use harness::answer::{page_on_target, page_words, OnTarget};
-use harness::generate::workloads::{fours, global_log, merge_log, spread, table};
+use harness::answer::{page_on_target, page_words, preview_on_target, OnTarget};
+use harness::generate::workloads::{fours, global_log, merge_log, single_moves, spread, table};
 use harness::program;
 use harness::random::Random;
 use harness::words::{log_words, STATE_TARGET};
@@ -14,7 +14,7 @@ use harness::{library, plain};
 
 const CALLS: usize = 10;
 
-/// Table, state, and log or page.
+/// Table, state, and log, move or page.
 type Input = [Vec<u32>; 3];
 
 /// The log of a run, of this kind.
@@ -23,6 +23,14 @@ fn log(kind: &str, entries: usize, moves: usize) -> Input {
     let table = table(64, 512);
     let (start, log) = make(&mut Random::new(801), &table, entries, moves);
     [table.words(), start.words(), log_words(&log)]
+}
+
+/// A move of this kind.
+fn single(kind: &str, entries: usize) -> Input {
+    let table = table(64, 512);
+    let of_kind = |(act, ..): &(&str, _, _)| *act == kind;
+    let (_, state, mv) = single_moves(&table, entries).into_iter().find(of_kind).expect("a kind of move");
+    [table.words(), state.words(), mv.words()]
 }
 
 /// A page from the middle of a list of this kind; no moves for its length alone.
@@ -46,20 +54,15 @@ fn input(kind: &str, entries: usize, moves: usize) -> Vec<u8> {
     program::input(&table, &state, &log)
 }
 
-fn main() {
-    let arguments: Vec<String> = args().skip(1).collect();
-    let words: Vec<&str> = arguments.iter().map(String::as_str).collect();
-    let &[call, kind, entries, moves] = words.as_slice() else {
-        panic!(
-            "usage: count run|serialize merges|global ENTRIES MOVES, list_moves local|global ENTRIES MOVES, \
-             or input merges|global|refused ENTRIES MOVES"
-        );
-    };
-    let (entries, moves) = (entries.parse().unwrap(), moves.parse().unwrap());
-    if call == "input" {
-        return stdout().write_all(&input(kind, entries, moves)).unwrap();
-    }
-    let (ours, rust, input): (OnTarget, OnTarget, Input) = match call {
+/// A call, its plain counterpart and their input.
+fn measured(call: &str, kind: &str, entries: usize, moves: usize) -> (OnTarget, OnTarget, Input) {
+    match call {
+        "move" => (library::make_move, plain::make_move, single(kind, entries)),
+        "preview" => (
+            |table, state, mv, target| preview_on_target(library::preview, table, state, mv, target),
+            |table, state, mv, target| preview_on_target(plain::preview, table, state, mv, target),
+            single(kind, entries),
+        ),
         "run" => (library::run, plain::run, log(kind, entries, moves)),
         "serialize" => (library::serialize, plain::serialize, log(kind, entries, moves)),
         "list_moves" => (
@@ -67,8 +70,26 @@ fn main() {
             |table, state, asked, target| page_on_target(plain::list_moves, table, state, asked, target),
             page(kind, entries, moves),
         ),
-        other => panic!("{other} is no call that takes a log or lists moves"),
+        other => panic!("{other} is no call that takes a move or a log or lists moves"),
+    }
+}
+
+fn main() {
+    let arguments: Vec<String> = args().skip(1).collect();
+    let words: Vec<&str> = arguments.iter().map(String::as_str).collect();
+    let (call, kind, entries, moves) = match words[..] {
+        [call @ ("move" | "preview"), kind, entries] => (call, kind, entries, "1"),
+        [call, kind, entries, moves] => (call, kind, entries, moves),
+        _ => panic!(
+            "usage: count move|preview global|begin|local|merge|commit|abort ENTRIES, run|serialize merges|global \
+             ENTRIES MOVES, list_moves local|global ENTRIES MOVES, or input merges|global|refused ENTRIES MOVES"
+        ),
     };
+    let (entries, moves) = (entries.parse().unwrap(), moves.parse().unwrap());
+    if call == "input" {
+        return stdout().write_all(&input(kind, entries, moves)).unwrap();
+    }
+    let (ours, rust, input) = measured(call, kind, entries, moves);
     let [table, state, third] = input;
     let mut target = vec![0; STATE_TARGET.max(third.len())];
     for call in [ours, rust] {

@@ -3,7 +3,7 @@ use super::colours;
 use super::definitions::{Definitions, Product};
 use super::list::Tried;
 use super::ordered::{Made, Ordered};
-use crate::answer::{Answer, Page};
+use crate::answer::{Answer, Page, Preview};
 use crate::words::{
     log_from_words, log_words, page_target, Move, MAX_ENTRIES, MAX_MOVES, MAX_PAGE_MOVES, STATE_TARGET,
 };
@@ -32,6 +32,14 @@ pub fn make_move(table: &[u32], state: &[u32], mv: &[u32], target: &mut [u32]) -
         Ok(words) => Answer::write(&words, target),
         Err(number) => Answer::Refused(number),
     }
+}
+
+pub fn preview(table: &[u32], state: &[u32], mv: &[u32]) -> Preview {
+    let previewed = || {
+        let definitions = Definitions::read(table)?;
+        Ordered::read(&definitions, state)?.preview(&definitions, mv)
+    };
+    previewed().unwrap_or_else(Preview::refused)
 }
 
 /// What the calls on logs read, up to refusal 13.

@@ -1,13 +1,16 @@
 //! The state check, loading and storing.
+use std::ops::Deref;
+
 use super::table::Table;
 use crate::answer::Answer;
 use crate::words::{kind, MAX_ENTRIES, MAX_NEXT};
 
+/// A state in columns: those of its words, or its own, in which moves are made.
 #[derive(Clone, Debug)]
-pub struct State {
+pub struct State<C = Vec<u32>> {
     pub next: u32,
-    pub owners: Vec<u32>,
-    pub items: Vec<u32>,
+    pub owners: C,
+    pub items: C,
     /// How many of the items are abort marks: where there is none, no reaction has to look for one.
     pub aborts: usize,
 }
@@ -50,31 +53,23 @@ impl Marks {
     }
 }
 
-impl State {
-    pub fn read(table: &Table, words: &[u32]) -> Result<State, u32> {
-        let &[n, next, ref rest @ ..] = words else { return Err(3) };
-        let n = n as usize;
-        if n > MAX_ENTRIES || next == 0 || next > MAX_NEXT || rest.len() != 2 * n {
-            return Err(3);
-        }
-        let (owners, items) = rest.split_at(n);
-        // Room for one reaction's products, so that a move does not reallocate.
-        let room = || Vec::with_capacity(n + 16);
-        let mut state = State { next, owners: room(), items: room(), aborts: 0 };
-        state.owners.extend_from_slice(owners);
-        state.items.extend_from_slice(items);
-        if state.checked(table) {
-            Ok(state)
-        } else {
-            Err(4)
-        }
+/// The next id and the columns of words that have the sizes of a state.
+fn sized(words: &[u32]) -> Result<(u32, &[u32], &[u32]), u32> {
+    let &[n, next, ref rest @ ..] = words else { return Err(3) };
+    let n = n as usize;
+    if n > MAX_ENTRIES || next == 0 || next > MAX_NEXT || rest.len() != 2 * n {
+        return Err(3);
     }
+    let (owners, items) = rest.split_at(n);
+    Ok((next, owners, items))
+}
 
+impl<C: Deref<Target = [u32]>> State<C> {
     /// Whether the entries fit the table; the abort marks are counted on the way.
     fn checked(&mut self, table: &Table) -> bool {
         let mut members = Marks::new();
         let mut named = Marks::new();
-        for (&owner, &item) in self.owners.iter().zip(&self.items) {
+        for (&owner, &item) in self.owners.iter().zip(&self.items[..]) {
             let (port, value) = (item >> 16 & 0xFF, item & 0xFFFF);
             let fits = match item >> 24 {
                 kind::MESSAGE => port < if owner == 0 { table.global } else { table.ports },
@@ -98,6 +93,35 @@ impl State {
             }
         }
         self.owners.iter().all(|&owner| owner == 0 || (owner < MAX_NEXT && named.has(owner)))
+    }
+}
+
+impl<'a> State<&'a [u32]> {
+    /// The words of a state under this table; nothing is copied.
+    pub fn of_words(table: &Table, words: &'a [u32]) -> Result<State<&'a [u32]>, u32> {
+        let (next, owners, items) = sized(words)?;
+        let mut state = State { next, owners, items, aborts: 0 };
+        if state.checked(table) {
+            Ok(state)
+        } else {
+            Err(4)
+        }
+    }
+}
+
+impl State {
+    pub fn read(table: &Table, words: &[u32]) -> Result<State, u32> {
+        let (next, owners, items) = sized(words)?;
+        // Room for one reaction's products, so that a move does not reallocate.
+        let room = || Vec::with_capacity(owners.len() + 16);
+        let mut state = State { next, owners: room(), items: room(), aborts: 0 };
+        state.owners.extend_from_slice(owners);
+        state.items.extend_from_slice(items);
+        if state.checked(table) {
+            Ok(state)
+        } else {
+            Err(4)
+        }
     }
 
     pub fn write(&self, target: &mut [u32]) -> Answer {

@@ -2,7 +2,8 @@
 use std::ops::Range;
 
 use super::state::State;
-use super::table::{Class, Rule, Table};
+use super::table::{Rule, Table};
+use super::verdict::Reaction;
 use crate::words::{act, kind, role, MAX_ENTRIES, MAX_NEXT};
 
 /// A move whose words are in range.
@@ -14,6 +15,12 @@ pub enum Call {
 }
 
 impl Call {
+    /// A move in words, and its picks.
+    pub fn of_words<'a>(table: &Table, words: &'a [u32]) -> Result<(Call, &'a [u32; 4]), u32> {
+        let &[head, ref picks @ ..] = <&[u32; 5]>::try_from(words).map_err(|_| 5u32)?;
+        Ok((Call::read(table, head, picks)?, picks))
+    }
+
     pub fn read(table: &Table, head: u32, picks: &[u32; 4]) -> Result<Call, u32> {
         let number = head & 0xFF_FFFF;
         let id = (1..MAX_NEXT).contains(&number);
@@ -65,8 +72,8 @@ impl State {
     ) -> Result<u32, u32> {
         let made = match call {
             Call::React(rule) => self.react(table, rule, &picks[..rule.consumes], ceiling, beside),
-            Call::Commit(id) => self.commit(table, id, beside),
-            Call::Abort(id) => self.abort(id, beside),
+            Call::Commit(id) => self.may_commit(table, id).map(|_| self.end(id, kind::MESSAGE, beside)),
+            Call::Abort(id) => self.may_abort(id).map(|_| self.end(id, kind::COMPENSATION, beside)),
         };
         debug_assert_eq!(self.aborts, self.items.iter().filter(|&item| item >> 24 == kind::ABORT_MARK).count());
         made
@@ -81,47 +88,11 @@ impl State {
         beside: &mut impl Beside,
     ) -> Result<u32, u32> {
         let atoms = &table.atoms[rule.first..rule.end];
-        let n = self.items.len();
-        let mut received = [0; 4];
-        let mut owners = [0; 4];
-        for (k, (&pick, atom)) in picks.iter().zip(atoms).enumerate() {
-            let at = pick as usize;
-            // A message's item above its value is its port, and so is a consume atom's.
-            if at >= n || picks[..k].contains(&pick) || self.items[at] >> 16 != atom >> 16 {
-                return Err(7);
-            }
-            received[k] = self.items[at] & 0xFFFF;
-            owners[k] = self.owners[at];
-        }
-        // Four owners always, so that a merge compares with all at once.
-        let first = owners[0];
-        owners[picks.len()..].fill(first);
-        let owner = *owners.iter().min().unwrap();
-        let one = owners.iter().all(|&other| other == owner);
-        let fits = match rule.class {
-            Class::Global => one && owner == 0,
-            Class::Local => one,
-            Class::Merge => true,
-        };
-        if !fits {
-            return Err(8);
-        }
-        if rule.class != Class::Global && self.aborts > 0 && self.aborting(&owners) {
-            return Err(18);
-        }
-        if rule.begins && self.next == MAX_NEXT {
-            return Err(11);
-        }
+        let Reaction { received, owners, owner, one, .. } = self.may_react(rule, atoms, picks, ceiling)?;
         let products = &atoms[rule.consumes..];
-        if n - rule.consumes + products.len() > ceiling {
-            return Err(12);
-        }
         self.remove(picks, beside);
         if !one {
-            for other in &mut self.owners {
-                let merges = owners.iter().fold(false, |found, picked| found | (picked == other));
-                *other = if merges { owner } else { *other };
-            }
+            self.merge(&owners, owner);
         }
         let mut inside = owner;
         for (product, &atom) in products.iter().enumerate() {
@@ -147,20 +118,12 @@ impl State {
         Ok(inside)
     }
 
-    /// Whether one of these transactions has an abort mark.
-    fn aborting(&self, ids: &[u32; 4]) -> bool {
-        const MARK: u32 = kind::ABORT_MARK << 24;
-        // A chunk is compared at once, and only one that has a mark with its owners.
-        let has_mark = |items: &[u32]| items.iter().fold(false, |found, &item| found | (item == MARK));
-        let marks_one = |items: &[u32], owners: &[u32]| {
-            items.iter().zip(owners).fold(false, |found, (&item, owner)| {
-                found | ((item == MARK) & ids.iter().fold(false, |found, id| found | (id == owner)))
-            })
-        };
-        let (items, last) = self.items.as_chunks::<32>();
-        let (owners, last_owners) = self.owners.as_chunks::<32>();
-        items.iter().zip(owners).any(|(items, owners)| has_mark(items) && marks_one(items, owners))
-            || (has_mark(last) && marks_one(last, last_owners))
+    /// All that these transactions own becomes that of one of them.
+    fn merge(&mut self, ids: &[u32; 4], id: u32) {
+        for other in &mut self.owners {
+            let merges = ids.iter().fold(false, |found, picked| found | (picked == other));
+            *other = if merges { id } else { *other };
+        }
     }
 
     /// Takes the picked entries out of the columns.
@@ -191,45 +154,8 @@ impl State {
         beside.cut(len);
     }
 
-    fn commit(&mut self, table: &Table, id: u32, beside: &mut impl Beside) -> Result<u32, u32> {
-        let (mut open, mut finished) = (false, true);
-        for (&owner, &item) in self.owners.iter().zip(&self.items) {
-            if owner == id {
-                open = true;
-                finished &= match item >> 24 {
-                    kind::MESSAGE => item >> 16 < table.global,
-                    other => other != kind::ABORT_MARK,
-                };
-            }
-        }
-        if !open {
-            return Err(9);
-        }
-        if !finished {
-            return Err(10);
-        }
-        self.end(id, kind::MESSAGE, beside);
-        Ok(id)
-    }
-
-    fn abort(&mut self, id: u32, beside: &mut impl Beside) -> Result<u32, u32> {
-        let (mut open, mut marked) = (false, false);
-        for (&owner, &item) in self.owners.iter().zip(&self.items) {
-            open |= owner == id;
-            marked |= owner == id && item >> 24 == kind::ABORT_MARK;
-        }
-        if !open {
-            return Err(9);
-        }
-        if !marked {
-            return Err(10);
-        }
-        self.end(id, kind::COMPENSATION, beside);
-        Ok(id)
-    }
-
-    /// The transaction's entries of this kind become global messages in their places.
-    fn end(&mut self, id: u32, freed: u32, beside: &mut impl Beside) {
+    /// The transaction's entries of this kind become global messages in their places; gives its id.
+    fn end(&mut self, id: u32, freed: u32, beside: &mut impl Beside) -> u32 {
         let n = self.items.len();
         let (mut kept, mut to) = (0, 0);
         for at in 0..n {
@@ -247,5 +173,6 @@ impl State {
         }
         to = self.shift(kept..n, to, beside);
         self.cut(to, beside);
+        id
     }
 }

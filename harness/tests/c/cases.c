@@ -1,6 +1,6 @@
 /*
- * 01's cases (a) to (h) on the two-lot plant, the lists of its moves, and a transaction with an abort mark,
- * through the header. Prints what fails, and how many.
+ * 01's cases (a) to (h) on the two-lot plant, the previews and lists of its moves, and a transaction with an
+ * abort mark, through the header. Prints what fails, and how many.
  */
 #include "coordinator.h"
 
@@ -150,6 +150,87 @@ static void by_moves(void)
            coordinator_move(table, LENGTH(table), start, LENGTH(start), case_a[0], COORDINATOR_MOVE_WORDS - 1, target,
                             COORDINATOR_STATE_TARGET_WORDS),
            COORDINATOR_MOVE_FORM, 0, 0, 0);
+}
+
+/* Four words in this order, and nothing between or behind them. */
+_Static_assert(offsetof(coordinator_preview_answer, number) == 0, "number");
+_Static_assert(offsetof(coordinator_preview_answer, entries) == 4, "entries");
+_Static_assert(offsetof(coordinator_preview_answer, next) == 8, "next");
+_Static_assert(offsetof(coordinator_preview_answer, id) == 12, "id");
+_Static_assert(sizeof(coordinator_preview_answer) == 16, "a preview's answer");
+
+static void expect_preview(const char *what, coordinator_preview_answer got, uint32_t number, uint32_t entries,
+                           uint32_t next, uint32_t id)
+{
+    if (got.number != number || got.entries != entries || got.next != next || got.id != id) {
+        printf("%s: %u %u %u %u, not %u %u %u %u\n", what, (unsigned)got.number, (unsigned)got.entries,
+               (unsigned)got.next, (unsigned)got.id, (unsigned)number, (unsigned)entries, (unsigned)next,
+               (unsigned)id);
+        failures++;
+    }
+}
+
+/* The preview of a move after some moves of a log. */
+static coordinator_preview_answer preview(const char *what, const mv *list, size_t after, const uint32_t *move)
+{
+    uint32_t state[COORDINATOR_STATE_TARGET_WORDS];
+    size_t len = moves(what, list, after, state);
+    return coordinator_preview(table, LENGTH(table), state, len, move, COORDINATOR_MOVE_WORDS);
+}
+
+static void by_previews(void)
+{
+    static const uint32_t figures[LENGTH(case_a)][3] = {
+        {4, 2, 1}, {6, 3, 2}, {6, 3, 1}, {6, 3, 2}, {6, 3, 1}, {2, 3, 1},
+    };
+    static const mv turned = {2, 5, 4};
+    size_t at;
+    for (at = 0; at < LENGTH(case_a); at++) {
+        expect_preview("a preview of (a)", preview("before a preview", case_a, at, case_a[at]), COORDINATOR_ACCEPTED,
+                       figures[at][0], figures[at][1], figures[at][2]);
+    }
+    expect_preview("the merge from the other side", preview("before a preview", case_a, 4, turned),
+                   COORDINATOR_ACCEPTED, 6, 3, 1);
+    expect_preview("(c): the mark", preview("before a preview", case_c, 3, case_c[3]), COORDINATOR_ACCEPTED, 6, 3, 2);
+    expect_preview("(c): the abort", preview("before a preview", case_c, 4, case_c[4]), COORDINATOR_ACCEPTED, 4, 3, 2);
+    for (at = 0; at < LENGTH(refused); at++) {
+        expect_preview(refused[at].name, preview(refused[at].name, case_a, refused[at].moves, refused[at].last),
+                       refused[at].number, 0, 0, 0);
+    }
+}
+
+/* Previews that the plant's logs do not have: missing lists, the last ids, a rule without begin. */
+static void by_odd_previews(void)
+{
+    expect_preview("no table", coordinator_preview(NULL, 0, NULL, 0, NULL, 0), COORDINATOR_TABLE_SIZES, 0, 0, 0);
+    expect_preview("no state", coordinator_preview(table, LENGTH(table), NULL, 0, NULL, 0), COORDINATOR_STATE_SIZES, 0,
+                   0, 0);
+    expect_preview("no move", coordinator_preview(table, LENGTH(table), start, LENGTH(start), NULL, 0),
+                   COORDINATOR_MOVE_FORM, 0, 0, 0);
+    expect_preview("a move of four words",
+                   coordinator_preview(table, LENGTH(table), start, LENGTH(start), case_a[0],
+                                       COORDINATOR_MOVE_WORDS - 1),
+                   COORDINATOR_MOVE_FORM, 0, 0, 0);
+    {
+        /* The largest next id, and the largest id of a transaction. */
+        const uint32_t last[COORDINATOR_STATE_WORDS(1)] = {1, COORDINATOR_MAX_NEXT - 1, 0, 7};
+        const uint32_t used_up[COORDINATOR_STATE_WORDS(1)] = {1, COORDINATOR_MAX_NEXT, 0, 7};
+        expect_preview("the last id",
+                       coordinator_preview(table, LENGTH(table), last, LENGTH(last), case_a[0], COORDINATOR_MOVE_WORDS),
+                       COORDINATOR_ACCEPTED, 3, COORDINATOR_MAX_NEXT, COORDINATOR_MAX_NEXT - 1);
+        expect_preview("no id left",
+                       coordinator_preview(table, LENGTH(table), used_up, LENGTH(used_up), case_a[0],
+                                           COORDINATOR_MOVE_WORDS),
+                       COORDINATOR_NO_MORE_IDS, 0, 0, 0);
+    }
+    {
+        /* A global rule that emits what it consumes: no transaction is concerned. */
+        const uint32_t global[COORDINATOR_TABLE_WORDS(2)] = {2, 0, 0, 1, 2, 0, 0, 0x00000000, 0x11010000};
+        expect_preview("a global rule without begin",
+                       coordinator_preview(global, LENGTH(global), start, LENGTH(start), case_a[0],
+                                           COORDINATOR_MOVE_WORDS),
+                       COORDINATOR_ACCEPTED, 2, 1, 0);
+    }
 }
 
 static uint32_t log_words[COORDINATOR_LOG_WORDS(16)];
@@ -319,6 +400,12 @@ static void by_abort_mark(void)
                            target, COORDINATOR_STATE_TARGET_WORDS),
            COORDINATOR_MOVE_REFUSED, 0, 0, COORDINATOR_TRANSACTION_ABORTING);
     expect_target("a merge with an abort mark", NULL, 0);
+    expect_preview("a preview of that merge",
+                   coordinator_preview(table, LENGTH(table), stopped, LENGTH(stopped), list[0], COORDINATOR_MOVE_WORDS),
+                   COORDINATOR_TRANSACTION_ABORTING, 0, 0, 0);
+    expect_preview("a preview of the abort",
+                   coordinator_preview(table, LENGTH(table), stopped, LENGTH(stopped), list[1], COORDINATOR_MOVE_WORDS),
+                   COORDINATOR_ACCEPTED, 4, 3, 2);
     expect_page("a list with an abort mark",
                 coordinator_list_moves(table, LENGTH(table), stopped, LENGTH(stopped), 0, 8, target,
                                        COORDINATOR_PAGE_TARGET_WORDS(8u)),
@@ -336,6 +423,8 @@ int main(void)
 {
     checks();
     by_moves();
+    by_previews();
+    by_odd_previews();
     by_runs();
     by_serial_logs();
     by_lists();

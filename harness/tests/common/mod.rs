@@ -2,12 +2,15 @@
 // Each test file uses a part of this.
 #![allow(dead_code)]
 pub mod demand3;
+pub mod faulty;
 
 use std::fmt::Debug;
 use std::fs;
+use std::hint::black_box;
 use std::path::Path;
 
-use harness::answer::{Answer, OnPage, OnTarget, Page};
+use harness::answer::{order, Answer, OnMove, OnPage, OnTarget, Page, Preview};
+use harness::two_lot;
 use harness::words::{page_target, role, Atom, Entry, Move, State, Table};
 use harness::{library, model, plain, ROOT};
 
@@ -17,6 +20,7 @@ const NAMES: [&str; 3] = ["model", "plain", "library"];
 pub type Calls = [OnTarget; 3];
 
 pub const MAKE_MOVE: Calls = [model::make_move, plain::make_move, library::make_move];
+pub const PREVIEW: [OnMove; 3] = [model::preview, plain::preview, library::preview];
 pub const RUN: Calls = [model::run, plain::run, library::run];
 pub const SERIALIZE: Calls = [model::serialize, plain::serialize, library::serialize];
 pub const LIST_MOVES: [OnPage; 3] = [model::list_moves, plain::list_moves, library::list_moves];
@@ -86,6 +90,22 @@ pub fn on_target(calls: Calls, [table, state, third]: [&[u32]; 3], room: usize) 
     on_room(&NAMES, call, |answer| answer, room, input)
 }
 
+/// The one preview of all implementations. Fails if they differ, if the number is none of a preview's, if C gets
+/// figures beside a refusal, or if an input is changed.
+pub fn preview(table: &[u32], state: &[u32], mv: &[u32]) -> Preview {
+    let input = || shown(&[("table", table), ("state", state), ("move", mv)]);
+    let before = [table, state, mv].map(<[u32]>::to_vec);
+    let all = PREVIEW.map(|call| call(table, state, mv));
+    // Asked of memory again, whatever the compiler knows of slices that are only read.
+    assert!(black_box([table, state, mv]) == before, "an input is changed, {}", input());
+    let [first, others @ ..] = all;
+    assert_eq!(others, [first; 2], "{NAMES:?} for {}", input());
+    assert_eq!(plain::preview_in_place(table, state, mv), first, "in place for {}", input());
+    assert_eq!(library::preview_in_c(table, state, mv), first, "in C for {}", input());
+    assert!(first.number == 0 || order::PREVIEW.contains(&first.number), "{first:?} for {}", input());
+    first
+}
+
 /// A page of the list of enabled moves: a first place, a count, and the words of the target.
 #[derive(Clone, Copy, Debug)]
 pub struct Asked {
@@ -142,6 +162,31 @@ pub fn gives(result: (Answer, Vec<u32>), words: &[u32]) {
 #[track_caller]
 pub fn refused(result: (Answer, Vec<u32>), number: u32) {
     assert_eq!(result.0, Answer::Refused(number));
+}
+
+/// The state of the two-lot plant after these moves.
+pub fn after(moves: &[Move]) -> Vec<u32> {
+    moves.iter().fold(two_lot::start(), |state, mv| {
+        let (answer, words) = make_move(&two_lot::table(), &state, &mv.words());
+        assert_eq!(answer.number(), 0);
+        words
+    })
+}
+
+/// A begin with an abort mark inside, a local rule, merge rules of one to four consumes, and a global rule.
+pub fn every_rule() -> Table {
+    let merge = |picks: usize| [vec![Atom::consume(2); picks], vec![Atom::received(role::EMIT, 2, 0)]].concat();
+    let begin = vec![
+        Atom::consume(0),
+        Atom::BEGIN,
+        Atom::received(role::BODY, 1, 0),
+        Atom::received(role::BODY, 2, 0),
+        Atom::received(role::COMPENSATE, 0, 0),
+        Atom::ABORT,
+    ];
+    let local = vec![Atom::consume(1), Atom::received(role::EMIT, 1, 0)];
+    let global = vec![Atom::consume(0), Atom::received(role::EMIT, 0, 0)];
+    Table { global: 1, local: 1, merge: 1, rules: vec![begin, local, merge(1), merge(2), merge(3), merge(4), global] }
 }
 
 /// A table, a start of `n` entries and a log whose serial order wants one entry more than the log:
