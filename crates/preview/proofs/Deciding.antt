@@ -38,25 +38,22 @@ use Rattle.step.specs.Moves.{IsMove, form-end, form-react, move-react, move-com
 
 -- ---- any move
 
-module _ (ceiling : ℕ) (t : Table) (s : semantics.State) (m : List ℕ) where
-  module _ (form : moveOk t m ≡ true) where
-    abbrev left : semantics.State
-    left = applied t 1 s (moveOf t m)
+module _ (ceiling : ℕ) (t : Table) (s : semantics.State) (m : List ℕ) (form : moveOk t m ≡ true)
+    {v : Verdict} (e : v ≡ moveVerdict ceiling t s (moveOf t m)) where
+  abbrev left : semantics.State
+  left = applied t 1 s (moveOf t m)
 
-    decided : foreseenIn (concerned t s (moveOf t m)) (steppedBy (moveVerdict ceiling t s (moveOf t m)) left) ≡ previewed ceiling t s m
-    unfolding previewed
-    decided = rw (stepWords-verdict ceiling t 1 s m, form)
+  -- what the verdict makes of it
+  decided : {w : Verdict} → v ≡ w → foreseenIn (concerned t s (moveOf t m)) (steppedBy w left) ≡ previewed ceiling t s m
+  unfolding previewed
+  decided h = rw (stepWords-verdict ceiling t 1 s m, form, ← e, h)
 
-    module _ {v : Verdict} (e : v ≡ moveVerdict ceiling t s (moveOf t m)) where
-      pub preview-rejected : {q : Refusal} → v ≡ Denied q → Rejected q ≡ previewed ceiling t s m
-      preview-rejected {q} h =
-          sym (ap (λ (w : Verdict). foreseenIn (concerned t s (moveOf t m)) (steppedBy w left)) (sym e ∙ h)) ∙ decided
+  pub preview-rejected : {q : Refusal} → v ≡ Denied q → Rejected q ≡ previewed ceiling t s m
+  preview-rejected h = decided h
 
-      pub preview-accepted : v ≡ Allowed → {entries next id : ℕ}
-          → entries ≡ length (left .entries) → next ≡ left .next → id ≡ concerned t s (moveOf t m)
-          → Accepted (record { entries = entries; next = next; id = id }) ≡ previewed ceiling t s m
-      preview-accepted h a b c =
-          rw (a, b, c) (sym (ap (λ (w : Verdict). foreseenIn (concerned t s (moveOf t m)) (steppedBy w left)) (sym e ∙ h)) ∙ decided)
+  pub preview-accepted : v ≡ Allowed → {entries next id : ℕ} → entries ≡ length (left .entries) → next ≡ left .next → id ≡ concerned t s (moveOf t m)
+      → Accepted (record { entries = entries; next = next; id = id }) ≡ previewed ceiling t s m
+  preview-accepted h a b c = rw (a, b, c) (decided h)
 
 -- the columns are those of a loaded state
 pub preview-loaded : (ceiling : ℕ) (t : Table) (m : List ℕ) {os ws gs : List ℕ} {at : Extent} {σ : semantics.State} → HoldsIn (held os ws gs at) σ
