@@ -16,7 +16,8 @@ ghost use Rattle.reaction.specs.Places.{Places, column};
 ghost use Rattle.preview.specs.Asked.{Formed};
 use reaction::picks::owners_at;
 use reaction::picks::smallest;
-use reaction::verdict::react_verdict;
+use reaction::verdict::outline_of;
+use reaction::verdict::outline_verdict;
 use rules::decode::rule_at;
 use semantics::Foreseen;
 use semantics::Previewed;
@@ -80,7 +81,7 @@ pub fn preview_reaction<'a>(
 {
     let picks = mv.picks;
     let rule = rule_at(table, starts, head::number_of(mv.head));
-    let verdict = react_verdict(owners, items, at, 0, rule, picks, ceiling);
+    let verdict = outline_verdict(owners, items, at, 0, outline_of(rule), picks, ceiling);
     if let Verdict::Denied(refusal) = verdict {
         return Previewed::Rejected(refusal);
     }

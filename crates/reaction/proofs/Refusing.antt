@@ -14,10 +14,7 @@ use Rattle.semantics.specs.Move.{picked, onPorts, picksOk, ownersAt, ownersFit,
 use Rattle.semantics.specs.declared.Refusal.the-variants.{WrongPick, WrongOwner, NoMoreIds, TooManyEntries, TransactionAborting}
 use Rattle.semantics.specs.declared.Verdict.the-variants.{Allowed, Denied}
 use Rattle.wellformed.specs.Picks.{ReactGiven}
-use Rattle.rules.specs.declared.decode.Rule.{Rule}
-use Rattle.rules.specs.Decode.{Decodes}
 use Rattle.state.specs.declared.State.{State}
-use Rattle.reaction.specs.Decoded.{ruleIn}
 use Rattle.reaction.specs.Verdict.{reactVerdict}
 use Rattle.reaction.specs.Places.{entries}
 use Rattle.semantics.specs.Table as rules
@@ -60,8 +57,8 @@ module _ (ceiling : ℕ) (r : rules.Rule) (s : semantics.State) (ps : List ℕ) 
   allowed-is g h = rw (g .different, g .ports, g .owners, g .part, g .ids, le-leb _ _ h)
 
 -- 11: the code's test, and the definition's
-pub id-test : (x : Rule) → Decodes x (ruleIn x) → (s : semantics.State) → hasId (ruleIn x) s ≡ not (x .begins && leb 65536 (s .next))
-id-test x d s = rw (← d .begins) (go (x .begins))
+pub id-test : (r : rules.Rule) (b : Bool) → b ≡ begins r → (s : semantics.State) → hasId r s ≡ not (b && leb 65536 (s .next))
+id-test r b e s = rw (← e) (go b)
   where
     go : (b : Bool) → not b || ltb (s .next) 65536 ≡ not (b && leb 65536 (s .next))
     go false = refl

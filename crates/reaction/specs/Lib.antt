@@ -1,4 +1,5 @@
 pub mod Decoded
 pub mod Four
+pub mod Outlines
 pub mod Places
 pub mod Verdict

@@ -51,6 +51,10 @@ module _ (os ws gs : List ℕ) (n : ℕ) where
   pub entry-at : (p : ℕ) → p < n → entryAt entries p ≡ rowOf os ws gs p
   entry-at p h = getD-rows nothing (rowOf os ws gs) 0 n p h ∙ ap (rowOf os ws gs) (zero-add p)
 
+  -- 7: where messages on some ports stand
+  pub places-on : (ports ps : List ℕ) → onPorts ports (map (entryAt entries) ps) ≡ true → Places n ps
+  places-on ports ps h p m = rw (length-rows (rowOf os ws gs) 0 n) at (picks-within ports entries ps h p m)
+
   -- ---- all picks, where they are places
 
   pub owners-at : (ps : List ℕ) → Places n ps → map (λ e. e .owner) (map (entryAt entries) ps) ≡ column os ps
@@ -89,7 +93,7 @@ module _ (x : Rule) (d : Decodes x (ruleIn x)) (picks : List ℕ) (four : length
 
     -- 7: the picks are places
     pub places : onPorts (consumed (ruleIn x)) (picked σ ps) ≡ true → Places n ps
-    places h p m = rw (length-rows (rowOf os ws gs) 0 n) at (picks-within (consumed (ruleIn x)) (entries os ws gs n) ps h p m)
+    places = places-on os ws gs n (consumed (ruleIn x)) ps
 
     -- 8: the owners found there
     pub owners-found : {found : List ℕ} → found ≡ fourAt os ps → Places n ps → take (x .consumes) found ≡ ownersAt σ ps

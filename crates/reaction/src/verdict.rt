@@ -10,11 +10,13 @@ ghost use Rattle.lists.specs.Members.{Among};
 ghost use Rattle.lists.specs.Rows.{rows};
 ghost use Rattle.semantics.specs.State.{isMessage};
 ghost use Rattle.semantics.specs.Table.{consumed};
+ghost use Rattle.semantics.specs.Table as table;
 ghost use Rattle.semantics.specs.Move.{entryAt, onPorts, ownersFit, takesPart};
 ghost use Rattle.rules.specs.Decode.{Decodes};
 ghost use Rattle.state.specs.Working.{rowOf};
 ghost use Rattle.state.specs.Arrays.{UnmarkedTo};
 ghost use Rattle.reaction.specs.Decoded.{ruleIn};
+ghost use Rattle.reaction.specs.Outlines.{Outlines};
 ghost use Rattle.state.specs.Lent.{stateFrom, Columns};
 ghost use Rattle.reaction.specs.Verdict.{reactVerdict, ownerFits};
 ghost use Rattle.reaction.specs.Places.{Places, column};
@@ -54,6 +56,28 @@ pub fn consume_ports(rule: Rule) -> [u16; 4]
     let c = rule.atoms[2];
     let d = rule.atoms[3];
     [a.port, b.port, c.port, d.port]
+}
+
+// What a verdict asks of a rule: few figures, since a rule is large and would be copied.
+pub struct Outline {
+    pub ports: [u16; 4],
+    pub count: usize,
+    pub consumes: usize,
+    pub class: u32,
+    pub begins: bool,
+}
+
+pub fn outline_of(rule: Rule) -> Outline
+    requires { ⌜ Decodes rule (ruleIn rule) ⌝ }
+    ensures { λ r. ⌜ Outlines r (ruleIn rule) × (r .consumes ≡ rule .consumes) ⌝ }
+{
+    Outline {
+        ports: consume_ports(rule),
+        count: rule.count,
+        consumes: rule.consumes,
+        class: rule.class,
+        begins: rule.begins,
+    }
 }
 
 // Whether the first k picks are messages on these ports.
@@ -143,8 +167,45 @@ fn picks_aborting<'a>(
     false
 }
 
-// Why a reaction is refused. The other column, of origins, does not matter. An abort mark is looked for from the place
-// unmarked on.
+// Why a reaction by a rule of this outline is refused. The other column, of origins, does not matter. An abort mark is
+// looked for from the place unmarked on.
+pub fn outline_verdict<'a>(
+    owners: &'a [u16; 1024],
+    items: &'a [u32; 1024],
+    at: Extent,
+    unmarked: u32,
+    outline: Outline,
+    picks: [u32; 4],
+    ceiling: usize,
+) -> Verdict
+    requires { ⌜ Columns (now owners) (now items) (at .len) × ((x : table.Rule) × Outlines outline x) × UnmarkedTo (now items) unmarked ⌝ }
+    ensures { λ r. ⌜ ((x : table.Rule) → Outlines outline x → (gs : List ℕ)
+        → r ≡ reactVerdict ceiling x (stateFrom (now (owners .entry)) (now (items .entry)) gs at) (take (outline .consumes) picks)) ⌝ }
+{
+    let n = at.len;
+    let k = outline.consumes;
+    let ports = outline.ports;
+    if !(all_differ(picks, k) & on_ports(items, n, ports, picks, k)) {
+        return Verdict::Denied(Refusal::WrongPick);
+    }
+    if !owners_fit(outline.class, owners, picks, k) {
+        return Verdict::Denied(Refusal::WrongOwner);
+    }
+    if picks_aborting(outline.class, owners, items, at, unmarked, picks, k) {
+        return Verdict::Denied(Refusal::TransactionAborting);
+    }
+    if outline.begins & (State::MAX_NEXT <= at.next) {
+        return Verdict::Denied(Refusal::NoMoreIds);
+    }
+    let count = outline.count;
+    if ceiling < (n - k) + (count - k) {
+        return Verdict::Denied(Refusal::TooManyEntries);
+    }
+    Verdict::Allowed
+}
+
+// Why a reaction is refused. It is compiled into its one caller, so that no rule is copied; a further caller asks
+// `outline_verdict`.
 pub fn react_verdict<'a>(
     owners: &'a [u16; 1024],
     items: &'a [u32; 1024],
@@ -158,23 +219,13 @@ pub fn react_verdict<'a>(
     ensures { λ r. ⌜ ((gs : List ℕ)
         → r ≡ reactVerdict ceiling (ruleIn rule) (stateFrom (now (owners .entry)) (now (items .entry)) gs at) (take (rule .consumes) picks)) ⌝ }
 {
-    let n = at.len;
-    let k = rule.consumes;
-    if !(all_differ(picks, k) & on_ports(items, n, consume_ports(rule), picks, k)) {
-        return Verdict::Denied(Refusal::WrongPick);
-    }
-    if !owners_fit(rule.class, owners, picks, k) {
-        return Verdict::Denied(Refusal::WrongOwner);
-    }
-    if picks_aborting(rule.class, owners, items, at, unmarked, picks, k) {
-        return Verdict::Denied(Refusal::TransactionAborting);
-    }
-    if rule.begins & (State::MAX_NEXT <= at.next) {
-        return Verdict::Denied(Refusal::NoMoreIds);
-    }
-    let count = rule.count;
-    if ceiling < (n - k) + (count - k) {
-        return Verdict::Denied(Refusal::TooManyEntries);
-    }
-    Verdict::Allowed
+    outline_verdict(
+        owners,
+        items,
+        at,
+        unmarked,
+        outline_of(rule),
+        picks,
+        ceiling,
+    )
 }
