@@ -51,6 +51,11 @@ pub form-read : (t m : List ℕ) → length m ≡ 5 → {b : Bool}
     → b ≡ moveOk (tableOf t) (getD m 0 0 ∷ getD m 1 0 ∷ getD m 2 0 ∷ getD m 3 0 ∷ getD m 4 0 ∷ []) → moveOk (tableOf t) m ≡ b
 form-read t m long said = ap (moveOk (tableOf t)) (sym (five m long)) ∙ sym said
 
+-- words of another length are no move
+pub form-unsized : (t m : List ℕ) → (length m ≡ 5 → ⊥) → moveOk (tableOf t) m ≡ false
+unfolding moveOk
+form-unsized t m h = rw (ne-eqb (length m) 5 h)
+
 -- what `make_move` says
 abbrev pub MoveAnswered : List ℕ → List ℕ → List ℕ → List ℕ → List ℕ → Outcome → Type 0
 MoveAnswered t s m before after o = (answerOf o ≡ makeMove t s m before) × (after ≡ makeMoveTarget t s m before)
@@ -61,10 +66,7 @@ module _ (t s m before : List ℕ) where
   move-fault q h = fault-gives (moveFaults t s m before) _ before q h
 
   pub move-unsized : stateVerdict t s ≡ Allowed → (length m ≡ 5 → ⊥) → MoveAnswered t s m before before (Refused MoveForm)
-  unfolding moveOk
-  move-unsized ok h =
-      let e : moveOk (tableOf t) m ≡ false = rw (ne-eqb (length m) 5 h) in
-      move-fault MoveForm (inr (ok, inl (unless-false MoveForm e)))
+  move-unsized ok h = move-fault MoveForm (inr (ok, inl (unless-false MoveForm (form-unsized t m h))))
 
   module _ (ok : stateVerdict t s ≡ Allowed) {b : Bool} (form : moveOk (tableOf t) m ≡ b) where
     pub move-malformed : b ≡ false → MoveAnswered t s m before before (Refused MoveForm)

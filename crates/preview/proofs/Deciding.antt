@@ -1,19 +1,19 @@
 -- From the verdict on a move in order, and figures that are counted, to its preview.
 use Prim.Native.Nat.{ℕ, _+_, _-_, _≤_, _<_}
-use mathlib.Core.Bool.{true, _&&_, cond}
+use mathlib.Core.Bool.{true, cond}
 use mathlib.Core.List.{List, [], _∷_}
 use mathlib.Core.Path.{_≡_, sym, ap, _∙_}
 use native.Mathlib.Numerals.{add-one}
 use native.Mathlib.Omega.{arith}
-use borrow.Author.Tests.{ltb-true, leb-true, eqb-true, eqb-false}
-use lib.Dec.{eqb, ltb, leb}
-use lib.ListN.{length, take, drop}
-use Rattle.lists.specs.Lists.{all, least}
-use Rattle.lists.specs.Choices.{and-left, and-three, given-holds, by-bool}
+use borrow.Author.Tests.{ltb-true, eqb-true, eqb-false}
+use lib.Dec.{eqb, ltb}
+use lib.ListN.{length, take}
+use Rattle.lists.specs.Lists.{least}
+use Rattle.lists.specs.Choices.{given-holds, by-bool}
 use Rattle.lists.specs.Rows.{length-rows}
 use Rattle.semantics.specs.Words.{headKind, headNumber}
-use Rattle.semantics.specs.Table.{Table, sizesOf, tableOf, ruleAt, consumed, begins}
-use Rattle.semantics.specs.Move.{isZero, moveOk, moveOf, applied, reacted, ended, steppedBy, moveVerdict}
+use Rattle.semantics.specs.Table.{Table, sizesOf, tableOf, ruleAt, begins}
+use Rattle.semantics.specs.Move.{moveOk, moveOf, applied, reacted, ended, steppedBy, moveVerdict}
 use Rattle.semantics.specs.Preview.{reactionConcerns, concerned, foreseenIn, previewed}
 use Rattle.semantics.specs.State as semantics
 use Rattle.semantics.specs.declared.Refusal.{Refusal}
@@ -22,7 +22,7 @@ use Rattle.semantics.specs.declared.Verdict.the-variants.{Allowed, Denied}
 use Rattle.semantics.specs.declared.Previewed.{Previewed}
 use Rattle.semantics.specs.declared.Previewed.the-variants.{Accepted, Rejected}
 use Rattle.wellformed.specs.Tables.{length-rules}
-use Rattle.wellformed.specs.Step.{stepWords-verdict}
+use Rattle.wellformed.specs.Preservation.{end-kind, rule-number}
 use Rattle.wellformed.specs.Picks.{ReactGiven}
 use Rattle.rules.specs.declared.decode.Rule.{Rule}
 use Rattle.rules.specs.Decode.{Decodes}
@@ -34,7 +34,8 @@ use Rattle.reaction.specs.Decoded.{ruleIn, rule-in, decodes-itself, consumes-wi
 use Rattle.reaction.specs.Places.{Places, column, places, owners-at}
 use Rattle.reaction.specs.Verdict.{reactVerdict, verdict-allowed, picks-fit, count-left}
 use Rattle.ending.specs.End.{endVerdict}
-use Rattle.step.specs.Moves.{IsMove, form-end, form-react, move-react, move-commit, move-abort, verdict-react, verdict-end, applied-react, applied-end}
+use Rattle.step.specs.Make.{step-formed}
+use Rattle.step.specs.Moves.{IsMove, move-react, move-commit, move-abort, verdict-react, verdict-end, applied-react, applied-end}
 
 -- ---- any move
 
@@ -46,7 +47,7 @@ module _ (ceiling : ℕ) (t : Table) (s : semantics.State) (m : List ℕ) (form 
   -- what the verdict makes of it
   decided : {w : Verdict} → v ≡ w → foreseenIn (concerned t s (moveOf t m)) (steppedBy w left) ≡ previewed ceiling t s m
   unfolding previewed
-  decided h = rw (stepWords-verdict ceiling t 1 s m, form, ← e, h)
+  decided h = rw (step-formed ceiling t 1 s m form, ← e, h)
 
   pub preview-rejected : {q : Refusal} → v ≡ Denied q → Rejected q ≡ previewed ceiling t s m
   preview-rejected h = decided h
@@ -64,14 +65,9 @@ preview-loaded ceiling t m {gs = gs} h e = e gs ∙ ap (λ (s : semantics.State)
 -- ---- a reaction
 
 -- 5: its rule is one of the table's
-pub rule-below : (T : List ℕ) (head : ℕ) (picks : List ℕ) → length picks ≡ 4 → headKind head ≡ 0 → moveOk (tableOf T) (head ∷ picks) ≡ true
+pub rule-below : (T : List ℕ) (head : ℕ) (picks : List ℕ) → headKind head ≡ 0 → moveOk (tableOf T) (head ∷ picks) ≡ true
     → headNumber head < sizesOf T .rules
-rule-below T head picks four k form =
-    let l = ltb-true (headNumber head) (length (tableOf T .rules))
-    (and-left (ltb (headNumber head) (length (tableOf T .rules)))
-    (all isZero (drop (length (consumed (ruleAt (tableOf T) (headNumber head)))) picks))
-    (form-react (tableOf T) head picks four k ∙ form)) in
-    omega (arith, l, length-rules T)
+rule-below T head picks k form = omega (arith, rule-number (tableOf T) (head ∷ picks) form k, length-rules T)
 
 -- a reaction's words in order, with its rule decoded and its verdict asked of lent columns
 pub record ReactionAsked (t : Table) (x : Rule) (head : ℕ) (picks : List ℕ) (ceiling : ℕ) (os ws : List ℕ) (at : Extent) (r : Verdict) : Type 0 where
@@ -148,13 +144,6 @@ module _ {t : Table} {x : Rule} {head : ℕ} {picks : List ℕ} {ceiling : ℕ} 
 
 -- ---- an end
 
--- 5: its kind is a commit's or an abort's
-end-kind : (t : Table) (head : ℕ) (picks : List ℕ) → length picks ≡ 4 → (headKind head ≡ 0 → ⊥) → moveOk t (head ∷ picks) ≡ true → headKind head ≤ 2
-end-kind t head picks four k form =
-    let range = and-left (leb (headKind head) 2 && leb 1 (headNumber head) && leb (headNumber head) 65535) (all isZero (drop 0 picks))
-    (form-end t head picks four k ∙ form) in
-    leb-true (headKind head) 2 (and-three (leb (headKind head) 2) (leb 1 (headNumber head)) (leb (headNumber head) 65535) range .0)
-
 end-concerns : (t : Table) (head : ℕ) (picks : List ℕ) → (headKind head ≡ 0 → ⊥) → (s : semantics.State)
     → concerned t s (moveOf t (head ∷ picks)) ≡ headNumber head
 end-concerns t head picks k s =
@@ -164,7 +153,6 @@ end-concerns t head picks k s =
 
 -- an end's words in order, with its verdict asked of lent columns
 pub record EndAsked (t : Table) (head : ℕ) (picks : List ℕ) (ceiling : ℕ) (os ws : List ℕ) (at : Extent) (r : Verdict) : Type 0 where
-  pub four : length picks ≡ 4
   pub kind : headKind head ≡ 0 → ⊥
   pub form : moveOk t (head ∷ picks) ≡ true
   pub fits : at .len ≤ ceiling
@@ -184,7 +172,7 @@ module _ {t : Table} {head : ℕ} {picks : List ℕ} {ceiling : ℕ} {os ws : Li
   end-rejected h gs = preview-rejected ceiling t (s gs) (head ∷ picks) (g .form) (end-verdict-is gs) h
 
   left-is : (gs : List ℕ) → applied t 1 (s gs) (moveOf t (head ∷ picks)) ≡ ended (λ e. eqb (e .kind) (headKind head - 1)) (headNumber head) (s gs)
-  left-is gs = applied-end t head picks 1 (s gs) (g .kind) (end-kind t head picks (g .four) (g .kind) (g .form))
+  left-is gs = applied-end t head picks 1 (s gs) (g .kind) (end-kind t (head ∷ picks) (g .form) (g .kind))
 
   pub end-accepted : r ≡ Allowed → {entries id kind : ℕ} → id ≡ headNumber head → kind ≡ headKind head
       → ((gs : List ℕ) → entries ≡ length (ended (λ e. eqb (e .kind) (kind - 1)) id (s gs) .entries))

@@ -11,9 +11,9 @@ use Rattle.semantics.specs.Answers.{tableVerdict}
 use Rattle.semantics.specs.declared.Previewed.the-variants.{Rejected}
 use Rattle.semantics.specs.declared.Refusal.the-variants.{MoveForm}
 use Rattle.semantics.specs.declared.Verdict.the-variants.{Allowed}
-use Rattle.wellformed.specs.Step.{stepWords-verdict}
 use Rattle.state.specs.declared.Extent.{Extent}
 use Rattle.state.specs.Lent.{Columns}
+use Rattle.step.specs.Make.{step-malformed}
 
 -- an accepted table, columns within the ceiling, and a move in order
 pub record Formed (t os ws : List ℕ) (at : Extent) (ceiling : ℕ) (m : List ℕ) : Type 0 where
@@ -25,4 +25,4 @@ pub record Formed (t os ws : List ℕ) (at : Extent) (ceiling : ℕ) (m : List �
 -- 5
 pub preview-malformed : (ceiling : ℕ) (t : Table) (s : State) (m : List ℕ) → moveOk t m ≡ false → Rejected MoveForm ≡ previewed ceiling t s m
 unfolding previewed
-preview-malformed ceiling t s m h = rw (stepWords-verdict ceiling t 1 s m, h)
+preview-malformed ceiling t s m h = rw (step-malformed ceiling t 1 s m h)

@@ -1,14 +1,12 @@
 -- From the tests of a move in words to the step that it makes in lent columns.
 use Prim.Native.Nat.{ℕ, _-_, _≤_, _<_}
 use mathlib.Core.Path.{_≡_, refl, sym, ap, _∙_}
-use mathlib.Core.Bool.{Bool, true, _&&_}
+use mathlib.Core.Bool.{Bool, true}
 use mathlib.Core.List.{List, _∷_}
 use native.Mathlib.Omega.{arith}
-use lib.Dec.{eqb, leb}
-use borrow.Author.Tests.{leb-true}
+use lib.Dec.{eqb}
 use lib.ListN.{length, take, drop}
 use Rattle.lists.specs.Lists.{all}
-use Rattle.lists.specs.Choices.{and-left, and-three}
 use Rattle.lists.specs.Rows.{length-rows}
 use Rattle.semantics.specs.Words.{headKind, headNumber}
 use Rattle.semantics.specs.Table.{Table, sizesOf, tableOf, ruleAt}
@@ -17,7 +15,7 @@ use Rattle.semantics.specs.Answers.{tableVerdict}
 use Rattle.semantics.specs.declared.Refusal.{Refusal}
 use Rattle.semantics.specs.declared.Verdict.{Verdict}
 use Rattle.semantics.specs.declared.Verdict.the-variants.{Allowed, Denied}
-use Rattle.wellformed.specs.Preservation.{end-id}
+use Rattle.wellformed.specs.Preservation.{end-kind, end-id}
 use Rattle.wellformed.specs.Picks.{ReactGiven}
 use Rattle.rules.specs.declared.decode.Rule.{Rule}
 use Rattle.rules.specs.Decode.{Decodes}
@@ -102,15 +100,8 @@ pub record Ending (t : Table) (head : ℕ) (picks : List ℕ) : Type 0 where
 pub end-formed : (t : Table) (head : ℕ) (picks : List ℕ) → length picks ≡ 4 → (headKind head ≡ 0 → ⊥) → {b : Bool}
     → b ≡ endForm head picks → b ≡ true → Ending t head picks
 end-formed t head picks four k e h =
-    let form = sym e ∙ h in
-    let range = and-left (leb (headKind head) 2 && leb 1 (headNumber head) && leb (headNumber head) 65535) (all isZero (drop 0 picks)) form in
-    let ok = sym (form-end t head picks four k) ∙ form in
-    record {
-      kind = k;
-      small = leb-true (headKind head) 2 (and-three (leb (headKind head) 2) (leb 1 (headNumber head)) (leb (headNumber head) 65535) range .0);
-      narrow = omega (arith, end-id t (head ∷ picks) ok k);
-      form = ok;
-    }
+    let ok = sym (form-end t head picks four k) ∙ sym e ∙ h in
+    record { kind = k; small = end-kind t (head ∷ picks) ok k; narrow = omega (arith, end-id t (head ∷ picks) ok k); form = ok }
 
 -- with its kind and its id as they were read
 module _ {t : Table} {head : ℕ} {picks : List ℕ} (g : Ending t head picks) {ceiling : ℕ} {os ws gs : List ℕ} {at : Extent}

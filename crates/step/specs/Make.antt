@@ -47,10 +47,10 @@ pub record MadeAs (made : Made) (ceiling : ℕ) (t : Table) (maker : ℕ) (w : L
 -- ---- from the tests to the step
 
 module _ (ceiling : ℕ) (t : Table) (i : ℕ) (s : semantics.State) (w : List ℕ) where
-  step-malformed : moveOk t w ≡ false → stepWords ceiling t i s w ≡ refused MoveForm
+  pub step-malformed : moveOk t w ≡ false → stepWords ceiling t i s w ≡ refused MoveForm
   step-malformed h = stepWords-verdict ceiling t i s w ∙ rw h
 
-  step-formed : moveOk t w ≡ true → stepWords ceiling t i s w ≡ steppedBy (moveVerdict ceiling t s (moveOf t w)) (applied t i s (moveOf t w))
+  pub step-formed : moveOk t w ≡ true → stepWords ceiling t i s w ≡ steppedBy (moveVerdict ceiling t s (moveOf t w)) (applied t i s (moveOf t w))
   step-formed h = stepWords-verdict ceiling t i s w ∙ rw h
 
 module _ {ceiling : ℕ} {t : Table} {i : ℕ} {w : List ℕ} {s : State} (k : Workable s ceiling) {made : Made} where

@@ -30,14 +30,22 @@ RuleKnown t (react r ps) = r < length (t .rules)
 RuleKnown t (commit b) = Unit
 RuleKnown t (abort b) = Unit
 
--- the number of an end in order is an id
-pub end-id : (t : Table) (m : List ℕ) → moveOk t m ≡ true → (headKind (getD m 0 0) ≡ 0 → ⊥) → headNumber (getD m 0 0) ≤ 65535
-unfolding moveOk
-end-id t m h k =
-    let head = getD m 0 0 in
-    let ok = and-three (eqb (length m) 5) (headOk t head) (all isZero (drop (picksUsed t head) (drop 1 m))) h .1 in
-    let range = rw (ne-eqb (headKind head) 0 k) at ok in
-    leb-true (headNumber head) 65535 (and-three (leb (headKind head) 2) (leb 1 (headNumber head)) (leb (headNumber head) 65535) range .2)
+-- an end in order is a commit or an abort, and its number is an id
+module _ (t : Table) (m : List ℕ) (h : moveOk t m ≡ true) (k : headKind (getD m 0 0) ≡ 0 → ⊥) where
+  abbrev head : ℕ
+  head = getD m 0 0
+
+  in-range : (leb (headKind head) 2 ≡ true) × (leb 1 (headNumber head) ≡ true) × (leb (headNumber head) 65535 ≡ true)
+  unfolding moveOk
+  in-range =
+      let ok = and-three (eqb (length m) 5) (headOk t head) (all isZero (drop (picksUsed t head) (drop 1 m))) h .1 in
+      and-three (leb (headKind head) 2) (leb 1 (headNumber head)) (leb (headNumber head) 65535) (rw (ne-eqb (headKind head) 0 k) at ok)
+
+  pub end-kind : headKind head ≤ 2
+  end-kind = leb-true (headKind head) 2 (in-range .0)
+
+  pub end-id : headNumber head ≤ 65535
+  end-id = leb-true (headNumber head) 65535 (in-range .2)
 
 pub rule-known : (t : Table) (m : List ℕ) → moveOk t m ≡ true → RuleKnown t (moveOf t m)
 unfolding moveOk moveOf
@@ -52,6 +60,11 @@ rule-known t m h = go (eqb (headKind (getD m 0 0)) 0) (eqb (headKind (getD m 0 0
     go true b k = ltb-true (headNumber (getD m 0 0)) (length (t .rules)) k
     go false true k = tt
     go false false k = tt
+
+-- the number of a reaction in order is a rule's
+pub rule-number : (t : Table) (m : List ℕ) → moveOk t m ≡ true → headKind (getD m 0 0) ≡ 0 → headNumber (getD m 0 0) < length (t .rules)
+unfolding moveOf
+rule-number t m h k = rw (eq-eqb (headKind (getD m 0 0)) 0 k) at (rule-known t m h)
 
 module _ {t : Table} (right : TableRight t) {s : State} (sound : Sound (t .sizes) s) (i : ℕ) where
   committed-global : (b : ℕ) → mayCommit t b s ≡ true → (e : Entry) → Among e (s .entries) → e .owner ≡ b → isMessage e ≡ true → (e .port < t .sizes .globals)

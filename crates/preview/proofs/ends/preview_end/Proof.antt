@@ -2,7 +2,6 @@
 use borrow.Author.Needs.{needs}
 use mathlib.Core.Path.{_≡_, ap}
 use native.Mathlib.Omega.{arith}
-use lib.ListN.{length}
 use Rattle.semantics.specs.Table.{tableOf}
 use Rattle.semantics.specs.declared.Sizes.{Sizes}
 use Rattle.wellformed.specs.Tables.{well-formed}
@@ -12,9 +11,6 @@ use Rattle.preview.proofs.Counting.{none-before}
 use Rattle.preview.proofs.Deciding.{EndAsked, end-rejected, end-accepted}
 use Rattle.preview.proofs.ends.preview_end.Statement.{statement}
 use Rattle.preview.proofs.ends.preview_end.Tie as tie
-
-four : (c : tie.Start) → length (c .args .mv .picks) ≡ 4
-four c = search needs
 
 abbrev start : tie.After-verdict-by-kind → tie.Start
 start c = c .before .before .before .before .before .before
@@ -39,7 +35,6 @@ asked : (c : tie.After-verdict-by-kind)
 asked c =
     let sizes = c .before .before in
     record {
-      four = four (start c);
       kind = start c .pre .1;
       form = start c .pre .0 .form;
       fits = start c .pre .0 .fits;

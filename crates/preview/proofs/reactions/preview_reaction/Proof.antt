@@ -21,7 +21,7 @@ rule-at-requires c κs =
     let s = c .before .before .before in
     let m = s .args .mv in
     let f = s .pre .1 .0 in
-    (f .table, rw (c .number-of .ensures) (rule-below _ (m .head) (m .picks) (four s) (s .pre .1 .1) (f .form)), s .pre .0)
+    (f .table, rw (c .number-of .ensures) (rule-below _ (m .head) (m .picks) (s .pre .1 .1) (f .form)), s .pre .0)
 
 outline-verdict-requires : tie.Need-outline-verdict-requires
 outline-verdict-requires c κs =
