@@ -8,7 +8,7 @@ use native.Mathlib.Omega.{arith}
 use lib.Dec.{eqb}
 use borrow.Author.Tests.{eqb-true, eq-eqb}
 use Rattle.lists.specs.Lists.{all, isEmpty, isIn, least}
-use Rattle.lists.specs.Tests.{or-right-true}
+use Rattle.lists.specs.Tests.{or-right-true, same-test}
 use Rattle.lists.specs.Choices.{by-bool, clash, or-cases}
 use Rattle.lists.specs.Members as Members
 use Rattle.lists.specs.Members.{all-each, among-map, map-among, isIn-among, among-isIn}
@@ -74,6 +74,11 @@ all-use p ns v h k = all-each p ns h v (isIn-among v ns k)
 
 pub all-not : (p : ℕ → Bool) (ns : List ℕ) (v : ℕ) → all p ns ≡ true → p v ≡ false → isIn v ns ≡ false
 all-not p ns v h k = by-bool (isIn v ns) (λ q. absurd (clash (all-use p ns v h q) k)) (λ q. q)
+
+-- all depend on nothing but which numbers there are
+pub all-same : (p : ℕ → Bool) (ns ms : List ℕ) → ((v : ℕ) → isIn v ns ≡ isIn v ms) → all p ns ≡ all p ms
+all-same p ns ms same =
+    same-test _ _ (λ h. all-isIn p ms (λ v k. all-use p ns v h (same v ∙ k))) (λ h. all-isIn p ns (λ v k. all-use p ms v h (sym (same v) ∙ k)))
 
 -- ---- under a function
 

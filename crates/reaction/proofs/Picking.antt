@@ -1,28 +1,35 @@
 -- The tests of the picks, one by one: the column there, their ports, their owners.
-use Prim.Native.Nat.{ℕ, zero, suc, _≤_, _<_}
+use Prim.Native.Nat.{ℕ, zero, suc, _≤_}
 use mathlib.Core.Path.{_≡_, refl, sym, ap, _∙_}
-use mathlib.Core.Bool.{Bool, true, false, _&&_, cond}
+use mathlib.Core.Bool.{Bool, true, false, _&&_, cond, and-true, and-false}
 use mathlib.Core.List.{List, [], _∷_, map}
 use native.Mathlib.Omega.{arith}
 use lib.Dec.{eqb, ltb}
 use lib.ListN.{length, getD, take}
-use lib.Seq.{length-take-le, getD-take, take-take}
-use Rattle.lists.specs.Lists.{all, least}
+use lib.Seq.{take-take}
+use Rattle.lists.specs.Lists.{all, isIn, least}
+use borrow.Author.Tests.{eqb-true, eq-eqb}
+use Rattle.lists.specs.Choices.{by-bool}
+use Rattle.lists.specs.Tests.{and-after}
 use Rattle.lists.specs.Mapped.{map-take}
-use Rattle.lists.specs.Members.{Among, map-among, getD-among}
-use Rattle.lists.specs.Parts.{all-map}
+use Rattle.lists.specs.Members.{Among, getD-among, isIn-among, among-isIn}
+use Rattle.lists.specs.Numbers.{all-same}
 use Rattle.lists.specs.Smallest.{all-least}
 use Rattle.lists.specs.Walk.{take-four}
 use Rattle.lists.specs.Rows.{rows, rowsFrom, rows-take, rows-whole, map-rows}
 use Rattle.semantics.specs.Table.{consumed}
 use Rattle.semantics.specs.State.{Entry, isMessage}
-use Rattle.semantics.specs.Move.{entryAt, onPorts, ownersFit}
+use Rattle.semantics.specs.Move.{isZero, entryAt, onPorts, ownersFit}
 use Rattle.rules.specs.declared.decode.Rule.{Rule}
 use Rattle.rules.specs.Decode.{Decodes}
 use Rattle.reaction.specs.Decoded.{ruleIn, blank, consumes-within}
-use Rattle.reaction.specs.Verdict.{ownerFits}
-use Rattle.reaction.specs.Places.{column, fourAt, entries}
+use Rattle.reaction.specs.Places.{column, fourAt, take-found, entries}
 use Rattle.reaction.specs.Four.{four-places}
+
+-- four numbers that are the same as those at the picks
+pub same-found : (f xs picks : List ℕ) (k : ℕ) → k ≤ length picks → {found : List ℕ} → found ≡ fourAt xs (take k picks)
+    → ((x : ℕ) → isIn x f ≡ isIn x (take k found)) → (x : ℕ) → isIn x f ≡ isIn x (column xs (take k picks))
+same-found f xs picks k l e same x = same x ∙ ap (isIn x) (ap (take k) e ∙ take-found k xs picks l)
 
 -- a column at the first k of four picks, one by one
 pub four-at : (xs picks : List ℕ) (k : ℕ) → length picks ≡ 4 → k ≤ 4
@@ -77,21 +84,52 @@ ports-four x d =
 
 -- ---- owners
 
--- owner by owner, with any one of them for all
-owners-each : (class one : ℕ) (os : List ℕ) → Among one os → all (ownerFits class one) os ≡ ownersFit class os
-owners-each class one os m = go (eqb class 0) (eqb class 1)
+-- whether owners fit depends on nothing but which there are
+pub owners-same : (class : ℕ) (f os : List ℕ) → length f ≡ 4 → ((x : ℕ) → isIn x f ≡ isIn x os) → ownersFit class f ≡ ownersFit class os
+owners-same class f os l same = go (eqb class 0) (eqb class 1)
   where
-    go : (a b : Bool) → all (λ o. cond a (eqb o 0) (cond b (ltb 0 o && eqb o one) (ltb 0 o))) os
-        ≡ cond a (all (λ o. eqb o 0) os) (cond b (all (λ o. ltb 0 o && eqb o (least os)) os) (all (λ o. ltb 0 o) os))
-    go true b = refl
-    go false true = all-least (ltb 0) os one m
-    go false false = refl
+    one : ℕ
+    one = getD f 0 0
 
--- pick by pick, with the owner at the first for all
-pub owners-picked : (class : ℕ) (os picks : List ℕ) (k : ℕ) → 1 ≤ k → k ≤ length picks
-    → all (λ p. ownerFits class (getD os (getD picks 0 0) 0) (getD os p 0)) (take k picks) ≡ ownersFit class (column os (take k picks))
-owners-picked class os picks k l m =
-    let low : 0 < length (take k picks) = omega (arith, length-take-le k picks m) in
-    let first : Among (getD picks 0 0) (take k picks) = rw (← getD-take k picks 0 0 l) (getD-among 0 (take k picks) 0 low) in
-    sym (all-map (λ p. getD os p 0) (ownerFits class (getD os (getD picks 0 0) 0)) (take k picks))
-    ∙ owners-each class (getD os (getD picks 0 0) 0) (column os (take k picks)) (map-among (λ p. getD os p 0) (take k picks) (getD picks 0 0) first)
+    first : Among one f
+    first = getD-among 0 f 0 (omega arith)
+
+    go : (a b : Bool)
+        → cond a (all isZero f) (cond b (all (λ o. ltb 0 o && eqb o (least f)) f) (all (ltb 0) f))
+        ≡ cond a (all isZero os) (cond b (all (λ o. ltb 0 o && eqb o (least os)) os) (all (ltb 0) os))
+    go true b = all-same isZero f os same
+    go false true =
+        sym (all-least (ltb 0) f one first)
+        ∙ all-same (λ o. ltb 0 o && eqb o one) f os same
+        ∙ all-least (ltb 0) os one (isIn-among one os (sym (same one) ∙ among-isIn one f first))
+    go false false = all-same (ltb 0) f os same
+
+-- four owners, as the code compares them
+module _ (f : List ℕ) (l : length f ≡ 4) where
+  abbrev a : ℕ
+  a = getD f 0 0
+
+  abbrev b : ℕ
+  b = getD f 1 0
+
+  abbrev c : ℕ
+  c = getD f 2 0
+
+  abbrev d : ℕ
+  d = getD f 3 0
+
+  pub four-all : (p : ℕ → Bool) → p a && (p b && (p c && p d)) ≡ all p f
+  four-all p = ap (λ (x : Bool). p a && (p b && (p c && x))) (sym (and-true (p d))) ∙ ap (all p) (sym (four-places f l))
+
+  pub four-one : ltb 0 a && (eqb b a && (eqb c a && eqb d a)) ≡ all (λ o. ltb 0 o && eqb o (least f)) f
+  four-one =
+      and-after (ltb 0 a) (λ h. rw (← like h b, ← like h c, ← like h d))
+      ∙ ap (λ (x : Bool). x && (at b && (at c && at d))) (sym (and-true (ltb 0 a)) ∙ ap (λ (x : Bool). ltb 0 a && x) (sym (eq-eqb a a refl)))
+      ∙ four-all at
+      ∙ all-least (ltb 0) f a (getD-among 0 f 0 (omega arith))
+    where
+      at : ℕ → Bool
+      at o = ltb 0 o && eqb o a
+
+      like : ltb 0 a ≡ true → (o : ℕ) → eqb o a ≡ at o
+      like h o = by-bool (eqb o a) (λ e. rw (e, eqb-true o a e, h)) (λ e. rw (e, and-false (ltb 0 o)))

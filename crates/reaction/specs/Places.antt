@@ -19,11 +19,13 @@ use Rattle.rules.specs.declared.decode.Rule.{Rule}
 use Rattle.rules.specs.Decode.{Decodes}
 use Rattle.state.specs.Working.{rowOf}
 use Rattle.reaction.specs.Decoded.{ruleIn}
+use Rattle.wellformed.specs.Tables.{LegalRule}
 use Rattle.wellformed.specs.Picks.{picks-within}
 use Rattle.state.specs.declared.State.{State}
 use Rattle.state.specs.declared.Extent.{Extent}
 use Rattle.state.specs.Lent.{stateFrom}
 use Rattle.semantics.specs.State as semantics
+use Rattle.semantics.specs.Table as rules
 
 -- the picks are among the first n places
 abbrev pub Places : ℕ → List ℕ → Type 0
@@ -77,12 +79,16 @@ take-found k xs picks l =
     let e : k ≡ length (column xs (take k picks)) = sym (length-map (take k picks) (λ p. getD xs p 0) ∙ length-take-le k picks l) in
     ap (λ (j : ℕ). take j (fourAt xs (take k picks))) e ∙ take-padded 4 0 (column xs (take k picks))
 
+-- as many picks as consumes
+pub count-taken : {k : ℕ} {r : rules.Rule} → LegalRule k r → (picks : List ℕ) → length picks ≡ 4 → length (take k picks) ≡ k
+count-taken {k} legal picks four = length-take-le k picks (omega (arith, legal .most))
+
 module _ (x : Rule) (d : Decodes x (ruleIn x)) (picks : List ℕ) (four : length picks ≡ 4) where
   abbrev ps : List ℕ
   ps = take (x .consumes) picks
 
   pub count-picks : length ps ≡ x .consumes
-  count-picks = length-take-le (x .consumes) picks (omega (arith, d .legal .most))
+  count-picks = count-taken (d .legal) picks four
 
   module _ (os ws gs : List ℕ) (at : Extent) where
     abbrev n : ℕ

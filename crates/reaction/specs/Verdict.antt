@@ -2,10 +2,8 @@
 use Prim.Native.Nat.{ℕ, _≤_, _+_, _-_}
 use mathlib.Core.Path.{_≡_, refl, ap, _∙_}
 use mathlib.Core.List.{List}
-use mathlib.Core.Bool.{Bool, _&&_, cond}
-use lib.Dec.{leb, eqb, ltb}
+use lib.Dec.{leb}
 use lib.ListN.{length, length-drop, take}
-use lib.Seq.{length-take-le}
 use Rattle.semantics.specs.State.{State}
 use Rattle.semantics.specs.Move.{unless, both, react, reactAllowed, reacted, allowed, applied, moveVerdict}
 use Rattle.semantics.specs.declared.Verdict.{Verdict}
@@ -24,11 +22,8 @@ use Rattle.wellformed.specs.Length.{length-reacted}
 use Rattle.reaction.specs.Decoded.{ruleIn, count-atoms, makingCount}
 use Rattle.state.specs.declared.Extent.{Extent}
 use Rattle.state.specs.Lent.{stateFrom}
+use Rattle.reaction.specs.Places.{count-taken}
 use Rattle.semantics.specs.Table as rules
-
--- one owner by itself; all must be the same as one of them in a local rule
-abbrev pub ownerFits : ℕ → ℕ → ℕ → Bool
-ownerFits class one o = cond (eqb class 0) (eqb o 0) (cond (eqb class 1) (ltb 0 o && eqb o one) (ltb 0 o))
 
 -- 7, 8, 18, 11, 12 of a reaction
 unfoldable pub reactVerdict : ℕ → rules.Rule → State → List ℕ → Verdict
@@ -56,11 +51,8 @@ module _ (k : ℕ) (r : rules.Rule) (legal : LegalRule k r) (picks : List ℕ) (
   abbrev Given : Type 0
   Given = ReactGiven r (stateFrom os ws gs at) (take k picks)
 
-  count-taken : length (take k picks) ≡ k
-  count-taken = length-take-le k picks (omega (arith, legal .most))
-
   pub consumes-fit : Given → k ≤ at .len
-  consumes-fit g = omega (arith, left-length g, count-taken, length-rows (rowOf os ws gs) 0 (at .len))
+  consumes-fit g = omega (arith, left-length g, count-taken legal picks four, length-rows (rowOf os ws gs) 0 (at .len))
 
   pub entries-left : (i : ℕ) → Given → length (reacted r i (stateFrom os ws gs at) (take k picks) .entries) ≡ at .len - k + (length (r .atoms) - k)
   entries-left i g = omega (
@@ -68,7 +60,7 @@ module _ (k : ℕ) (r : rules.Rule) (legal : LegalRule k r) (picks : List ℕ) (
     length-reacted r i (stateFrom os ws gs at) (take k picks),
     ap length (legal .products) ∙ length-drop k (r .atoms),
     left-length g,
-    count-taken,
+    count-taken legal picks four,
     length-rows (rowOf os ws gs) 0 (at .len),
   )
 

@@ -18,7 +18,7 @@ ghost use Rattle.state.specs.Arrays.{UnmarkedTo};
 ghost use Rattle.reaction.specs.Decoded.{ruleIn};
 ghost use Rattle.reaction.specs.Outlines.{Outlines};
 ghost use Rattle.state.specs.Lent.{stateFrom, Columns};
-ghost use Rattle.reaction.specs.Verdict.{reactVerdict, ownerFits};
+ghost use Rattle.reaction.specs.Verdict.{reactVerdict};
 ghost use Rattle.reaction.specs.Places.{Places, column};
 use crate::picks::all_differ;
 use crate::picks::owners_at;
@@ -80,32 +80,48 @@ pub fn outline_of(rule: Rule) -> Outline
     }
 }
 
-// Whether the first k picks are messages on these ports.
+// Whether the first k picks are messages on these ports. One by one: a branch on k is predicted, and a loop would take picks
+// and ports from memory.
 fn on_ports(items: &[u32; 1024], n: usize, ports: [u16; 4], picks: [u32; 4], k: usize) -> bool
-    requires { ⌜ (n ≤ 1024) × (length (now items) ≡ 1024) × (k ≤ 4) ⌝ }
+    requires { ⌜ (n ≤ 1024) × (length (now items) ≡ 1024) × (1 ≤ k) × (k ≤ 4) ⌝ }
     ensures { λ r. ⌜ ((os gs : List ℕ) → r ≡ onPorts (take k ports) (map (entryAt (rows (rowOf os (now (items .entry)) gs) 0 n)) (take k picks))) ⌝ }
 {
-    let mut i = 0;
-    while i < k {
-        if !message_on(items, n, picks[i] as usize, ports[i]) {
-            return false;
-        }
-        i += 1;
+    if !message_on(items, n, picks[0] as usize, ports[0]) {
+        return false;
     }
-    true
+    if k < 2 {
+        return true;
+    }
+    if !message_on(items, n, picks[1] as usize, ports[1]) {
+        return false;
+    }
+    if k < 3 {
+        return true;
+    }
+    if !message_on(items, n, picks[2] as usize, ports[2]) {
+        return false;
+    }
+    if k < 4 {
+        return true;
+    }
+    message_on(items, n, picks[3] as usize, ports[3])
 }
 
-// The owner that a rule of this class wants; one stands for all where they must be the same.
-fn owner_fits(class: u32, owner: u16, one: u16) -> bool
-    ensures { λ r. ⌜ r ≡ ownerFits class one owner ⌝ }
+// Whether a rule of this class may consume from four owners.
+fn four_fit(class: u32, owners: [u16; 4]) -> bool
+    ensures { λ r. ⌜ r ≡ ownersFit class owners ⌝ }
 {
+    let a = owners[0];
+    let b = owners[1];
+    let c = owners[2];
+    let d = owners[3];
     if class == 0 {
-        return owner == 0;
+        return (a == 0) & ((b == 0) & ((c == 0) & (d == 0)));
     }
     if class == 1 {
-        return (0 < owner) & (owner == one);
+        return (0 < a) & ((b == a) & ((c == a) & (d == a)));
     }
-    0 < owner
+    (0 < a) & ((0 < b) & ((0 < c) & (0 < d)))
 }
 
 // Whether a rule of this class may consume at the picks, by the owners there.
@@ -113,15 +129,7 @@ fn owners_fit(class: u32, owners: &[u16; 1024], picks: [u32; 4], k: usize) -> bo
     requires { ⌜ (1 ≤ k) × (k ≤ 4) × (length (now owners) ≡ 1024) × Places 1024 (take k picks) ⌝ }
     ensures { λ r. ⌜ r ≡ ownersFit class (column (now (owners .entry)) (take k picks)) ⌝ }
 {
-    let one = owners[picks[0] as usize];
-    let mut i = 0;
-    while i < k {
-        if !owner_fits(class, owners[picks[i] as usize], one) {
-            return false;
-        }
-        i += 1;
-    }
-    true
+    four_fit(class, repeated(owners_at(owners, picks, k), k))
 }
 
 // Whether one of the transactions that the picks are in has an abort mark. Where none stands at all, the picks do not matter.

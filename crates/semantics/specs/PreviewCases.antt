@@ -1,4 +1,4 @@
--- 02, M-115: previews on the two-lot plant and on odd cases, as one table under one statement: number, entries, next id and id.
+-- 02, M-115: previews on the two-lot plant, on odd cases and at full size, three tables: number, entries, next id and id.
 use Prim.Native.Nat.{ℕ, _*_}
 use mathlib.Core.List.{List, [], _∷_, _++_, map}
 use mathlib.Core.Path.{_≡_, refl}

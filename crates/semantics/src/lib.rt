@@ -102,7 +102,7 @@ pub struct Shape {
 }
 
 // An atom's value: a constant, or the value received by a consume atom (take) of its rule, from 0.
-// An atom takes 8 bytes, so that a rule is decoded and passed by value at little cost.
+// An atom takes 8 bytes, so that a rule is decoded at little cost.
 pub enum AtomValue {
     Constant(u16),
     Received(u16),

@@ -5,10 +5,10 @@ use mathlib.Core.Bool.{not}
 use mathlib.Core.List.{List}
 use borrow.Author.Needs.{needs}
 use lib.ListN.{take}
-use Rattle.lists.specs.Lists.{isIn}
 use Rattle.state.specs.Lent.{stateFrom}
-use Rattle.reaction.specs.Places.{column, take-found}
+use Rattle.reaction.specs.Places.{column}
 use Rattle.reaction.proofs.Aborting.{unmarked-part, inner-part}
+use Rattle.reaction.proofs.Picking.{same-found}
 use Rattle.reaction.proofs.verdict.some_aborting.Statement.{statement}
 use Rattle.reaction.proofs.verdict.some_aborting.Tie as tie
 
@@ -20,9 +20,9 @@ returns-2 c gs =
     let s = c .before .before .before .before .before in
     let a = s .args in
     let r = c .before .repeated in
-    let found = ap (take (a .k)) (c .before .before .owners-at .ensures) ∙ take-found (a .k) (a .owners .now) (a .picks) (search needs) in
     c .any-aborting .ensures gs
-    ∙ inner-part (stateFrom (a .owners .now) (a .items .now) gs (a .at)) (os s) (s .pre .5) (r .result) (search needs) (λ x. r .ensures x ∙ ap (isIn x) found)
+    ∙ inner-part (stateFrom (a .owners .now) (a .items .now) gs (a .at)) (os s) (s .pre .5) (r .result) (search needs)
+    (same-found (r .result) (a .owners .now) (a .picks) (a .k) (search needs) (c .before .before .owners-at .ensures) (r .ensures))
 
 pub some-aborting-spec : {M : Type 1} → statement M
 some-aborting-spec =
