@@ -7,6 +7,7 @@ pub mod generate;
 pub mod library;
 pub mod markdown;
 pub mod model;
+pub mod pairs;
 pub mod plain;
 pub mod program;
 pub mod random;

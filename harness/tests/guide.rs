@@ -14,7 +14,7 @@ use std::path::Path;
 use std::process::Command;
 
 use common::demand3::Demand3;
-use common::{check_state, check_table, gives, make_move, on_target, preview, run, serialize, shrinking};
+use common::{after_a, check_state, check_table, gives, make_move, on_target, preview, run, serialize, shrinking};
 use common::{Asked, MAKE_MOVE};
 use harness::answer::{order, Answer, Preview};
 use harness::markdown::{blocks, links, prose, rows, Block};
@@ -175,15 +175,10 @@ fn generated() -> BTreeMap<String, String> {
     all
 }
 
-/// The state after so many moves of (a).
-fn after(moves: usize) -> Vec<u32> {
-    run(&two_lot::table(), &two_lot::start(), &log_words(&case_a()[..moves])).1
-}
-
 /// The enabled moves at the start of (a) and after each of its moves.
 fn lists() -> String {
     let list = |(moves, list): (usize, Vec<Move>)| {
-        let (page, words) = Asked::new(0, 256).of(&two_lot::table(), &after(moves));
+        let (page, words) = Asked::new(0, 256).of(&two_lot::table(), &after_a(moves));
         assert_eq!(words, list.iter().flat_map(|mv| mv.words()).collect::<Vec<_>>());
         let when = moves.checked_sub(1).map_or("at the start".into(), |last| format!("after move {last}"));
         format!("{when}: length {}\n{}", page.length, apart::moves(0, &list))
@@ -194,7 +189,7 @@ fn lists() -> String {
 /// A page from the middle of a list.
 fn page() -> String {
     let (first, count) = (1, 2);
-    let (page, words) = Asked::new(first, count).of(&two_lot::table(), &after(2));
+    let (page, words) = Asked::new(first, count).of(&two_lot::table(), &after_a(2));
     let (written, length) = (words.len(), page.length);
     assert_eq!(page.answer, Answer::Accepted(written as u32));
     let moves: Vec<Move> = words.chunks_exact(5).map(|mv| Move::from_words(mv).unwrap()).collect();
@@ -209,7 +204,7 @@ fn previews() -> String {
     let refused =
         two_lot::refused().map(|refused| (refused.case, refused.after, refused.mv, [refused.number, 0, 0, 0]));
     let line = |(case, moves, mv, figures): (char, usize, Move, [u32; 4])| {
-        let (table, state) = (two_lot::table(), after(moves));
+        let (table, state) = (two_lot::table(), after_a(moves));
         let Preview { number, entries, next, id } = preview(&table, &state, &mv.words());
         assert_eq!([number, entries, next, id], figures, "({case}) after {moves}");
         // The number is that of the move, and so are the figures of the state that it leaves.
@@ -260,7 +255,7 @@ fn refusals() -> String {
     let moved = |state: &[u32], mv: Move| make_move(&table, state, &mv.words()).0;
     let log_a = log_words(&case_a());
     let [b, e, _, g] = two_lot::refused();
-    let case = |case: two_lot::Refused| moved(&after(case.after), case.mv);
+    let case = |case: two_lot::Refused| moved(&after_a(case.after), case.mv);
     let full = State { next: 1, entries: vec![Entry::message(0, 0, 7); 1_024] }.words();
     let mut begin_emits = Table::from_words(&table).unwrap();
     begin_emits.rules.push(vec![Atom::consume(1), Atom::constant(role::EMIT, 1, 4), Atom::BEGIN]);

@@ -3,7 +3,7 @@ mod common;
 
 use std::collections::BTreeSet;
 
-use common::Asked;
+use common::{after_a, Asked};
 use harness::answer::{order, Answer, Page};
 use harness::generate::lists::{listed, met};
 use harness::generate::state_faults::StateFault;
@@ -13,8 +13,8 @@ use harness::generate::tables::{table, Shape};
 use harness::generate::tally::Tally;
 use harness::generate::workloads::{fours, spread};
 use harness::random::Random;
-use harness::two_lot::{self, case_a, lists_a};
-use harness::words::{kind, log_words, role, Atom, Entry, Move, State, Table, STATE_TARGET};
+use harness::two_lot::{self, lists_a};
+use harness::words::{kind, role, Atom, Entry, Move, State, Table, STATE_TARGET};
 use harness::{library, model};
 
 /// The words of moves, one after another.
@@ -34,11 +34,6 @@ fn refused(page: (Page, Vec<u32>), number: u32) {
     assert_eq!(page, (Page::refused(number), vec![]));
 }
 
-/// The state of the two-lot plant after so many moves of (a).
-fn after(moves: usize) -> Vec<u32> {
-    common::run(&two_lot::table(), &two_lot::start(), &log_words(&case_a()[..moves])).1
-}
-
 /// Whether the library makes the move.
 fn makes(table: &[u32], state: &[u32], mv: &[u32]) -> bool {
     library::make_move(table, state, mv, &mut [0; STATE_TARGET]).number() == 0
@@ -49,7 +44,7 @@ fn makes(table: &[u32], state: &[u32], mv: &[u32]) -> bool {
 #[test]
 fn lists_after_each_move_of_a() {
     for (moves, list) in lists_a().iter().enumerate() {
-        let (table, state) = (two_lot::table(), after(moves));
+        let (table, state) = (two_lot::table(), after_a(moves));
         gives(Asked::new(0, 8).of(&table, &state), list, list.len() as u64);
         for mv in list {
             assert!(makes(&table, &state, &mv.words()), "{mv:?} after {moves}");
@@ -367,7 +362,7 @@ fn noise_gets_one_answer() {
     let mut random = Random::new(905);
     let mut numbers = [0; 7];
     for _ in 0..20_000 {
-        let mut parts = [two_lot::table(), after(random.index(7))];
+        let mut parts = [two_lot::table(), after_a(random.index(7))];
         let part = random.index(2);
         let length = random.pick(&[0, 1, 4, 5, 6, 12, 29, 200]);
         match random.below(4) {

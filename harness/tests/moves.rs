@@ -2,7 +2,7 @@
 mod common;
 
 use common::faulty::{any_words, first_fault_counts, long_noise, noise, wrong_words};
-use common::{after, check_state, every_rule, gives, make_move, on_target, refused, MAKE_MOVE};
+use common::{after, after_a, check_state, every_rule, gives, make_move, on_target, refused, MAKE_MOVE};
 use harness::answer::{order, Answer};
 use harness::generate::aborting::{marked, met, number, reaction_among};
 use harness::generate::moves::{aborting, allowed, changed, consumes};
@@ -22,7 +22,7 @@ fn react(rule: u32, picks: &[u32]) -> Vec<u32> {
 fn cases_a_and_c_by_single_moves() {
     assert_eq!(after(&case_a()), two_lot::END_A);
     // n and N as the program's second line shows them.
-    assert_eq!(after(&case_a()[..1])[..2], [4, 2]);
+    assert_eq!(after_a(1)[..2], [4, 2]);
     assert_eq!(after(&two_lot::case_c()), two_lot::END_C);
 }
 
@@ -31,7 +31,7 @@ fn cases_a_and_c_by_single_moves() {
 #[test]
 fn cases_b_e_f_g() {
     for case in two_lot::refused() {
-        refused(make_move(&two_lot::table(), &after(&case_a()[..case.after]), &case.mv.words()), case.number);
+        refused(make_move(&two_lot::table(), &after_a(case.after), &case.mv.words()), case.number);
     }
 }
 
@@ -339,7 +339,7 @@ fn random_changed_moves() {
 // Catches a wrong range of kinds, rules or ids, a used "unused" pick, and a wrong length.
 #[test]
 fn words_of_a_move() {
-    let (table, state) = (two_lot::table(), after(&case_a()[..2]));
+    let (table, state) = (two_lot::table(), after_a(2));
     for (words, number) in wrong_words() {
         refused(make_move(&table, &state, &words), number);
     }

@@ -4,7 +4,7 @@ mod common;
 use std::collections::BTreeSet;
 
 use common::faulty::{any_words, first_fault_counts, long_noise, noise, wrong_words};
-use common::{after, every_rule, make_move, on_target, shown, MAKE_MOVE};
+use common::{after, after_a, every_rule, make_move, on_target, shown, MAKE_MOVE};
 use harness::answer::{order, Answer, Preview};
 use harness::generate::moves::changed;
 use harness::generate::previews::{asked, concerned, met};
@@ -66,7 +66,7 @@ fn cases_a_c_and_d_move_by_move() {
 #[test]
 fn cases_b_e_f_g() {
     for case in two_lot::refused() {
-        refused(preview(&two_lot::table(), &after(&case_a()[..case.after]), &case.mv.words()), case.number);
+        refused(preview(&two_lot::table(), &after_a(case.after), &case.mv.words()), case.number);
     }
     refused(preview(&two_lot::table(), &two_lot::aborting(), &two_lot::merge_with_aborting().words()), 18);
 }
@@ -74,7 +74,7 @@ fn cases_b_e_f_g() {
 // Catches a preview that wants a target: the move has 6 in its place, and so none of what comes after.
 #[test]
 fn no_target_is_asked_for() {
-    let (table, state) = (two_lot::table(), after(&case_a()[..4]));
+    let (table, state) = (two_lot::table(), after_a(4));
     for (mv, number) in [(Move::react(2, &[4, 5]), 0), (Move::react(2, &[4, 4]), 7), (Move::commit(1), 10)] {
         for room in [0, 1, 2_049] {
             let (answer, _) = on_target(MAKE_MOVE, [&table, &state, &mv.words()], room);
@@ -231,7 +231,7 @@ fn room_for_the_products() {
 // Catches a wrong range of kinds, rules or ids, a used "unused" pick, and a wrong length.
 #[test]
 fn words_of_a_move() {
-    let (table, state) = (two_lot::table(), after(&case_a()[..2]));
+    let (table, state) = (two_lot::table(), after_a(2));
     for (words, number) in wrong_words() {
         refused(preview(&table, &state, &words), number);
     }

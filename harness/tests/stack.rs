@@ -6,22 +6,20 @@ use std::path::Path;
 use std::thread;
 
 use common::{header_comment, Asked};
-use harness::answer::{page_on_target, page_words, preview_on_target, Answer, OnTarget, Page};
+use harness::answer::{page_words, Answer, Page};
 use harness::generate::workloads::{fours, global_log, members, merge_log, mixed, single_moves, spread, table};
 use harness::markdown::{prose, rows};
+use harness::pairs::{Pair, CHECK_STATE, CHECK_TABLE, LIST_MOVES, MAKE_MOVE, PREVIEW, RUN, SERIALIZE};
 use harness::random::Random;
 use harness::words::{log_words, State, STATE_TARGET};
-use harness::{library, plain, stack, ROOT};
+use harness::{plain, stack, ROOT};
 
 /// What README and the header promise to be enough.
 const STACK: usize = 256 << 10;
 
-/// A call of the library, its plain counterpart, and accepted input of full size: a table, a state, and
-/// a move, log or page. The checks ignore what they do not take.
+/// A call and accepted input of full size: a table, a state, and a move, log or page.
 struct Call {
-    name: &'static str,
-    library: OnTarget,
-    plain: OnTarget,
+    pair: Pair,
     inputs: Vec<[Vec<u32>; 3]>,
 }
 
@@ -46,35 +44,16 @@ fn calls() -> [Call; 7] {
     let moves: Vec<_> = moves.collect();
     let logs = [merge_log(&mut random, &full, 1_024, 1_024), global_log(&mut random, &full, 1_024, 1_024)];
     let logs: Vec<_> = logs.into_iter().map(|(start, log)| input(start, log_words(&log))).collect();
-    [
-        Call {
-            name: "check_table",
-            library: |table, _, _, _| library::check_table(table),
-            plain: |table, _, _, _| plain::check_table(table),
-            inputs: states.clone(),
-        },
-        Call {
-            name: "check_state",
-            library: |table, state, _, _| library::check_state(table, state),
-            plain: |table, state, _, _| plain::check_state(table, state),
-            inputs: states,
-        },
-        Call { name: "move", library: library::make_move, plain: plain::make_move, inputs: moves.clone() },
-        Call {
-            name: "preview",
-            library: |table, state, mv, target| preview_on_target(library::preview, table, state, mv, target),
-            plain: |table, state, mv, target| preview_on_target(plain::preview, table, state, mv, target),
-            inputs: moves,
-        },
-        Call { name: "run", library: library::run, plain: plain::run, inputs: logs.clone() },
-        Call { name: "serialize", library: library::serialize, plain: plain::serialize, inputs: logs },
-        Call {
-            name: "list_moves",
-            library: |table, state, asked, target| page_on_target(library::list_moves, table, state, asked, target),
-            plain: |table, state, asked, target| page_on_target(plain::list_moves, table, state, asked, target),
-            inputs: pages(&mut random),
-        },
-    ]
+    let calls = [
+        (CHECK_TABLE, states.clone()),
+        (CHECK_STATE, states),
+        (MAKE_MOVE, moves.clone()),
+        (PREVIEW, moves),
+        (RUN, logs.clone()),
+        (SERIALIZE, logs),
+        (LIST_MOVES, pages(&mut random)),
+    ];
+    calls.map(|(pair, inputs)| Call { pair, inputs })
 }
 
 /// The call in a thread whose stack ends in a guard page: an overflow ends the test.
@@ -85,13 +64,13 @@ fn on_small_stack<T: Send>(call: impl FnOnce() -> T + Send) -> T {
 // Catches a call that needs more stack than is promised: each at full size, accepted.
 #[test]
 fn every_call_runs_in_256_kilobytes() {
-    for Call { name, library, plain, inputs } in calls() {
+    for Call { pair: Pair { name, ours, rust }, inputs } in calls() {
         for [table, state, third] in inputs {
             let room = STATE_TARGET.max(third.len());
             let (mut expected, mut target) = (vec![0; room], vec![0; room]);
-            let answer = plain(&table, &state, &third, &mut expected);
+            let answer = rust(&table, &state, &third, &mut expected);
             assert_eq!(answer.number(), 0, "{name}");
-            assert_eq!(on_small_stack(|| library(&table, &state, &third, &mut target)), answer, "{name}");
+            assert_eq!(on_small_stack(|| ours(&table, &state, &third, &mut target)), answer, "{name}");
             assert!(target == expected, "{name}");
         }
     }
@@ -104,11 +83,11 @@ fn the_stated_figures_are_the_measured_ones() {
     let readme = fs::read_to_string(Path::new(ROOT).join("README.md")).unwrap();
     let rows = rows(&prose(&readme), "| call | stack |");
     assert_eq!(rows.len(), calls().len());
-    for (Call { name, library, inputs, .. }, row) in calls().into_iter().zip(rows) {
+    for (Call { pair: Pair { name, ours, .. }, inputs }, row) in calls().into_iter().zip(rows) {
         let used = |[table, state, third]: [Vec<u32>; 3]| {
             let mut target = vec![0; STATE_TARGET.max(third.len())];
             stack::used(|| {
-                library(&table, &state, &third, &mut target);
+                ours(&table, &state, &third, &mut target);
             })
         };
         let bytes = inputs.into_iter().map(used).max().unwrap();

@@ -6,14 +6,15 @@ use std::env::args;
 use std::hint::black_box;
 use std::time::Instant;
 
-use harness::answer::{page_on_target, page_words, preview_on_target, OnTarget};
+use harness::answer::{page_words, preview_on_target, OnTarget};
 use harness::generate::workloads::{
     fours, global_log, members, merge_log, messages, mixed, single_moves, spread, table,
 };
+use harness::pairs::{Pair, CHECK_STATE, CHECK_TABLE, LIST_MOVES, MAKE_MOVE, PREVIEW, RUN, SERIALIZE};
+use harness::plain;
 use harness::random::Random;
 use harness::stack;
 use harness::words::{log_words, Move, State, Table, STATE_TARGET};
-use harness::{library, plain};
 
 /// So many logs are taken in turn: the times of one log again and again do not grow steadily with its moves. For the
 /// list so many states.
@@ -22,39 +23,9 @@ const TURNS: usize = 16;
 /// A state, and the move, log or page that goes with it; none for a check.
 type Input = (State, Vec<u32>);
 
-/// A call and its plain counterpart, in one shape: the checks ignore what they do not take.
-struct Pair {
-    name: &'static str,
-    ours: OnTarget,
-    rust: OnTarget,
-}
-
-const CHECK_TABLE: Pair = Pair {
-    name: "check_table",
-    ours: |table, _, _, _| library::check_table(table),
-    rust: |table, _, _, _| plain::check_table(table),
-};
-const CHECK_STATE: Pair = Pair {
-    name: "check_state",
-    ours: |table, state, _, _| library::check_state(table, state),
-    rust: |table, state, _, _| plain::check_state(table, state),
-};
-const MAKE_MOVE: Pair = Pair { name: "move", ours: library::make_move, rust: plain::make_move };
-const PREVIEW: Pair = Pair {
-    name: "preview",
-    ours: |table, state, mv, target| preview_on_target(library::preview, table, state, mv, target),
-    rust: |table, state, mv, target| preview_on_target(plain::preview, table, state, mv, target),
-};
-/// Plain Rust on a state's words in place.
+/// Plain Rust's preview on a state's words in place.
 const IN_PLACE: OnTarget =
     |table, state, mv, target| preview_on_target(plain::preview_in_place, table, state, mv, target);
-const RUN: Pair = Pair { name: "run", ours: library::run, rust: plain::run };
-const SERIALIZE: Pair = Pair { name: "serialize", ours: library::serialize, rust: plain::serialize };
-const LIST_MOVES: Pair = Pair {
-    name: "list_moves",
-    ours: |table, state, asked, target| page_on_target(library::list_moves, table, state, asked, target),
-    rust: |table, state, asked, target| page_on_target(plain::list_moves, table, state, asked, target),
-};
 
 /// How long to measure.
 #[derive(Clone, Copy)]

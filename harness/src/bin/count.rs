@@ -5,12 +5,12 @@ use std::env::args;
 use std::hint::black_box;
 use std::io::{stdout, Write};
 
-use harness::answer::{page_on_target, page_words, preview_on_target, OnTarget};
+use harness::answer::page_words;
 use harness::generate::workloads::{fours, global_log, merge_log, single_moves, spread, table};
-use harness::program;
+use harness::pairs::{Pair, LIST_MOVES, MAKE_MOVE, PREVIEW, RUN, SERIALIZE};
 use harness::random::Random;
 use harness::words::{log_words, STATE_TARGET};
-use harness::{library, plain};
+use harness::{plain, program};
 
 const CALLS: usize = 10;
 
@@ -55,21 +55,13 @@ fn input(kind: &str, entries: usize, moves: usize) -> Vec<u8> {
 }
 
 /// A call, its plain counterpart and their input.
-fn measured(call: &str, kind: &str, entries: usize, moves: usize) -> (OnTarget, OnTarget, Input) {
+fn measured(call: &str, kind: &str, entries: usize, moves: usize) -> (Pair, Input) {
     match call {
-        "move" => (library::make_move, plain::make_move, single(kind, entries)),
-        "preview" => (
-            |table, state, mv, target| preview_on_target(library::preview, table, state, mv, target),
-            |table, state, mv, target| preview_on_target(plain::preview, table, state, mv, target),
-            single(kind, entries),
-        ),
-        "run" => (library::run, plain::run, log(kind, entries, moves)),
-        "serialize" => (library::serialize, plain::serialize, log(kind, entries, moves)),
-        "list_moves" => (
-            |table, state, asked, target| page_on_target(library::list_moves, table, state, asked, target),
-            |table, state, asked, target| page_on_target(plain::list_moves, table, state, asked, target),
-            page(kind, entries, moves),
-        ),
+        "move" => (MAKE_MOVE, single(kind, entries)),
+        "preview" => (PREVIEW, single(kind, entries)),
+        "run" => (RUN, log(kind, entries, moves)),
+        "serialize" => (SERIALIZE, log(kind, entries, moves)),
+        "list_moves" => (LIST_MOVES, page(kind, entries, moves)),
         other => panic!("{other} is no call that takes a move or a log or lists moves"),
     }
 }
@@ -89,10 +81,9 @@ fn main() {
     if call == "input" {
         return stdout().write_all(&input(kind, entries, moves)).unwrap();
     }
-    let (ours, rust, input) = measured(call, kind, entries, moves);
-    let [table, state, third] = input;
+    let (pair, [table, state, third]) = measured(call, kind, entries, moves);
     let mut target = vec![0; STATE_TARGET.max(third.len())];
-    for call in [ours, rust] {
+    for call in [pair.ours, pair.rust] {
         for _ in 0..CALLS {
             let answer = black_box(call)(&table, &state, &third, &mut target);
             assert_eq!(answer.number(), 0, "{answer:?}");

@@ -1,5 +1,5 @@
 //! Moves with faults, for the calls that take a single one.
-use super::after;
+use super::after_a;
 use harness::random::Random;
 use harness::two_lot::{self, case_a};
 use harness::words::{role, Atom, Entry, Move, State, Table};
@@ -37,7 +37,7 @@ pub fn any_words(random: &mut Random) -> impl Iterator<Item = Vec<u32>> + '_ {
 /// The two-lot plant after some moves of (a), and the next one, with noise in one of the three.
 pub fn noise(random: &mut Random) -> [Vec<u32>; 3] {
     let made = random.index(6);
-    let mut parts = [two_lot::table(), after(&case_a()[..made]), case_a()[made].words()];
+    let mut parts = [two_lot::table(), after_a(made), case_a()[made].words()];
     let part = random.index(3);
     let length = random.pick(&[0, 1, 4, 5, 6, 12, 29, 200]);
     match random.below(3) {

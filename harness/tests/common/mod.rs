@@ -173,6 +173,11 @@ pub fn after(moves: &[Move]) -> Vec<u32> {
     })
 }
 
+/// .. after so many moves of (a).
+pub fn after_a(moves: usize) -> Vec<u32> {
+    after(&two_lot::case_a()[..moves])
+}
+
 /// A begin with an abort mark inside, a local rule, merge rules of one to four consumes, and a global rule.
 pub fn every_rule() -> Table {
     let merge = |picks: usize| [vec![Atom::consume(2); picks], vec![Atom::received(role::EMIT, 2, 0)]].concat();

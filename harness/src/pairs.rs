@@ -1,0 +1,34 @@
+//! Each call of the library beside its plain counterpart, in one shape: the checks ignore what they do not take.
+use crate::answer::{page_on_target, preview_on_target, OnTarget};
+use crate::{library, plain};
+
+#[derive(Clone, Copy)]
+pub struct Pair {
+    pub name: &'static str,
+    pub ours: OnTarget,
+    pub rust: OnTarget,
+}
+
+pub const CHECK_TABLE: Pair = Pair {
+    name: "check_table",
+    ours: |table, _, _, _| library::check_table(table),
+    rust: |table, _, _, _| plain::check_table(table),
+};
+pub const CHECK_STATE: Pair = Pair {
+    name: "check_state",
+    ours: |table, state, _, _| library::check_state(table, state),
+    rust: |table, state, _, _| plain::check_state(table, state),
+};
+pub const MAKE_MOVE: Pair = Pair { name: "move", ours: library::make_move, rust: plain::make_move };
+pub const PREVIEW: Pair = Pair {
+    name: "preview",
+    ours: |table, state, mv, target| preview_on_target(library::preview, table, state, mv, target),
+    rust: |table, state, mv, target| preview_on_target(plain::preview, table, state, mv, target),
+};
+pub const RUN: Pair = Pair { name: "run", ours: library::run, rust: plain::run };
+pub const SERIALIZE: Pair = Pair { name: "serialize", ours: library::serialize, rust: plain::serialize };
+pub const LIST_MOVES: Pair = Pair {
+    name: "list_moves",
+    ours: |table, state, asked, target| page_on_target(library::list_moves, table, state, asked, target),
+    rust: |table, state, asked, target| page_on_target(plain::list_moves, table, state, asked, target),
+};
