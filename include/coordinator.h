@@ -139,7 +139,7 @@ coordinator_answer coordinator_run(const uint32_t *table, size_t table_len,
                                    uint32_t *target, size_t target_len);
 
 /* The serial log of a log: the same moves, those of each transaction directly before its end.
- * Refusals: 1, 2, 3, 4, 13, 6, 14, 15 (start), 16, 15 (end), 17. Stack: 54.4 KB. */
+ * Refusals: 1, 2, 3, 4, 13, 6, 14, 15 (start), 16, 15 (end), 17. Stack: 54.3 KB. */
 coordinator_answer coordinator_serialize(const uint32_t *table, size_t table_len,
                                          const uint32_t *state, size_t state_len,
                                          const uint32_t *log, size_t log_len,
