@@ -25,7 +25,7 @@ use Rattle.wellformed.specs.Verdicts.{both-allowed, unless-allowed}
 use Rattle.wellformed.specs.Rules.{RuleRight, TableRight}
 use Rattle.wellformed.specs.Entries.{Sound}
 use Rattle.wellformed.specs.Picks.{ReactGiven, react-given, picks-length, pick-lt, owners-zero, owners-positive}
-use Rattle.wellformed.specs.Preservation.{RuleKnown, rule-known, end-id}
+use Rattle.wellformed.specs.Preservation.{rule-number, end-id}
 use Rattle.cells.specs.Rules.{Shape, plain, begin, inner}
 use Rattle.cells.specs.Shapes.{table-shaped}
 use Rattle.state.specs.declared.State.{State}
@@ -92,7 +92,7 @@ module _ {t : Table} {s : semantics.State} {head : ℕ} {picks : List ℕ} (g : 
     reacts = react-given rule s used (rw (is-react t head picks k) at (g .allows))
 
     right : RuleRight (t .sizes) rule
-    right = g .table .rule (headNumber head) (subst (RuleKnown t) (is-react t head picks k) (rule-known t (head ∷ picks) (g .form)))
+    right = g .table .rule (headNumber head) (rule-number t (head ∷ picks) (g .form) k)
 
     shape : Shape rule
     shape = table-shaped t (g .table) (g .quiet) (headNumber head)
