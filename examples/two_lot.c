@@ -46,7 +46,7 @@ static void run(const char *name, const uint32_t *log, size_t log_len)
         for (at = 0; at < answer.words; at++) {
             printf(" 0x%08" PRIx32, target[at]);
         }
-        printf("\n");
+        printf(", %" PRIu32 " members ended\n", answer.members);
     }
 }
 
@@ -73,8 +73,9 @@ static void preview(const char *name, const uint32_t *mv)
     if (answer.number != COORDINATOR_ACCEPTED) {
         printf("%s: would be refused with %" PRIu32 "\n", name, answer.number);
     } else {
-        printf("%s: would leave %" PRIu32 " entries, next id %" PRIu32 "; transaction %" PRIu32 "\n", name,
-               answer.entries, answer.next, answer.id);
+        printf("%s: would leave %" PRIu32 " entries, next id %" PRIu32 "; transaction %" PRIu32 ", would end %" PRIu32
+               " members\n",
+               name, answer.entries, answer.next, answer.id, answer.members);
     }
 }
 

@@ -35,8 +35,9 @@
 extern "C" {
 #endif
 
-/* Raised when a struct or a signature below changes; a call that is added changes neither. */
-#define COORDINATOR_ABI 1u
+/* Raised when a struct or a signature below changes; a call that is added changes neither. The linker does
+ * not notice: a program that was built with a header of another number must be built again. */
+#define COORDINATOR_ABI 2u
 
 /* Limits and sizes. */
 #define COORDINATOR_MAX_PORTS 256u       /* of a table, all three classes together */
@@ -87,10 +88,11 @@ extern "C" {
 #define COORDINATOR_TRANSACTION_ABORTING 18u /* the transaction of a picked message has an abort mark: abort it */
 
 typedef struct coordinator_answer {
-    uint32_t number; /* one of the numbers above */
-    uint32_t words;  /* accepted: the words written, 0 by a check; else 0 */
-    uint32_t place;  /* COORDINATOR_MOVE_REFUSED: the move's place in the log, from 0; else 0 */
-    uint32_t own;    /* COORDINATOR_MOVE_REFUSED: the move's own number, 5, 7 to 12, or 18; else 0 */
+    uint32_t number;  /* one of the numbers above */
+    uint32_t words;   /* accepted: the words written, 0 by a check; else 0 */
+    uint32_t place;   /* COORDINATOR_MOVE_REFUSED: the move's place in the log, from 0; else 0 */
+    uint32_t own;     /* COORDINATOR_MOVE_REFUSED: the move's own number, 5, 7 to 12, or 18; else 0 */
+    uint32_t members; /* accepted move or run: the member marks (lot marks) that it removed; else 0 */
 } coordinator_answer;
 
 typedef struct coordinator_preview_answer {
@@ -99,6 +101,7 @@ typedef struct coordinator_preview_answer {
     uint32_t next;    /* accepted: the next id (ticket) of that state; else 0 */
     uint32_t id;      /* accepted: the transaction (batch) that the move begins, reacts in, commits or aborts,
                          the smallest of those that it merges, 0 for a global rule without begin; else 0 */
+    uint32_t members; /* accepted: the member marks (lot marks) that the move would remove; else 0 */
 } coordinator_preview_answer;
 
 typedef struct coordinator_page {
@@ -116,30 +119,32 @@ coordinator_answer coordinator_check_table(const uint32_t *table, size_t table_l
 coordinator_answer coordinator_check_state(const uint32_t *table, size_t table_len,
                                            const uint32_t *state, size_t state_len);
 
-/* The state after one move.
+/* The state after one move, and the member marks that it removed: all of the transaction that it commits or
+ * aborts, 0 for a reaction.
  * Refusals: 1, 2, 3, 4, 5, 6, 7, 8, 18, 9, 10, 11, 12. Stack: 25.4 KB. */
 coordinator_answer coordinator_move(const uint32_t *table, size_t table_len,
                                     const uint32_t *state, size_t state_len,
                                     const uint32_t *move, size_t move_len,
                                     uint32_t *target, size_t target_len);
 
-/* What one move would do: the number of coordinator_move with a long enough target, and the entries and
- * next id of the state after it. No move is made and there is no target, so there is no 6. The answer is
- * for the state handed in: after another move, ask again.
+/* What one move would do: the number of coordinator_move with a long enough target, its members, and the
+ * entries and next id of the state after it. No move is made and there is no target, so there is no 6. The
+ * answer is for the state handed in: after another move, ask again.
  * Refusals: 1, 2, 3, 4, 5, 7, 8, 18, 9, 10, 11, 12. Stack: 23.5 KB. */
 coordinator_preview_answer coordinator_preview(const uint32_t *table, size_t table_len,
                                                const uint32_t *state, size_t state_len,
                                                const uint32_t *move, size_t move_len);
 
-/* The state after a log's moves, one after another.
+/* The state after a log's moves, one after another, and their members added up.
  * Refusals: 1, 2, 3, 4, 13, 6, 16. Stack: 25.4 KB. */
 coordinator_answer coordinator_run(const uint32_t *table, size_t table_len,
                                    const uint32_t *state, size_t state_len,
                                    const uint32_t *log, size_t log_len,
                                    uint32_t *target, size_t target_len);
 
-/* The serial log of a log: the same moves, those of each transaction directly before its end.
- * Refusals: 1, 2, 3, 4, 13, 6, 14, 15 (start), 16, 15 (end), 17. Stack: 54.3 KB. */
+/* The serial log of a log: the same moves, those of each transaction directly before its end. Its run
+ * removes as many member marks as the log's.
+ * Refusals: 1, 2, 3, 4, 13, 6, 14, 15 (start), 16, 15 (end), 17. Stack: 54.4 KB. */
 coordinator_answer coordinator_serialize(const uint32_t *table, size_t table_len,
                                          const uint32_t *state, size_t state_len,
                                          const uint32_t *log, size_t log_len,

@@ -3,8 +3,10 @@ use crate::words::page_target;
 
 #[derive(Clone, Copy, Debug, PartialEq, Eq)]
 pub enum Answer {
-    /// The words written; 0 for a check.
+    /// The words written by a serial log or a page; 0 for a check.
     Accepted(u32),
+    /// A move or a run: the words written, and the member marks removed.
+    Moved { words: u32, members: u32 },
     /// 01's or 02's number, other than 16.
     Refused(u32),
     /// Number 16: the move at `place` is refused with its `own` number.
@@ -15,10 +17,35 @@ impl Answer {
     /// 01's or 02's number, 0 for an accepted call.
     pub fn number(self) -> u32 {
         match self {
-            Answer::Accepted(_) => 0,
+            Answer::Accepted(_) | Answer::Moved { .. } => 0,
             Answer::Refused(number) => number,
             Answer::MoveRefused { .. } => 16,
         }
+    }
+
+    /// The words written.
+    pub fn words(self) -> u32 {
+        match self {
+            Answer::Accepted(words) | Answer::Moved { words, .. } => words,
+            Answer::Refused(_) | Answer::MoveRefused { .. } => 0,
+        }
+    }
+
+    /// The member marks removed.
+    pub fn members(self) -> u32 {
+        match self {
+            Answer::Moved { members, .. } => members,
+            _ => 0,
+        }
+    }
+
+    /// What C gets: number, words, place, own and members.
+    pub fn in_c(self) -> [u32; 5] {
+        let (place, own) = match self {
+            Answer::MoveRefused { place, own } => (place, own),
+            _ => (0, 0),
+        };
+        [self.number(), self.words(), place, own, self.members()]
     }
 
     /// The answer of a check.
@@ -37,7 +64,7 @@ impl Answer {
 }
 
 /// A call on a table, a state, a move or log, and a target.
-pub type OnTarget = fn(&[u32], &[u32], &[u32], &mut [u32]) -> Answer;
+pub type OnTarget<A = Answer> = fn(&[u32], &[u32], &[u32], &mut [u32]) -> A;
 
 /// What the list of enabled moves answers: the words of a page, and how many moves the whole list has,
 /// 0 if it is refused.
@@ -83,17 +110,19 @@ pub struct Preview {
     /// The transaction concerned: begun, reacting, committed or aborted, after a merge the smallest id of
     /// those merged; 0 for none.
     pub id: u32,
+    /// The member marks that the move removes.
+    pub members: u32,
 }
 
 impl Preview {
     /// A move that would be made.
-    pub fn accepted(entries: usize, next: u32, id: u32) -> Preview {
-        Preview { number: 0, entries: entries as u32, next, id }
+    pub fn accepted(entries: usize, next: u32, id: u32, members: u32) -> Preview {
+        Preview { number: 0, entries: entries as u32, next, id, members }
     }
 
     /// A move that would be refused.
     pub fn refused(number: u32) -> Preview {
-        Preview { number, entries: 0, next: 0, id: 0 }
+        Preview { number, entries: 0, next: 0, id: 0, members: 0 }
     }
 }
 
@@ -104,7 +133,7 @@ pub type OnMove = fn(&[u32], &[u32], &[u32]) -> Preview;
 /// has all that is answered.
 pub fn preview_on_target(call: OnMove, table: &[u32], state: &[u32], mv: &[u32], target: &mut [u32]) -> Answer {
     match call(table, state, mv) {
-        Preview { number: 0, entries, next, id } => Answer::write(&[entries, next, id], target),
+        Preview { number: 0, entries, next, id, members } => Answer::write(&[entries, next, id, members], target),
         Preview { number, .. } => Answer::Refused(number),
     }
 }

@@ -91,7 +91,7 @@ pub fn state(words: &[u32]) -> String {
 }
 
 /// What a move does.
-fn does(mv: Move) -> String {
+pub fn does(mv: Move) -> String {
     match mv.kind {
         act::REACT => format!("react by rule {}", mv.number),
         act::COMMIT => format!("commit {}", mv.number),
@@ -119,12 +119,13 @@ pub fn moves(first: usize, moves: &[Move]) -> String {
 }
 
 /// The columns of `preview`.
-pub const PREVIEWS_HEAD: &str = "case  after  head        picks    number  entries  next  id\n";
+pub const PREVIEWS_HEAD: &str = "case  after  head        picks    number  entries  next  id  members\n";
 
-/// A move of a case after so many others, with what its preview answers: number, entries, next id and id.
-pub fn preview(case: char, after: usize, mv: Move, [number, entries, next, id]: [u32; 4]) -> String {
+/// A move of a case after so many others, with what its preview answers: number, entries, next id, id and members.
+pub fn preview(case: char, after: usize, mv: Move, [number, entries, next, id, members]: [u32; 5]) -> String {
     let (head, picks, does) = (mv.head(), picks(mv), does(mv));
-    format!("({case}) {after:>7}  {head:#010x}  {picks} {number:>7} {entries:>8} {next:>5} {id:>3}  {does}\n")
+    let asked = format!("({case}) {after:>7}  {head:#010x}  {picks}");
+    format!("{asked} {number:>7} {entries:>8} {next:>5} {id:>3} {members:>8}  {does}\n")
 }
 
 /// A log: each move's head and picks. The words follow its layout; `was` gives each move's place in

@@ -4,6 +4,7 @@ pub mod answer;
 pub mod apart;
 pub mod examples;
 pub mod generate;
+pub mod in_c;
 pub mod library;
 pub mod markdown;
 pub mod model;

@@ -83,7 +83,7 @@ pub fn output(calls: Calls, input: &[u8]) -> String {
         mv.extend(&log[1 + k + 4 * place..][..4]);
         let mut target = vec![0; STATE_TARGET];
         let answer = (calls.make_move)(&table, &state, &mv, &mut target);
-        if let Answer::Accepted(words) = answer {
+        if let Answer::Moved { words, .. } = answer {
             target.truncate(words as usize);
             state = target;
         }

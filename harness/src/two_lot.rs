@@ -41,8 +41,10 @@ pub fn lists_a() -> [Vec<Move>; 7] {
     ]
 }
 
-/// What the preview of each move of (a) says before it is made: entries, next id, and the id concerned.
-pub const PREVIEWS_A: [[u32; 3]; 6] = [[4, 2, 1], [6, 3, 2], [6, 3, 1], [6, 3, 2], [6, 3, 1], [2, 3, 1]];
+/// What the preview of each move of (a) says before it is made: entries, next id, the id concerned, and the
+/// members that end.
+pub const PREVIEWS_A: [[u32; 4]; 6] =
+    [[4, 2, 1, 0], [6, 3, 2, 0], [6, 3, 1, 0], [6, 3, 2, 0], [6, 3, 1, 0], [2, 3, 1, 2]];
 
 /// What the program prints for case (a), whole.
 pub const LINES_A: &str = "\

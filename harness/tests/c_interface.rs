@@ -151,7 +151,9 @@ fn header_and_crate_declare_the_same() {
     let (c, rust) = (declared_in_c(), declared_in_rust());
     let preview = "preview(table: *const u32, table_len: usize, state: *const u32, state_len: usize, \
         mv: *const u32, mv_len: usize) -> PreviewAnswer";
-    for one in ["PreviewAnswer { number: u32, entries: u32, next: u32, id: u32 }", preview] {
+    let answer = "Answer { number: u32, words: u32, place: u32, own: u32, members: u32 }";
+    let preview_answer = "PreviewAnswer { number: u32, entries: u32, next: u32, id: u32, members: u32 }";
+    for one in [answer, preview_answer, preview] {
         assert!(c.contains(one), "{one} is not in {c:#?}");
     }
     assert_eq!(c, rust);
@@ -204,7 +206,7 @@ fn header_and_crate_agree() {
         ("MOVE_WORDS", coordinator::MOVE_WORDS),
         ("STATE_TARGET_WORDS", coordinator::STATE_TARGET_WORDS),
         ("STACK_BYTES", 256 << 10),
-        ("ABI", 1),
+        ("ABI", 2),
         ("ACCEPTED", 0),
         ("MOVE_REFUSED", Refusal::MoveRefused { place: 0, own: 5 }.number() as usize),
     ];

@@ -147,6 +147,7 @@ fn generated() -> BTreeMap<String, String> {
         ("lists a".into(), lists()),
         ("page".into(), page()),
         ("previews".into(), previews()),
+        ("members".into(), members()),
         ("abort mark".into(), abort_mark()),
         ("refusals".into(), refusals()),
         ("order".into(), orders()),
@@ -155,7 +156,7 @@ fn generated() -> BTreeMap<String, String> {
         let mut state = start.clone();
         for (place, mv) in log.iter().enumerate() {
             let (answer, after) = make_move(&table, &state, &mv.words());
-            assert_eq!(answer, Answer::Accepted(after.len() as u32));
+            assert_eq!(answer.number(), 0);
             state = after;
             if place >= from {
                 all.insert(format!("{name} {place}"), apart::one_move(*mv) + &apart::state(&state));
@@ -200,19 +201,42 @@ fn page() -> String {
 /// The preview of each move of (a), and of the cases that are refused.
 fn previews() -> String {
     let accepted = case_a().into_iter().zip(two_lot::PREVIEWS_A).enumerate();
-    let accepted = accepted.map(|(after, (mv, [entries, next, id]))| ('a', after, mv, [0, entries, next, id]));
+    let accepted =
+        accepted.map(|(after, (mv, [entries, next, id, members]))| ('a', after, mv, [0, entries, next, id, members]));
     let refused =
-        two_lot::refused().map(|refused| (refused.case, refused.after, refused.mv, [refused.number, 0, 0, 0]));
-    let line = |(case, moves, mv, figures): (char, usize, Move, [u32; 4])| {
+        two_lot::refused().map(|refused| (refused.case, refused.after, refused.mv, [refused.number, 0, 0, 0, 0]));
+    let line = |(case, moves, mv, figures): (char, usize, Move, [u32; 5])| {
         let (table, state) = (two_lot::table(), after_a(moves));
-        let Preview { number, entries, next, id } = preview(&table, &state, &mv.words());
-        assert_eq!([number, entries, next, id], figures, "({case}) after {moves}");
-        // The number is that of the move, and so are the figures of the state that it leaves.
+        let Preview { number, entries, next, id, members } = preview(&table, &state, &mv.words());
+        assert_eq!([number, entries, next, id, members], figures, "({case}) after {moves}");
+        // Number and members are those of the move, and so are the figures of the state that it leaves.
         let (made, left) = make_move(&table, &state, &mv.words());
-        assert_eq!((made.number(), left.get(..2).unwrap_or(&[0, 0])), (figures[0], &figures[1..3]));
+        let (entries, next) = left.first_chunk().map_or((0, 0), |&[entries, next]| (entries, next));
+        assert_eq!([made.number(), entries, next, id, made.members()], figures);
         apart::preview(case, moves, mv, figures)
     };
     apart::PREVIEWS_HEAD.to_string() + &accepted.chain(refused).map(line).collect::<String>()
+}
+
+/// The members that end with each move of (a), with runs, and with a run that is refused after an end.
+fn members() -> String {
+    let (table, start) = (two_lot::table(), two_lot::start());
+    let line = |case: &str, answer: Answer, does: &str| {
+        let (number, members) = (answer.number(), answer.members());
+        let line = format!("{case:<10} {number:>7}  {members:>7}  {does}");
+        format!("{}\n", line.trim_end())
+    };
+    let mut text = String::from("case        number  members\n");
+    for (place, mv) in case_a().into_iter().enumerate() {
+        let (answer, _) = make_move(&table, &after_a(place), &mv.words());
+        text += &line(&format!("(a) {place}"), answer, &apart::does(mv));
+    }
+    let twice = [&case_a()[..], &case_a()[5..]].concat();
+    let runs = [("run (a)", case_a()), ("run (d)", case_d()), ("serial (d)", serial_d()), ("(a) and 5", twice)];
+    for (case, log) in runs {
+        text += &line(case, run(&table, &start, &log_words(&log)).0, "");
+    }
+    text
 }
 
 /// A transaction with an abort mark: a merge with it is refused, and the list has its abort alone.

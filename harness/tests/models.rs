@@ -1,7 +1,7 @@
 //! The model by itself, as the paper has it, and its molecules beside the plain code's entries.
 mod common;
 
-use std::collections::BTreeMap;
+use std::collections::{BTreeMap, BTreeSet};
 
 use harness::answer::{Answer, Preview};
 use harness::generate::lists::{listed, met};
@@ -14,7 +14,7 @@ use harness::generate::tally::Tally;
 use harness::model::colours;
 use harness::model::definitions::{Channel, Definition, Definitions, Output, Product, Term};
 use harness::model::ordered::{Made, Ordered};
-use harness::model::solution::{Message, Origin, Solution};
+use harness::model::solution::{Message, Origin, Solution, Transaction};
 use harness::random::Random;
 use harness::words::{act, kind, log_words, page_target, role, Atom, Entry, Move, State, Table};
 use harness::{model, plain};
@@ -75,22 +75,27 @@ fn merged(rule: usize) -> Solution {
     solution
 }
 
-// Catches a merge that loses a compensation, or a commit that frees one: the paper's P → P4.
+/// The ids of the members that a transaction ended with.
+fn members(ended: &Transaction) -> Vec<u32> {
+    ended.members.values().copied().collect()
+}
+
+// Catches a merge that loses a compensation or a member, or a commit that frees one: the paper's P → P4.
 #[test]
 fn example_8_commits() {
     let mut solution = merged(2);
     assert_eq!(solution.abort(1), Err(10));
-    solution.commit(1).unwrap();
+    assert_eq!(members(&solution.commit(1).unwrap()), [1, 2]);
     assert_eq!(values(&solution.messages), [(OK, 0)]);
     assert!(solution.transactions.is_empty());
 }
 
-// Catches an abort that frees only one party's compensation: the paper's P → P6.
+// Catches an abort that frees only one party's compensation, or ends only one: the paper's P → P6.
 #[test]
 fn example_8_aborts() {
     let mut solution = merged(3);
     assert_eq!(solution.commit(1), Err(10));
-    solution.abort(1).unwrap();
+    assert_eq!(members(&solution.abort(1).unwrap()), [1, 2]);
     assert_eq!(values(&solution.messages), [(Q, 10), (Q, 20)]);
     assert!(solution.transactions.is_empty());
 }
@@ -144,8 +149,10 @@ fn example_8_has_one_colour() {
         .map(|(place, mv)| ordered.make_words(&definitions, &mv.words(), place, 1_024).unwrap())
         .collect();
     // Every scope needs a colour, and the first transaction is still open: it is ended by hand.
-    history.push(Made::Ended { kind: act::ABORT, id: 1 });
+    let ended = ordered.solution.transactions[&1].clone();
+    history.push(Made::Ended { kind: act::ABORT, id: 1, ended });
     assert_eq!(colours::colours(&history), [Some(5), Some(4), Some(4), Some(4), Some(4), Some(5)]);
+    assert_eq!(history.iter().map(Made::members).collect::<Vec<_>>(), [0, 0, 0, 0, 2, 1]);
 }
 
 /// The molecules of a solution as entries, without any order.
@@ -176,11 +183,9 @@ fn molecules_are_the_entries() {
             ordered.make_words(&definitions, &mv.words(), place, 1_024).unwrap();
         }
         let mut target = vec![0; 2_050];
-        let words = match plain::run(&table.words(), &start.words(), &log_words(&log), &mut target) {
-            Answer::Accepted(words) => words as usize,
-            other => panic!("{other:?}"),
-        };
-        let end = State::from_words(&target[..words]).unwrap();
+        let answer = plain::run(&table.words(), &start.words(), &log_words(&log), &mut target);
+        assert_eq!(answer.number(), 0);
+        let end = State::from_words(&target[..answer.words() as usize]).unwrap();
         let mut entries = end.entries.clone();
         entries.sort_unstable();
         assert_eq!((molecules(&ordered.solution), ordered.solution.next), (entries, end.next));
@@ -188,7 +193,7 @@ fn molecules_are_the_entries() {
 }
 
 // Catches a serial order after which the calculus is elsewhere: the named molecules, not only
-// their words, are the same at the end of both orders (the paper's theorem).
+// their words, are the same at the end of both orders (the paper's theorem), and each move ends as many members.
 #[test]
 fn both_orders_end_in_the_same_named_molecules() {
     let mut random = Random::new(602);
@@ -207,7 +212,8 @@ fn both_orders_end_in_the_same_named_molecules() {
         let serial = colours::serial(&definitions, first.clone(), &history, 1_024).unwrap();
         let mut again = first;
         for (&place, mv) in order.iter().zip(&serial) {
-            again.make_words(&definitions, &mv.words(), place, 1_024).unwrap();
+            let made = again.make_words(&definitions, &mv.words(), place, 1_024).unwrap();
+            assert_eq!(made.members(), history[place].members());
         }
         assert_eq!(again.solution, ordered.solution);
         moves += log.len();
@@ -289,8 +295,16 @@ fn touched(before: &Solution, after: &Solution) -> u32 {
     ids.copied().filter(|id| before.transactions.get(id) != after.transactions.get(id)).min().unwrap_or(0)
 }
 
+/// The members that are in some transaction before and in none after, by their names.
+fn gone(before: &Solution, after: &Solution) -> u32 {
+    let names = |solution: &Solution| -> BTreeSet<Origin> {
+        solution.transactions.values().flat_map(|transaction| transaction.members.keys()).copied().collect()
+    };
+    names(before).difference(&names(after)).count() as u32
+}
+
 // Catches a preview whose figures are not those of the calculus, the plain code's too, which makes no move: the
-// molecules after the move are counted, and the transactions compared with those before it.
+// molecules after the move are counted, and transactions and members compared with those before it.
 #[test]
 fn previews_are_of_the_solution_after_the_move() {
     let mut random = Random::new(605);
@@ -307,7 +321,8 @@ fn previews_are_of_the_solution_after_the_move() {
                 let entries = molecules(&after.solution).len();
                 let mv = Move::from_words(&words).unwrap();
                 tally.add(previews::met(&table, &state, &mv, entries));
-                Preview::accepted(entries, after.solution.next, touched(&before.solution, &after.solution))
+                let (before, after) = (&before.solution, &after.solution);
+                Preview::accepted(entries, after.next, touched(before, after), gone(before, after))
             }
         };
         for preview in [model::preview, plain::preview] {

@@ -2,15 +2,17 @@
 mod common;
 
 use common::faulty::{any_words, first_fault_counts, long_noise, noise, wrong_words};
-use common::{after, after_a, check_state, every_rule, gives, make_move, on_target, refused, MAKE_MOVE};
+use common::{after, after_a, check_state, ends, every_rule, make_move, marks_gone, marks_removed, merging, on_target};
+use common::{reacted, refused, MAKE_MOVE};
 use harness::answer::{order, Answer};
 use harness::generate::aborting::{marked, met, number, reaction_among};
 use harness::generate::moves::{aborting, allowed, changed, consumes};
 use harness::generate::states::state;
 use harness::generate::tables::{table, Shape};
 use harness::generate::tally::Tally;
+use harness::in_c;
 use harness::random::Random;
-use harness::two_lot::{self, case_a};
+use harness::two_lot::{self, case_a, case_c, case_d};
 use harness::words::{act, role, Atom, Entry, Move, State, Table};
 
 fn react(rule: u32, picks: &[u32]) -> Vec<u32> {
@@ -23,7 +25,131 @@ fn cases_a_and_c_by_single_moves() {
     assert_eq!(after(&case_a()), two_lot::END_A);
     // n and N as the program's second line shows them.
     assert_eq!(after_a(1)[..2], [4, 2]);
-    assert_eq!(after(&two_lot::case_c()), two_lot::END_C);
+    assert_eq!(after(&case_c()), two_lot::END_C);
+}
+
+// Catches members of a reaction, a begin or a merge among them, and a merged transaction that counts as one.
+#[test]
+fn members_of_cases_a_c_and_d() {
+    let cases: [(Vec<Move>, &[u32]); 3] =
+        [(case_a(), &[0, 0, 0, 0, 0, 2]), (case_c(), &[0, 0, 0, 0, 1]), (case_d(), &[0, 0, 0, 0, 1, 1])];
+    for (moves, members) in cases {
+        assert_eq!(moves.len(), members.len());
+        for (place, (mv, &members)) in moves.iter().zip(members).enumerate() {
+            let (answer, words) = make_move(&two_lot::table(), &after(&moves[..place]), &mv.words());
+            assert_eq!(answer, Answer::Moved { words: words.len() as u32, members }, "{place} of {moves:?}");
+        }
+    }
+}
+
+// Catches members that a merge loses, and ones that are counted for another transaction: four of five transactions
+// merge, whichever is left alone, and end both ways; the one alone ends as one.
+#[test]
+fn four_members_end_at_once() {
+    let table = merging().words();
+    let reacts = |state: &[u32], rule: u32, picks: &[u32]| {
+        let (answer, words) = make_move(&table, state, &react(rule, picks));
+        assert_eq!(answer, reacted(words.len() as u32));
+        words
+    };
+    let start = State { next: 1, entries: vec![Entry::message(0, 0, 7); 5] }.words();
+    let begun = (0..5).fold(start, |state, _| reacts(&state, 0, &[0]));
+    for alone in 1..=5 {
+        // A transaction's entries are its mark, its offer and its compensation.
+        let offers: Vec<u32> = (1..=5).filter(|&id| id != alone).map(|id| 3 * id - 2).collect();
+        for (rule, end) in [(3, Move::commit as fn(u32) -> Move), (4, Move::abort)] {
+            let merged = reacts(&begun, 2, &offers);
+            let ready = reacts(&merged, rule, &[merged[0] - 1]);
+            let id = if alone == 1 { 2 } else { 1 };
+            let (answer, left) = make_move(&table, &ready, &end(id).words());
+            assert_eq!((answer.number(), answer.members()), (0, 4), "{alone} alone, {:?}", end(id));
+            let offer = State::from_words(&left).unwrap().entries.iter().position(|entry| entry.port == 1).unwrap();
+            let ready = reacts(&left, rule, &[offer as u32]);
+            let (answer, _) = make_move(&table, &ready, &end(alone).words());
+            assert_eq!((answer.number(), answer.members()), (0, 1), "{alone} alone, {:?}", end(alone));
+        }
+    }
+}
+
+// Catches a count that is cut short or is off by one: two transactions share the marks of a state that is full or
+// nearly so, up to the last id, and one of them ends.
+#[test]
+fn members_of_a_full_state() {
+    let mut random = Random::new(308);
+    let table = two_lot::table();
+    for members in [1, 2, 3, 4, 31, 32, 33, 255, 256, 257, 511, 512, 513, 1_021, 1_022] {
+        let first = 65_536 - 1_023;
+        let other = first + members;
+        let owner = |id: u32| if id < other { first } else { other };
+        let mut entries: Vec<Entry> = (first..65_536).map(|id| Entry::member_mark(owner(id), id)).collect();
+        for (mark, end) in [(None, Move::commit(first)), (Some(first), Move::abort(first))] {
+            entries.extend(mark.map(Entry::abort_mark));
+            random.shuffle(&mut entries);
+            let state = State { next: 65_536, entries: entries.clone() };
+            let left: Vec<Entry> = entries.iter().copied().filter(|entry| entry.owner == other).collect();
+            let end = make_move(&table, &state.words(), &end.words());
+            ends(end, &State { next: 65_536, entries: left }.words(), members);
+        }
+    }
+    let all = State { next: 1_025, entries: (1..=1_024).map(|id| Entry::member_mark(1, id)).collect() };
+    ends(make_move(&table, &all.words(), &Move::commit(1).words()), &[0, 1_025], 1_024);
+}
+
+// Catches members beside a refusal, which only C sees: moves that are refused beside a transaction with three.
+#[test]
+fn a_refused_move_tells_no_members() {
+    let table = two_lot::table();
+    let mut entries = vec![Entry::member_mark(3, 3), Entry::member_mark(3, 5), Entry::member_mark(3, 4)];
+    let ready = State { next: 9, entries: entries.clone() }.words();
+    entries.push(Entry::message(3, 2, 7));
+    let unfinished = State { next: 9, entries }.words();
+    let in_c =
+        |table: &[u32], state: &[u32], mv: &[u32], room: usize| in_c::make_move(table, state, mv, &mut vec![0; room]);
+    let [commit, abort] = [Move::commit(3), Move::abort(3)].map(Move::words);
+    assert_eq!(in_c(&table, &ready, &commit, 2_050), [0, 2, 0, 0, 3]);
+    assert_eq!(in_c(&table[1..], &ready, &commit, 2_050), [1, 0, 0, 0, 0]);
+    assert_eq!(in_c(&table, &ready[1..], &commit, 2_050), [3, 0, 0, 0, 0]);
+    assert_eq!(in_c(&table, &ready, &commit[1..], 2_050), [5, 0, 0, 0, 0]);
+    assert_eq!(in_c(&table, &ready, &commit, 2_049), [6, 0, 0, 0, 0]);
+    assert_eq!(in_c(&table, &unfinished, &react(1, &[0]), 2_050), [7, 0, 0, 0, 0]);
+    assert_eq!(in_c(&table, &ready, &Move::commit(4).words(), 2_050), [9, 0, 0, 0, 0]);
+    assert_eq!(in_c(&table, &ready, &abort, 2_050), [10, 0, 0, 0, 0]);
+    assert_eq!(in_c(&table, &unfinished, &commit, 2_050), [10, 0, 0, 0, 0]);
+}
+
+// Catches members that are not the marks which the transaction has in the state's words before its end, and a count
+// that differs from the marks that are gone from the words after it.
+#[test]
+fn random_moves_tell_the_marks_removed() {
+    let mut random = Random::new(307);
+    let mut tally = Tally::default();
+    for round in 0..12_000 {
+        let table = table(&mut random, [Shape::Any, Shape::Small, Shape::EveryClass, Shape::Closable][round % 4]);
+        let most = random.pick(&[6, 20, 60, 300]);
+        let state = state(&mut random, &table, most, true);
+        let Some(mv) = allowed(&mut random, &table, &state, 50) else { continue };
+        let before = state.words();
+        let (answer, after) = make_move(&table.words(), &before, &mv.words());
+        if answer.number() != 0 {
+            continue;
+        }
+        let members = answer.members();
+        assert_eq!(members, marks_removed(&before, &mv.words()), "{mv:?} of {state:?}");
+        assert_eq!(members, marks_gone(&before, &after), "{mv:?} of {state:?}");
+        let begins = after[1] > before[1];
+        let [reacts, commits, aborts] = [act::REACT, act::COMMIT, act::ABORT].map(|kind| mv.kind == kind);
+        tally.add([
+            ("a begin", begins),
+            ("another reaction", reacts && !begins),
+            ("a commit of one", commits && members == 1),
+            ("a commit of two or more", commits && members > 1),
+            ("a commit of four or more", commits && members > 3),
+            ("an abort of one", aborts && members == 1),
+            ("an abort of two or more", aborts && members > 1),
+            ("an abort of four or more", aborts && members > 3),
+        ]);
+    }
+    tally.has_all(50);
 }
 
 // Catches a commit with a merge message inside (b), a pick used twice (e), an abort without an
@@ -69,13 +195,13 @@ fn a_merge_takes_everything_of_each_transaction() {
             Entry::message(4, 1, 40),
         ],
     };
-    gives(make_move(&table, &state.words(), &react(2, &[0, 5])), &expected.words());
+    ends(make_move(&table, &state.words(), &react(2, &[0, 5])), &expected.words(), 0);
     // Only the smallest id names it now, and its abort frees the compensations of both.
     let (_, stopped) = make_move(&table, &expected.words(), &react(3, &[6]));
     refused(make_move(&table, &stopped, &Move::abort(7).words()), 9);
     let freed =
         vec![Entry::message(0, 1, 1), Entry::message(0, 1, 3), Entry::message(0, 0, 5), Entry::member_mark(2, 2)];
-    gives(make_move(&table, &stopped, &Move::abort(4).words()), &State { next: 9, entries: freed }.words());
+    ends(make_move(&table, &stopped, &Move::abort(4).words()), &State { next: 9, entries: freed }.words(), 3);
 }
 
 // Catches an abort mark that is looked for only in the first, the last or the smallest transaction of a
@@ -101,7 +227,7 @@ fn no_pick_is_in_an_aborting_transaction() {
                 let stopped = places.iter().any(|place| marked(4 - place));
                 for places in [places.clone(), places.into_iter().rev().collect()] {
                     let (answer, _) = make_move(&table, &state, &react(rule, &places));
-                    let expected = if stopped { Answer::Refused(18) } else { Answer::Accepted(4 + 2 * (n - picks)) };
+                    let expected = if stopped { Answer::Refused(18) } else { reacted(4 + 2 * (n - picks)) };
                     assert_eq!(answer, expected, "{marks:04b} {places:?}");
                 }
             }
@@ -149,11 +275,11 @@ fn a_transaction_begun_with_an_abort_mark_only_aborts() {
     let table = every_rule().words();
     let start = State { next: 1, entries: vec![Entry::message(0, 0, 7)] }.words();
     let (answer, begun) = make_move(&table, &start, &react(0, &[0]));
-    assert_eq!(answer, Answer::Accepted(12));
+    assert_eq!(answer, reacted(12));
     refused(make_move(&table, &begun, &react(1, &[1])), 18);
     refused(make_move(&table, &begun, &react(2, &[2])), 18);
     refused(make_move(&table, &begun, &Move::commit(1).words()), 10);
-    gives(make_move(&table, &begun, &Move::abort(1).words()), &[1, 2, 0, 7]);
+    ends(make_move(&table, &begun, &Move::abort(1).words()), &[1, 2, 0, 7], 1);
 }
 
 // Catches any difference on reactions whose picks fit but for abort marks, in every mixture of
@@ -188,7 +314,7 @@ fn a_commit_frees_messages_in_their_places() {
     };
     let freed = [Entry::message(0, 1, 2), Entry::message(0, 0, 3), Entry::message(0, 0, 4)];
     let end = State { next: 4, entries: freed.to_vec() };
-    gives(make_move(&table, &state.words(), &Move::commit(3).words()), &end.words());
+    ends(make_move(&table, &state.words(), &Move::commit(3).words()), &end.words(), 1);
     for port in [2, 3] {
         state.entries[4].port = port;
         refused(make_move(&table, &state.words(), &Move::commit(3).words()), 10);
@@ -223,7 +349,7 @@ fn owners_and_kinds_of_picks() {
         refused(make_move(&table, &state, &react(0, &[place])), 7);
     }
     refused(make_move(&table, &state, &react(1, &[4, 5])), 8);
-    assert_eq!(make_move(&table, &state, &react(1, &[6, 4])).0, Answer::Accepted(2 + 2 * 6));
+    assert_eq!(make_move(&table, &state, &react(1, &[6, 4])).0, reacted(2 + 2 * 6));
 }
 
 // Catches a wrong order or owner of products, a mark left out, a value from the wrong consume.
@@ -254,7 +380,7 @@ fn products_of_a_begin() {
             Entry::abort_mark(40),
         ],
     };
-    gives(make_move(&table.words(), &state.words(), &react(0, &[2, 0])), &end.words());
+    ends(make_move(&table.words(), &state.words(), &react(0, &[2, 0])), &end.words(), 0);
 }
 
 // Catches any difference on allowed moves, and a move after which the state is not well formed.
@@ -270,14 +396,14 @@ fn random_allowed_moves() {
         let Some(mv) = allowed(&mut random, &table, &state, 30) else { continue };
         let (answer, words) = make_move(&table.words(), &state.words(), &mv.words());
         match answer {
-            Answer::Accepted(_) => {
+            Answer::Moved { .. } => {
                 assert_eq!(check_state(&table.words(), &words), Answer::Accepted(0));
                 made[mv.kind as usize] += 1;
                 beside += usize::from(mv.kind == act::REACT && !aborting(&state).is_empty());
             }
             // Only the limits may refuse it.
             Answer::Refused(number) => assert!([11, 12].contains(&number), "{number}"),
-            Answer::MoveRefused { .. } => unreachable!(),
+            Answer::Accepted(_) | Answer::MoveRefused { .. } => unreachable!(),
         }
     }
     assert!(made.iter().all(|&count| count > 400) && beside > 400, "{made:?} {beside}");
@@ -360,17 +486,17 @@ fn limits_of_a_move() {
     let full = |n: usize| State { next: 1, entries: vec![Entry::message(0, 0, 1); n] }.words();
     let mv = react(0, &[1_019, 3, 0, 700]);
     // Four go and four come in a full state; one more is too many.
-    assert_eq!(make_move(&grow(4), &full(1_024), &mv).0, Answer::Accepted(2_050));
+    assert_eq!(make_move(&grow(4), &full(1_024), &mv).0, reacted(2_050));
     refused(make_move(&grow(5), &full(1_024), &mv), 12);
-    assert_eq!(make_move(&grow(5), &full(1_023), &mv).0, Answer::Accepted(2_050));
+    assert_eq!(make_move(&grow(5), &full(1_023), &mv).0, reacted(2_050));
     refused(make_move(&grow(6), &full(1_023), &mv), 12);
     refused(make_move(&grow(9), &full(1_020), &mv), 12);
-    assert_eq!(make_move(&grow(8), &full(1_020), &mv).0, Answer::Accepted(2_050));
+    assert_eq!(make_move(&grow(8), &full(1_020), &mv).0, reacted(2_050));
 
     let table = two_lot::table();
     let at = |next: u32| vec![1, next, 0, 7];
     let (answer, words) = make_move(&table, &at(65_535), &react(0, &[0]));
-    assert_eq!(answer, Answer::Accepted(8));
+    assert_eq!(answer, reacted(8));
     assert_eq!(words, [3, 65_536, 65_535, 65_535, 65_535, 0x0300_FFFF, 0x0002_0007, 0x0100_0007]);
     assert_eq!(check_state(&table, &words), Answer::Accepted(0));
     refused(make_move(&table, &at(65_536), &react(0, &[0])), 11);
@@ -384,7 +510,7 @@ fn targets_of_a_move() {
     let (table, state) = (two_lot::table(), two_lot::start());
     for room in (0..12).chain(2_040..2_060).chain([5_000]) {
         let (answer, _) = on_target(MAKE_MOVE, [&table, &state, &react(0, &[0])], room);
-        assert_eq!(answer, if room < 2_050 { Answer::Refused(6) } else { Answer::Accepted(10) });
+        assert_eq!(answer, if room < 2_050 { Answer::Refused(6) } else { reacted(10) });
     }
 }
 

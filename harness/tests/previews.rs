@@ -4,7 +4,7 @@ mod common;
 use std::collections::BTreeSet;
 
 use common::faulty::{any_words, first_fault_counts, long_noise, noise, wrong_words};
-use common::{after, after_a, every_rule, make_move, on_target, shown, MAKE_MOVE};
+use common::{after, after_a, every_rule, make_move, marks_removed, on_target, shown, MAKE_MOVE};
 use harness::answer::{order, Answer, Preview};
 use harness::generate::moves::changed;
 use harness::generate::previews::{asked, concerned, met};
@@ -19,14 +19,13 @@ use harness::words::{role, Atom, Entry, Move, State, Table};
 use harness::{library, plain};
 
 /// The one preview of all implementations. Making the move, with a target long enough, has the same number
-/// and leaves as many entries and the same next id.
+/// and members and leaves as many entries and the same next id.
 fn preview(table: &[u32], state: &[u32], mv: &[u32]) -> Preview {
     let preview = common::preview(table, state, mv);
     let (answer, words) = make_move(table, state, mv);
     let (entries, next) = words.first_chunk().map_or((0, 0), |&[entries, next]| (entries, next));
-    let Preview { number, entries: foreseen, next: next_foreseen, .. } = preview;
-    let input = || shown(&[("table", table), ("state", state), ("move", mv)]);
-    assert_eq!((number, foreseen, next_foreseen), (answer.number(), entries, next), "{}", input());
+    let made = Preview { number: answer.number(), entries, next, id: preview.id, members: answer.members() };
+    assert_eq!(preview, made, "{}", shown(&[("table", table), ("state", state), ("move", mv)]));
     preview
 }
 
@@ -34,25 +33,32 @@ fn react(rule: u32, picks: &[u32]) -> Vec<u32> {
     Move::react(rule, picks).words()
 }
 
-/// Accepted, with these entries, next id and id.
+/// A reaction, with these entries, next id and id.
 #[track_caller]
-fn gives(preview: Preview, [entries, next, id]: [u32; 3]) {
-    assert_eq!(preview, Preview { number: 0, entries, next, id });
+fn reacts(preview: Preview, [entries, next, id]: [u32; 3]) {
+    gives(preview, [entries, next, id, 0]);
+}
+
+/// Accepted, with these entries, next id, id and members.
+#[track_caller]
+fn gives(preview: Preview, [entries, next, id, members]: [u32; 4]) {
+    assert_eq!(preview, Preview { number: 0, entries, next, id, members });
 }
 
 #[track_caller]
 fn refused(preview: Preview, number: u32) {
-    assert_eq!(preview, Preview { number, entries: 0, next: 0, id: 0 });
+    assert_eq!(preview, Preview { number, entries: 0, next: 0, id: 0, members: 0 });
 }
 
 // Catches a preview that refuses all or has fixed figures, the id after a begin in place of the one before,
-// the id of a merge's second pick, and an end that takes everything or nothing away.
+// the id of a merge's second pick, an end that takes everything or nothing away, and members of a reaction or of
+// one of two that have merged.
 #[test]
 fn cases_a_c_and_d_move_by_move() {
-    let cases: [(Vec<Move>, &[[u32; 3]]); 3] = [
+    let cases: [(Vec<Move>, &[[u32; 4]]); 3] = [
         (case_a(), &two_lot::PREVIEWS_A),
-        (case_c(), &[[4, 2, 1], [6, 3, 2], [6, 3, 1], [6, 3, 2], [4, 3, 2]]),
-        (case_d(), &[[4, 2, 1], [6, 3, 2], [6, 3, 1], [6, 3, 2], [4, 3, 2], [2, 3, 1]]),
+        (case_c(), &[[4, 2, 1, 0], [6, 3, 2, 0], [6, 3, 1, 0], [6, 3, 2, 0], [4, 3, 2, 1]]),
+        (case_d(), &[[4, 2, 1, 0], [6, 3, 2, 0], [6, 3, 1, 0], [6, 3, 2, 0], [4, 3, 2, 1], [2, 3, 1, 1]]),
     ];
     for (moves, figures) in cases {
         assert_eq!(moves.len(), figures.len());
@@ -104,13 +110,13 @@ fn a_merge_shows_the_smallest_id() {
                 refused(preview, 7);
             } else {
                 let smallest = picks.iter().map(|&pick| owners[pick as usize]).min().unwrap();
-                gives(preview, [n - count + 1, 40, smallest]);
+                reacts(preview, [n - count + 1, 40, smallest]);
             }
         }
     }
 }
 
-// Catches an end that counts what goes as what stays, or takes another transaction's entries for its own:
+// Catches an end that counts what goes as what stays, or takes another transaction's entries or members for its own:
 // every number of each kind, up to three.
 #[test]
 fn ends_count_what_stays() {
@@ -130,12 +136,23 @@ fn ends_count_what_stays() {
         let state = State { next: 20, entries }.words();
         let [commit, abort] = [Move::commit(5), Move::abort(5)].map(|mv| preview(&table, &state, &mv.words()));
         if aborts == 0 {
-            gives(commit, [n - compensations - members - 1, 20, 5]);
+            gives(commit, [n - compensations - members - 1, 20, 5, members + 1]);
             refused(abort, 10);
         } else {
             refused(commit, 10);
-            gives(abort, [n - messages - members - aborts - 1, 20, 5]);
+            gives(abort, [n - messages - members - aborts - 1, 20, 5, members + 1]);
         }
+    }
+}
+
+// Catches a count of members that is cut short or is off by one: two transactions share the marks of a full state.
+#[test]
+fn members_of_a_full_state() {
+    let table = two_lot::table();
+    for members in [1, 2, 4, 31, 32, 33, 255, 256, 257, 511, 512, 513, 1_023, 1_024] {
+        let owner = |id: u32| if id <= members { 1 } else { members + 1 };
+        let state = State { next: 1_025, entries: (1..=1_024).map(|id| Entry::member_mark(owner(id), id)).collect() };
+        gives(preview(&table, &state.words(), &Move::commit(1).words()), [1_024 - members, 1_025, 1, members]);
     }
 }
 
@@ -148,7 +165,7 @@ fn ends_that_are_refused() {
         let state = State { next: 7, entries }.words();
         let commit = preview(&table, &state, &Move::commit(3).words());
         if port < 2 {
-            gives(commit, [1, 7, 3]);
+            gives(commit, [1, 7, 3, 2]);
         } else {
             refused(commit, 10);
         }
@@ -180,15 +197,15 @@ fn the_next_id() {
         let state = State { next, entries: entries.clone() }.words();
         let begin = preview(&table, &state, &react(0, &[0]));
         if next < 65_536 {
-            gives(begin, [13, next + 1, next]);
+            reacts(begin, [13, next + 1, next]);
         } else {
             refused(begin, 11);
         }
-        gives(preview(&table, &state, &react(6, &[0])), [9, next, 0]);
-        gives(preview(&table, &state, &react(1, &[2])), [9, next, 1]);
-        gives(preview(&table, &state, &react(3, &[5, 3])), [8, next, 1]);
-        gives(preview(&table, &state, &Move::commit(3).words()), [8, next, 3]);
-        gives(preview(&table, &state, &Move::abort(4).words()), [7, next, 4]);
+        reacts(preview(&table, &state, &react(6, &[0])), [9, next, 0]);
+        reacts(preview(&table, &state, &react(1, &[2])), [9, next, 1]);
+        reacts(preview(&table, &state, &react(3, &[5, 3])), [8, next, 1]);
+        gives(preview(&table, &state, &Move::commit(3).words()), [8, next, 3, 1]);
+        gives(preview(&table, &state, &Move::abort(4).words()), [7, next, 4, 1]);
     }
 }
 
@@ -218,7 +235,7 @@ fn room_for_the_products() {
                     let picks: Vec<u32> = (0..consumes as u32).map(|level| pick - level).collect();
                     let preview = preview(&table, &state, &react(rule, &picks));
                     if after <= 1_024 {
-                        gives(preview, [after, next, id]);
+                        reacts(preview, [after, next, id]);
                     } else {
                         refused(preview, 12);
                     }
@@ -248,7 +265,8 @@ fn the_first_fault_counts() {
     first_fault_counts(&order::PREVIEW, |[table, state, mv], _| preview(table, state, mv).number);
 }
 
-// Catches any difference on states and moves of all kinds, and an id that is not 02's.
+// Catches any difference on states and moves of all kinds, an id that is not 02's, and members that are not the marks
+// of the transaction in the state's words.
 #[test]
 fn random_moves() {
     let mut random = Random::new(1_003);
@@ -260,7 +278,9 @@ fn random_moves() {
         numbers[preview.number as usize] += 1;
         if preview.number == 0 {
             let mv = Move::from_words(&words).unwrap();
-            assert_eq!(preview.id, concerned(&table, &state, &mv), "{mv:?} of {table:?} {state:?}");
+            let shown = (preview.id, preview.members);
+            let expected = (concerned(&table, &state, &mv), marks_removed(&state.words(), &words));
+            assert_eq!(shown, expected, "{mv:?} of {table:?} {state:?}");
             tally.add(met(&table, &state, &mv, preview.entries as usize));
         }
     }
@@ -304,8 +324,9 @@ fn every_move_of_small_states() {
                 assert_eq!(preview, plain::preview(&table, &state, &mv), "{mv:x?} of {table:x?} {state:x?}");
                 let mut target = [0; 2_050];
                 let answer = library::make_move(&table, &state, &mv, &mut target);
-                let made = [answer.number(), target[0], target[1]];
-                assert_eq!([preview.number, preview.entries, preview.next], made, "{mv:x?} of {table:x?} {state:x?}");
+                let made = [answer.number(), target[0], target[1], answer.members()];
+                let Preview { number, entries, next, members, .. } = preview;
+                assert_eq!([number, entries, next, members], made, "{mv:x?} of {table:x?} {state:x?}");
                 numbers[preview.number as usize] += 1;
             }
         }

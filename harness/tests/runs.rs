@@ -1,12 +1,13 @@
 //! The run of a log: all implementations on right, damaged and random input.
 mod common;
 
-use common::{check_state, gives, make_move, on_target, refused, run, RUN};
+use common::{check_state, ends, make_move, marks_gone, on_target, refused, run, RUN};
 use harness::answer::{order, Answer};
 use harness::generate::logs::{accepted, broken_off};
 use harness::generate::moves::{changed, consumes};
 use harness::generate::states::{messages, state};
 use harness::generate::tables::{table, Shape};
+use harness::in_c;
 use harness::random::Random;
 use harness::two_lot::{self, case_a};
 use harness::words::{act, log_words, role, Atom, Entry, Move, State, Table};
@@ -16,9 +17,9 @@ use harness::words::{act, log_words, role, Atom, Entry, Move, State, Table};
 #[test]
 fn cases_a_to_g() {
     let (table, start) = (two_lot::table(), two_lot::start());
-    gives(run(&table, &start, &log_words(&case_a())), &two_lot::END_A);
-    gives(run(&table, &start, &log_words(&two_lot::case_c())), &two_lot::END_C);
-    gives(run(&table, &start, &log_words(&two_lot::case_d())), &two_lot::END_D);
+    ends(run(&table, &start, &log_words(&case_a())), &two_lot::END_A, 2);
+    ends(run(&table, &start, &log_words(&two_lot::case_c())), &two_lot::END_C, 1);
+    ends(run(&table, &start, &log_words(&two_lot::case_d())), &two_lot::END_D, 2);
     for case in two_lot::refused() {
         let mut log = case.log();
         log.push(Move::commit(9));
@@ -26,38 +27,76 @@ fn cases_a_to_g() {
         assert_eq!(run(&table, &start, &log_words(&log)).0, refused, "({})", case.case);
     }
     // The empty log gives the start.
-    gives(run(&table, &start, &[0]), &start);
-    gives(run(&table, &[0, 65_536], &[0]), &[0, 65_536]);
+    ends(run(&table, &start, &[0]), &start, 0);
+    ends(run(&table, &[0, 65_536], &[0]), &[0, 65_536], 0);
 }
 
-// Catches a run whose later moves do not get what the move before left.
+// Catches a run whose later moves do not get what the move before left, and members that are not those of its moves
+// added up: of the last move or the last end alone, or without those that are open at the start.
 #[test]
 fn a_run_is_its_moves_one_after_another() {
     let mut random = Random::new(401);
-    let mut moves = 0;
+    let (mut moves, mut summed, mut at_start) = (0, 0, 0);
     for round in 0..600 {
         let table = table(&mut random, if round % 2 == 0 { Shape::Small } else { Shape::Closable });
         let start = state(&mut random, &table, 40, true);
         let log = accepted(&mut random, &table, &start, 30);
         let table = table.words();
         let mut words = start.words();
+        let mut members = Vec::new();
         for mv in &log {
             let (answer, next) = make_move(&table, &words, &mv.words());
             assert_eq!(answer.number(), 0);
+            members.push(answer.members());
             words = next;
         }
-        gives(run(&table, &start.words(), &log_words(&log)), &words);
+        ends(run(&table, &start.words(), &log_words(&log)), &words, members.iter().sum());
         assert_eq!(check_state(&table, &words), Answer::Accepted(0));
         moves += log.len();
+        summed += usize::from(members.iter().filter(|&&members| members > 0).count() > 1);
+        at_start += usize::from(log.iter().any(|mv| mv.kind != act::REACT && mv.number < start.next));
     }
-    assert!(moves > 6_000, "{moves}");
+    assert!(moves > 6_000 && summed > 100 && at_start > 100, "{moves} {summed} {at_start}");
 }
 
-// Catches differences that only long logs and large states show.
+// Catches members beside a refusal, which only C sees: the ends before the refused move count no more, and a log
+// that is not run at all has none.
+#[test]
+fn a_refused_run_tells_no_members() {
+    let (table, start) = (two_lot::table(), two_lot::start());
+    let in_c = |log: &[u32], room: usize| in_c::run(&table, &start, log, &mut vec![0; room]);
+    for mut log in [case_a(), two_lot::case_d()] {
+        assert_eq!(in_c(&log_words(&log), 2_050), [0, 6, 0, 0, 2]);
+        assert_eq!(in_c(&log_words(&log), 2_049), [6, 0, 0, 0, 0]);
+        assert_eq!(in_c(&log_words(&log)[1..], 2_050), [13, 0, 0, 0, 0]);
+        log.push(Move::commit(9));
+        assert_eq!(in_c(&log_words(&log), 2_050), [16, 0, 6, 9, 0]);
+    }
+}
+
+// Catches a sum that is cut short: more members than a state has entries, of one transaction that is open at the
+// start and of others that begin and end one after another.
+#[test]
+fn a_long_sum_of_members() {
+    let begin = vec![Atom::consume(0), Atom::BEGIN, Atom::received(role::BODY, 0, 0)];
+    let table = Table { global: 1, local: 0, merge: 0, rules: vec![begin] }.words();
+    let mut entries: Vec<Entry> = (1..=1_022).map(|id| Entry::member_mark(1, id)).collect();
+    entries.push(Entry::message(0, 0, 7));
+    let start = State { next: 1_023, entries }.words();
+    let one = |id: u32| [Move::react(0, &[0]), Move::commit(id)];
+    let log: Vec<Move> = [Move::commit(1)].into_iter().chain((1_023..1_534).flat_map(one)).collect();
+    assert_eq!(log.len(), 1_023);
+    ends(run(&table, &start, &log_words(&log)), &[1, 1_534, 0, 7], 1_022 + 511);
+    let begun = &log[..log.len() - 1];
+    ends(run(&table, &start, &log_words(begun)), &[2, 1_534, 1_533, 1_533, 0x0300_05FD, 7], 1_022 + 510);
+}
+
+// Catches differences that only long logs and large states show, and members that are not the marks gone from their
+// words.
 #[test]
 fn long_logs_get_one_answer() {
     let mut random = Random::new(402);
-    let mut longest = 0;
+    let (mut longest, mut most) = (0, 0);
     for round in 0..24 {
         let table = table(&mut random, Shape::Closable);
         let n = random.pick(&[50, 500, 1_000, 1_024]);
@@ -65,18 +104,19 @@ fn long_logs_get_one_answer() {
         let log = accepted(&mut random, &table, &start, 1_024);
         longest = longest.max(log.len());
         let (answer, words) = run(&table.words(), &start.words(), &log_words(&log));
-        assert_eq!(answer.number(), 0);
+        assert_eq!((answer.number(), answer.members()), (0, marks_gone(&start.words(), &words)));
         assert_eq!(check_state(&table.words(), &words), Answer::Accepted(0));
+        most = most.max(answer.members());
     }
-    assert!(longest > 900, "{longest}");
+    assert!(longest > 900 && most > 200, "{longest} {most}");
 }
 
-// Catches a wrong place or own number in 16: one move of an accepted log changed.
+// Catches a wrong place or own number in 16, and members beside it: one move of an accepted log changed.
 #[test]
 fn a_changed_move_is_named() {
     let mut random = Random::new(403);
     let mut own_numbers = [0; 19];
-    let mut places = 0;
+    let (mut places, mut ended) = (0, 0);
     for round in 0..12_000 {
         let table = table(&mut random, if round % 2 == 0 { Shape::Small } else { Shape::Closable });
         let mut start = state(&mut random, &table, 30, true);
@@ -97,15 +137,16 @@ fn a_changed_move_is_named() {
                 assert!(place as usize >= at && (place as usize) < log.len());
                 own_numbers[own as usize] += 1;
                 places += usize::from(place > 3);
+                ended += usize::from(log[..place as usize].iter().any(|mv| mv.kind != act::REACT));
             }
-            answer => assert!(matches!(answer, Answer::Accepted(_)), "{answer:?}"),
+            answer => assert!(matches!(answer, Answer::Moved { .. }), "{answer:?}"),
         }
     }
     for own in 0..19 {
         let possible = [5, 7, 8, 9, 10, 11, 12, 18].contains(&own);
         assert_eq!(own_numbers[own] > 20, possible, "{own}: {own_numbers:?}");
     }
-    assert!(places > 500, "{places}");
+    assert!(places > 500 && ended > 500, "{places} {ended}");
 }
 
 /// Whether a move is a reaction by a rule with this atom.
@@ -163,7 +204,7 @@ fn a_log_of_before_breaks_off() {
     let before = [&begun[..], &[stop, Move::react(1, &[5]), Move::react(2, &[4, 6]), Move::abort(1)]].concat();
     assert_eq!(run(&table, &start, &log_words(&before)).0, Answer::MoveRefused { place: 4, own: 18 });
     let now = [&begun[..], &[stop, Move::abort(2)]].concat();
-    gives(run(&table, &start, &log_words(&now)), &two_lot::END_C);
+    ends(run(&table, &start, &log_words(&now)), &two_lot::END_C, 1);
 }
 
 // Catches a wrong count or length that passes, a read past the end, and a trap on noise.
@@ -202,8 +243,8 @@ fn limits_of_a_log() {
             .words();
     let start = State { next: 1, entries: vec![Entry::message(0, 0, 3), Entry::message(0, 0, 4)] }.words();
     let log = |k: usize| log_words(&vec![Move::react(0, &[0]); k]);
-    gives(run(&table, &start, &log(1_024)), &start);
-    gives(run(&table, &start, &log(1_023)), &[2, 1, 0, 0, 4, 3]);
+    ends(run(&table, &start, &log(1_024)), &start, 0);
+    ends(run(&table, &start, &log(1_023)), &[2, 1, 0, 0, 4, 3], 0);
     refused(run(&table, &start, &log(1_025)), 13);
 }
 
@@ -213,7 +254,7 @@ fn targets_of_a_run() {
     let (table, start, log) = (two_lot::table(), two_lot::start(), log_words(&case_a()));
     for room in (0..12).chain(2_040..2_060).chain([5_000]) {
         let (answer, _) = on_target(RUN, [&table, &start, &log], room);
-        assert_eq!(answer, if room < 2_050 { Answer::Refused(6) } else { Answer::Accepted(6) });
+        assert_eq!(answer, if room < 2_050 { Answer::Refused(6) } else { Answer::Moved { words: 6, members: 2 } });
     }
 }
 

@@ -2,12 +2,14 @@
 mod common;
 
 use common::demand3::Demand3;
-use common::{gives, on_target, refused, run, serialize, shrinking, SERIALIZE};
+use common::{ends, gives, merging, on_target, refused, run, serialize, shrinking, SERIALIZE};
 use harness::answer::{order, Answer};
 use harness::generate::logs::{accepted, broken_off, closed, Walk};
 use harness::generate::moves::aborting;
 use harness::generate::states::{messages, state};
 use harness::generate::tables::{table, Shape};
+use harness::generate::tally::Tally;
+use harness::in_c;
 use harness::random::Random;
 use harness::two_lot::{self, case_d};
 use harness::words::{act, log_from_words, log_words, role, Atom, Entry, Move, State, Table};
@@ -18,7 +20,7 @@ fn cases_d_and_h() {
     let (table, start) = (two_lot::table(), two_lot::start());
     let serial = log_words(&two_lot::serial_d());
     gives(serialize(&table, &start, &log_words(&case_d())), &serial);
-    gives(run(&table, &start, &serial), &two_lot::SERIAL_END_D);
+    ends(run(&table, &start, &serial), &two_lot::SERIAL_END_D, 2);
     // The empty log: one word, which is no refusal with 1.
     gives(serialize(&table, &start, &[0]), &[0]);
 }
@@ -68,7 +70,10 @@ fn demand3(table: &Table, start: &State, log: &[Move]) -> Answer {
     assert_eq!(answer, Answer::Accepted(1 + 5 * log.len() as u32), "peak {}", demand.peak());
     let serial = log_from_words(&words).expect("a log");
     assert_eq!(demand.check(&serial), Ok(()));
-    assert_eq!(run(&table_words, &start_words, &words).0.number(), 0, "the serial log does not run");
+    // The serial log runs and ends as many members.
+    let [first, again] = [&log_words(log), &words].map(|log| run(&table_words, &start_words, log).0);
+    assert_eq!((again.number(), again.members()), (0, first.members()));
+    assert_eq!(first.members(), demand.ended().iter().sum::<u32>());
     // A serial log is its own serial log.
     gives(serialize(&table_words, &start_words, &words), &words);
     answer
@@ -90,11 +95,39 @@ fn random_closed_logs() {
         moved += usize::from(serialize(&table.words(), &start.words(), &words).1 != words);
         commits += log.iter().filter(|mv| mv.kind == act::COMMIT).count();
         aborts += log.iter().filter(|mv| mv.kind == act::ABORT).count();
-        merges += Demand3::new(&table, &start, &log).merged_ends();
+        let ended = Demand3::new(&table, &start, &log).ended();
+        merges += ended.iter().filter(|&&members| members > 1).count();
         beside += beside_marks(&table, &start, &log);
     }
     let all = [moved, merges, commits, aborts, beside];
     assert!(all.iter().zip([500, 500, 1_000, 1_000, 1_000]).all(|(&count, least)| count > least), "{all:?}");
+}
+
+// Catches a run whose members depend on the order of its moves, and members of a serialize itself, which only C sees:
+// in a log that serializes each begin's member ends.
+#[test]
+fn serial_logs_end_as_many_members() {
+    let mut random = Random::new(507);
+    let mut tally = Tally::default();
+    for _ in 0..1_500 {
+        let table = table(&mut random, Shape::Closable);
+        let n = random.between(1, 30) as usize;
+        let start = messages(&mut random, &table, n);
+        let log = closed(&mut random, &table, &start, 40);
+        let several = Demand3::new(&table, &start, &log).ended().into_iter().max() > Some(1);
+        let (table, start, log) = (table.words(), start.words(), log_words(&log));
+        let (_, serial) = serialize(&table, &start, &log);
+        let in_c = in_c::serialize(&table, &start, &log, &mut vec![0; log.len()]);
+        assert_eq!(in_c, [0, serial.len() as u32, 0, 0, 0]);
+        let (first, end) = run(&table, &start, &log);
+        let (again, _) = run(&table, &start, &serial);
+        let begun = end[1] - start[1];
+        assert_eq!([first.members(), again.members()], [begun; 2]);
+        let other = serial != log;
+        tally.add([("more than one", begun > 1), ("more than ten", begun > 10)]);
+        tally.add([("in another order", other && begun > 1), ("several at once", other && several)]);
+    }
+    tally.has_all(100);
 }
 
 /// The reactions that are made while some transaction has an abort mark.
@@ -137,21 +170,7 @@ fn offer(walk: &Walk, id: u32) -> u32 {
 // order, by twos or all at once, and end by a commit or an abort.
 #[test]
 fn merges_in_every_order() {
-    let consume = |port, count: usize| vec![Atom::consume(port); count];
-    let with = |mut rule: Vec<Atom>, more: &[Atom]| {
-        rule.extend(more);
-        rule
-    };
-    let offer_again = Atom::received(role::EMIT, 1, 0);
-    let begin = [Atom::BEGIN, Atom::received(role::BODY, 1, 0), Atom::received(role::COMPENSATE, 0, 0)];
-    let rules = vec![
-        with(consume(0, 1), &begin),
-        with(consume(1, 2), &[offer_again]),
-        with(consume(1, 4), &[offer_again]),
-        with(consume(1, 1), &[Atom::received(role::EMIT, 0, 0)]),
-        with(consume(1, 1), &[Atom::ABORT]),
-    ];
-    let table = Table { global: 1, local: 0, merge: 1, rules };
+    let table = merging();
     let start = State { next: 1, entries: (10..15).map(|value| Entry::message(0, 0, value)).collect() };
     for number in 0..4u32.pow(4) {
         let order: Vec<u32> = (0..4).map(|digit| 1 + number / 4u32.pow(digit) % 4).collect();
@@ -189,7 +208,7 @@ fn merges_in_every_order() {
                 assert!(walk.make(if ending == 3 { Move::commit(1) } else { Move::abort(1) }));
                 let log = walk.log;
                 assert_eq!(demand3(&table, &start, &log).number(), 0);
-                assert_eq!(Demand3::new(&table, &start, &log).merged_ends(), 1);
+                assert_eq!(Demand3::new(&table, &start, &log).ended(), [1, 4]);
                 // The fifth now comes first: its end is under id 1, that of the four under id 2.
                 let (_, words) = serialize(&table.words(), &start.words(), &log_words(&log));
                 let serial = log_from_words(&words).unwrap();

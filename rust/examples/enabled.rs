@@ -16,6 +16,6 @@ fn main() -> Result<(), Refusal> {
         println!();
         let Some(first) = moves.next() else { return Ok(()) };
         let mut target = [0; STATE_TARGET_WORDS];
-        state = make_move(table, State::new(&state), Move::new(&first), &mut target)?.words().to_vec();
+        state = make_move(table, State::new(&state), Move::new(&first), &mut target)?.state.words().to_vec();
     }
 }

@@ -15,10 +15,10 @@ fn main() -> Result<(), Refusal> {
     for mv in moves {
         match preview(table, State::new(&state), Move::new(&mv)) {
             Err(refusal) => println!("{mv:x?}: {refusal}"),
-            Ok(Preview { entries, next, id, .. }) => {
-                println!("{mv:x?}: {entries} entries, next id {next}, transaction {id}");
+            Ok(Preview { entries, next, id, members, .. }) => {
+                println!("{mv:x?}: {entries} entries, next id {next}, transaction {id}, ends {members} members");
                 let mut target = [0; STATE_TARGET_WORDS];
-                state = make_move(table, State::new(&state), Move::new(&mv), &mut target)?.words().to_vec();
+                state = make_move(table, State::new(&state), Move::new(&mv), &mut target)?.state.words().to_vec();
             }
         }
     }

@@ -1,23 +1,32 @@
 //! The C interface of the archive, declared once; `include/coordinator.h` says the same to C.
 use crate::{Preview, Refusal};
 
-/// Number 0: accepted, with the words written. Place and own only with 16, else 0.
+/// Number 0: accepted, with the words written, and of a move or a run the member marks removed; else both are 0.
+/// Place and own only with 16, else 0.
 #[repr(C)]
 pub struct Answer {
     number: u32,
     words: u32,
     place: u32,
     own: u32,
+    members: u32,
 }
 
 impl Answer {
-    /// The words written, or why the call was refused.
+    /// The words written by a check or a serialize, or why it was refused.
     pub fn result(self) -> Result<usize, Refusal> {
-        let Answer { number, words, place, own } = self;
-        debug_assert!(number == 0 || words == 0, "a refusal counts words");
+        let (words, members) = self.moved()?;
+        debug_assert!(members == 0, "members without a move");
+        Ok(words)
+    }
+
+    /// The words written by a move or a run and the member marks that it removed, or why it was refused.
+    pub fn moved(self) -> Result<(usize, u32), Refusal> {
+        let Answer { number, words, place, own, members } = self;
+        debug_assert!(number == 0 || (words, members) == (0, 0), "a refusal counts words or members");
         debug_assert!(number == 16 || (place, own) == (0, 0), "place and own without 16");
         match number {
-            0 => Ok(words as usize),
+            0 => Ok((words as usize, members)),
             16 => Err(Refusal::MoveRefused { place, own }),
             number => Err(Refusal::from_number(number)),
         }
@@ -31,15 +40,16 @@ pub struct PreviewAnswer {
     entries: u32,
     next: u32,
     id: u32,
+    members: u32,
 }
 
 impl PreviewAnswer {
     /// What the move would do, or why it would be refused.
     pub fn result(self) -> Result<Preview, Refusal> {
-        let PreviewAnswer { number, entries, next, id } = self;
-        debug_assert!(number == 0 || (entries, next, id) == (0, 0, 0), "a refusal has figures");
+        let PreviewAnswer { number, entries, next, id, members } = self;
+        debug_assert!(number == 0 || (entries, next, id, members) == (0, 0, 0, 0), "a refusal has figures");
         match number {
-            0 => Ok(Preview { entries, next, id }),
+            0 => Ok(Preview { entries, next, id, members }),
             number => Err(Refusal::from_number(number)),
         }
     }

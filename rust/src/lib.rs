@@ -28,7 +28,7 @@
 //! // The message at place 0 begins transaction 1.
 //! let mut target = [0; STATE_TARGET_WORDS];
 //! let mv = react(0, &[0]);
-//! let after = make_move(Table::new(&table), State::new(&start), Move::new(&mv), &mut target)?;
+//! let after = make_move(Table::new(&table), State::new(&start), Move::new(&mv), &mut target)?.state;
 //! assert_eq!(after.next(), Some(2));
 //!
 //! // What can be done next: nothing takes the message inside, so the transaction cannot end either.
@@ -38,6 +38,7 @@
 #![warn(missing_docs)]
 mod boundary;
 mod log;
+mod moved;
 mod page;
 mod preview;
 mod refusal;
@@ -45,6 +46,7 @@ mod state;
 mod table;
 
 pub use log::{abort, commit, react, Log, LogBuilder, Move};
+pub use moved::Moved;
 pub use page::{enabled_moves, EnabledMoves, Page};
 pub use preview::{preview, Preview};
 pub use refusal::Refusal;
@@ -96,26 +98,28 @@ pub fn check_state(table: Table<'_>, state: State<'_>) -> Result<(), Refusal> {
     boundary::check_state(table.words(), state.words()).result().map(|_| ())
 }
 
-/// The state after one move, written to the front of the target. Refusals: 1 to 8, 18, 9 to 12, in that order.
+/// The state after one move, written to the front of the target, and the member marks that it removed: all of its
+/// transaction's for a commit or an abort, none for a reaction. Refusals: 1 to 8, 18, 9 to 12, in that order.
 pub fn make_move<'t>(
     table: Table<'_>,
     state: State<'_>,
     mv: Move<'_>,
     target: &'t mut [u32],
-) -> Result<State<'t>, Refusal> {
-    let words = boundary::make_move(table.words(), state.words(), mv.words(), target).result()?;
-    Ok(State::new(&target[..words]))
+) -> Result<Moved<'t>, Refusal> {
+    let (words, members) = boundary::make_move(table.words(), state.words(), mv.words(), target).moved()?;
+    Ok(Moved { state: State::new(&target[..words]), members })
 }
 
-/// The state after a log's moves one after another, written to the front of the target.
-/// Refusals: 1 to 4, 13, 6, and 16 with the place and own number of the move refused.
-pub fn run<'t>(table: Table<'_>, state: State<'_>, log: Log<'_>, target: &'t mut [u32]) -> Result<State<'t>, Refusal> {
-    let words = boundary::run(table.words(), state.words(), log.words(), target).result()?;
-    Ok(State::new(&target[..words]))
+/// The state after a log's moves one after another, written to the front of the target, and the member marks that
+/// all of them removed. Refusals: 1 to 4, 13, 6, and 16 with the place and own number of the move refused.
+pub fn run<'t>(table: Table<'_>, state: State<'_>, log: Log<'_>, target: &'t mut [u32]) -> Result<Moved<'t>, Refusal> {
+    let (words, members) = boundary::run(table.words(), state.words(), log.words(), target).moved()?;
+    Ok(Moved { state: State::new(&target[..words]), members })
 }
 
 /// The serial log: the same moves, each transaction's together and right before its end, written
-/// to the front of the target. Refusals: 1 to 4, 13, 6, 14, 15 (start), 16, 15 (end), 17.
+/// to the front of the target. Its [`run`] removes as many member marks as that of the log.
+/// Refusals: 1 to 4, 13, 6, 14, 15 (start), 16, 15 (end), 17.
 pub fn serialize<'t>(
     table: Table<'_>,
     state: State<'_>,

@@ -12,6 +12,8 @@ pub struct Preview {
     /// The transaction (01: batch) that the move begins, reacts in, commits or aborts, the smallest of
     /// those that it merges, and 0 for a global rule without begin.
     pub id: u32,
+    /// The member marks (01: lot marks) that the move would remove, as in [`Moved`](crate::Moved).
+    pub members: u32,
 }
 
 /// What one move would do. It is not made, and no target is needed.
@@ -33,7 +35,7 @@ pub struct Preview {
 ///
 /// // For the message a member mark and the message inside; transaction 5 begins.
 /// let begin = preview(table, state, Move::new(&react(0, &[0])))?;
-/// assert_eq!((begin.entries, begin.next, begin.id), (2, 6, 5));
+/// assert_eq!((begin.entries, begin.next, begin.id, begin.members), (2, 6, 5, 0));
 ///
 /// // It has not begun, and so cannot be committed.
 /// assert_eq!(preview(table, state, Move::new(&commit(5))), Err(Refusal::NoTransaction));

@@ -89,7 +89,7 @@ fn checks() {
     assert_eq!(check_state(Table::new(&table), State::new(&[1, 1, 1, 7])), Err(Refusal::StateContents));
 }
 
-// Catches a move that gives more or fewer words than were written.
+// Catches a move that gives more or fewer words than were written, and a begin that is counted as an end.
 #[test]
 fn a_move() {
     let (table, start) = (table(), start());
@@ -97,7 +97,7 @@ fn a_move() {
     let mv = react(0, &[0]);
     let after = make_move(Table::new(&table), State::new(&start), Move::new(&mv), &mut target).unwrap();
     let items = [0x0000_0009, 0x0300_0001, 0x0002_0007, 0x0100_0007];
-    assert_eq!(after.words(), [&[4, 2, 0, 1, 1, 1][..], &items].concat());
+    assert_eq!((after.state.words(), after.members), (&[&[4, 2, 0, 1, 1, 1][..], &items].concat()[..], 0));
     let short = &mut target[1..];
     let refused = make_move(Table::new(&table), State::new(&start), Move::new(&mv), short);
     assert_eq!(refused, Err(Refusal::TargetTooShort));
@@ -111,17 +111,18 @@ fn case_a() -> [[u32; MOVE_WORDS]; 6] {
 fn after(moves: usize) -> Vec<u32> {
     let mut target = [0; STATE_TARGET_WORDS];
     let log = log(&case_a()[..moves]);
-    run(Table::new(&table()), State::new(&start()), Log::new(&log), &mut target).unwrap().words().to_vec()
+    run(Table::new(&table()), State::new(&start()), Log::new(&log), &mut target).unwrap().state.words().to_vec()
 }
 
-// Catches a run whose answer or end state is not 01's: cases (a) and (b).
+// Catches a run whose answer or end state is not 01's, and one that counts transactions for members: cases (a)
+// and (b).
 #[test]
 fn a_run() {
     let (table, start) = (table(), start());
     let mut target = [0; STATE_TARGET_WORDS];
     let a = case_a();
     let end = run(Table::new(&table), State::new(&start), Log::new(&log(&a)), &mut target).unwrap();
-    assert_eq!(end.words(), [2, 3, 0, 0, 0x0001_0007, 0x0001_0009]);
+    assert_eq!((end.state.words(), end.members), (&[2, 3, 0, 0, 0x0001_0007, 0x0001_0009][..], 2));
     let b = [&a[..4], &[commit(1)]].concat();
     let refused = run(Table::new(&table), State::new(&start), Log::new(&log(&b)), &mut target);
     assert_eq!(refused, Err(Refusal::MoveRefused { place: 4, own: 10 }));
@@ -160,18 +161,48 @@ fn an_abort_mark() {
     assert_eq!(preview(table, state, Move::new(&react(1, &[2]))), Err(Refusal::TransactionAborting));
     assert_eq!(enabled_moves(table, state).unwrap().collect::<Vec<_>>(), [abort(1)]);
     let end = make_move(table, state, Move::new(&abort(1)), &mut target).unwrap();
-    assert_eq!(end.words(), [1, 2, 0, 7]);
+    assert_eq!((end.state.words(), end.members), (&[1, 2, 0, 7][..], 1));
+}
+
+// Catches members that are lost or swapped for the words on the way, and a run that tells those of its last move
+// or of its last end: three members end, then one that began before them, then a message moves.
+#[test]
+fn members_of_moves_and_runs() {
+    let table = TableBuilder::new(1, 0, 0)
+        .rule([Atom::Consume { port: 0 }, Atom::Emit { port: 0, value: Value::Received(0) }])
+        .words();
+    let four = [(2, 2), (1, 1), (2, 4), (2, 3)];
+    let start = four
+        .into_iter()
+        .fold(StateBuilder::new(9), |state, (owner, id)| state.entry(owner, Item::MemberMark { id }))
+        .message(0, 0, 7)
+        .entry(2, Item::AbortMark)
+        .words();
+    let table = Table::new(&table);
+    let (mut state, mut target) = (start.clone(), [0; STATE_TARGET_WORDS]);
+    let moves = [(abort(2), 3), (commit(1), 1), (react(0, &[0]), 0)];
+    for (mv, members) in moves {
+        let foreseen = preview(table, State::new(&state), Move::new(&mv)).unwrap();
+        let made = make_move(table, State::new(&state), Move::new(&mv), &mut target).unwrap();
+        assert_eq!((foreseen.members, made.members), (members, members), "{mv:x?}");
+        state = made.state.words().to_vec();
+    }
+    let log = log(&moves.map(|(mv, _)| mv));
+    let end = run(table, State::new(&start), Log::new(&log), &mut target).unwrap();
+    assert_eq!((end.state.words(), end.members), (&state[..], 4));
+    assert_eq!(run(table, State::new(&start), Log::new(&[0]), &mut target).unwrap().members, 0);
 }
 
 /// The figures of a preview, or why the move would be refused.
-fn previewed(table: &[u32], state: &[u32], mv: &[u32]) -> Result<[u32; 3], Refusal> {
-    preview(Table::new(table), State::new(state), Move::new(mv)).map(|after| [after.entries, after.next, after.id])
+fn previewed(table: &[u32], state: &[u32], mv: &[u32]) -> Result<[u32; 4], Refusal> {
+    let preview = preview(Table::new(table), State::new(state), Move::new(mv));
+    preview.map(|after| [after.entries, after.next, after.id, after.members])
 }
 
 // Catches a preview whose figures are swapped, or are not those of the state that the move leaves: (a).
 #[test]
 fn previews_of_case_a() {
-    let figures = [[4, 2, 1], [6, 3, 2], [6, 3, 1], [6, 3, 2], [6, 3, 1], [2, 3, 1]];
+    let figures = [[4, 2, 1, 0], [6, 3, 2, 0], [6, 3, 1, 0], [6, 3, 2, 0], [6, 3, 1, 0], [2, 3, 1, 2]];
     for (moves, (mv, figures)) in case_a().iter().zip(figures).enumerate() {
         assert_eq!(previewed(&table(), &after(moves), mv), Ok(figures), "{moves}");
         let left = after(moves + 1);
@@ -213,19 +244,19 @@ fn the_transaction_of_a_preview() {
     let value = Value::Received(0);
     let global = TableBuilder::new(1, 0, 0).rule([Atom::Consume { port: 0 }, Atom::Emit { port: 0, value }]).words();
     let state = StateBuilder::new(9).message(0, 0, 7).words();
-    assert_eq!(previewed(&global, &state, &react(0, &[0])), Ok([1, 9, 0]));
+    assert_eq!(previewed(&global, &state, &react(0, &[0])), Ok([1, 9, 0, 0]));
     let last = StateBuilder::new(MAX_NEXT - 1).message(0, 0, 7).words();
-    assert_eq!(previewed(&table(), &last, &react(0, &[0])), Ok([3, MAX_NEXT, MAX_NEXT - 1]));
+    assert_eq!(previewed(&table(), &last, &react(0, &[0])), Ok([3, MAX_NEXT, MAX_NEXT - 1, 0]));
     let two = [5, 3].into_iter().fold(StateBuilder::new(9), |state, id| {
         state.entry(id.into(), Item::MemberMark { id }).message(id.into(), 3, 7)
     });
-    assert_eq!(previewed(&table(), &two.words(), &react(2, &[1, 3])), Ok([4, 9, 3]));
-    assert_eq!(previewed(&table(), &two.words(), &react(2, &[3, 1])), Ok([4, 9, 3]));
+    assert_eq!(previewed(&table(), &two.words(), &react(2, &[1, 3])), Ok([4, 9, 3, 0]));
+    assert_eq!(previewed(&table(), &two.words(), &react(2, &[3, 1])), Ok([4, 9, 3, 0]));
     let merged = [3, 5].into_iter().fold(StateBuilder::new(9), |state, id| state.entry(3, Item::MemberMark { id }));
-    assert_eq!(previewed(&table(), &merged.words(), &commit(3)), Ok([0, 9, 3]));
+    assert_eq!(previewed(&table(), &merged.words(), &commit(3)), Ok([0, 9, 3, 2]));
     assert_eq!(previewed(&table(), &merged.words(), &commit(5)), Err(Refusal::NoTransaction));
     let aborting = merged.entry(3, Item::Compensation { port: 0, value: 7 }).entry(3, Item::AbortMark).words();
-    assert_eq!(previewed(&table(), &aborting, &abort(3)), Ok([1, 9, 3]));
+    assert_eq!(previewed(&table(), &aborting, &abort(3)), Ok([1, 9, 3, 2]));
 }
 
 // Catches a page whose moves or length are lost on the way, and a target that is asked for too much.

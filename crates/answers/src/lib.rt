@@ -33,33 +33,33 @@ pub fn number_of(refusal: Refusal) -> u32
     }
 }
 
+// An answer without the place and number of a log's move.
+fn of_call(number: u32, words: u32, members: u32) -> Answer
+    ensures { λ r. ⌜ r ≡ record { number = number; words = words; place = 0; own = 0; members = members } ⌝ }
+{
+    Answer {
+        number,
+        words,
+        place: 0,
+        own: 0,
+        members,
+    }
+}
+
 pub fn answer_of(outcome: Outcome) -> Answer
     ensures { λ r. ⌜ r ≡ answerOf outcome ⌝ }
 {
     match outcome {
-        Outcome::Passed => Answer {
-            number: 0,
-            words: 0,
-            place: 0,
-            own: 0,
-        },
-        Outcome::Written(words) => Answer {
-            number: 0,
-            words,
-            place: 0,
-            own: 0,
-        },
-        Outcome::Refused(refusal) => Answer {
-            number: number_of(refusal),
-            words: 0,
-            place: 0,
-            own: 0,
-        },
+        Outcome::Passed => of_call(0, 0, 0),
+        Outcome::Written(words) => of_call(0, words, 0),
+        Outcome::Moved(words, members) => of_call(0, words, members),
+        Outcome::Refused(refusal) => of_call(number_of(refusal), 0, 0),
         Outcome::MoveRefused(place, refusal) => Answer {
             number: 16,
             words: 0,
             place,
             own: number_of(refusal),
+            members: 0,
         },
     }
 }
@@ -76,6 +76,19 @@ pub fn page_of(listed: Listed) -> Page
     }
 }
 
+// A preview without figures.
+fn no_figures(number: u32) -> Preview
+    ensures { λ r. ⌜ r ≡ record { number = number; entries = 0; next = 0; id = 0; members = 0 } ⌝ }
+{
+    Preview {
+        number,
+        entries: 0,
+        next: 0,
+        id: 0,
+        members: 0,
+    }
+}
+
 pub fn preview_of(previewed: Previewed) -> Preview
     ensures { λ r. ⌜ r ≡ previewAnswer previewed ⌝ }
 {
@@ -85,12 +98,8 @@ pub fn preview_of(previewed: Previewed) -> Preview
             entries: foreseen.entries,
             next: foreseen.next,
             id: foreseen.id,
+            members: foreseen.members,
         },
-        Previewed::Rejected(refusal) => Preview {
-            number: number_of(refusal),
-            entries: 0,
-            next: 0,
-            id: 0,
-        },
+        Previewed::Rejected(refusal) => no_figures(number_of(refusal)),
     }
 }

@@ -9,11 +9,13 @@ use lib.ListN.{length, getD}
 use borrow.Author.Tests.{ne-eqb}
 use Rattle.semantics.specs.Table.{tableOf}
 use Rattle.semantics.specs.State.{stateOf}
-use Rattle.semantics.specs.Move.{moveOk, steppedBy, stepWords}
-use Rattle.semantics.specs.Answers.{answerOf, steppedResult, lineCeiling, stateRoom, stateVerdict, moveFaults, moveResult, makeMove, makeMoveTarget}
+use Rattle.semantics.specs.Move.{moveOk, moveOf, to, steppedBy, stepWords}
+use Rattle.semantics.specs.Members.{membersEnded}
+use Rattle.semantics.specs.Answers.{answerOf, steppedResult, lineCeiling, stateRoom, stateVerdict, moveFaults, moveResult, makeMove, makeMoveTarget, unlessDeniedZero}
 use Rattle.semantics.specs.declared.Refusal.{Refusal}
 use Rattle.semantics.specs.declared.Refusal.the-variants.{MoveForm, TargetTooShort}
-use Rattle.semantics.specs.declared.Verdict.the-variants.{Allowed}
+use Rattle.semantics.specs.declared.Verdict.{Verdict}
+use Rattle.semantics.specs.declared.Verdict.the-variants.{Allowed, Denied}
 use Rattle.semantics.specs.declared.Outcome.{Outcome}
 use Rattle.semantics.specs.declared.Outcome.the-variants.{Refused}
 use Rattle.wellformed.specs.Verdicts.{unless-intro, unless-false, FaultAt}
@@ -32,9 +34,17 @@ module _ (t S w before : List ℕ) {m : Made} {s s′ : State}
   stepped : stepWords lineCeiling (tableOf t) 1 (stateOf S) w ≡ steppedBy (m .verdict) (stateIn s′)
   stepped = ap (λ x. stepWords lineCeiling (tableOf t) 1 x w) (sym (loaded .holds .value)) ∙ made .step
 
+  -- a refused one comes to its number, whatever was counted
+  counted : (v : Verdict) {n : ℕ} (k : ℕ) → n ≡ unlessDeniedZero v k → steppedResult n (steppedBy v (stateIn s′)) ≡ steppedResult k (steppedBy v (stateIn s′))
+  counted Allowed k e = ap (λ (n : ℕ). steppedResult n (to (stateIn s′))) e
+  counted (Denied q) k e = refl
+
+  members-of : m .members ≡ unlessDeniedZero (m .verdict) (membersEnded (stateOf S) (moveOf (tableOf t) w))
+  members-of = rw (loaded .holds .value) at (made .members)
+
   pub moved-to : {after : List ℕ} {o : Outcome}
-      → ComesTo (steppedResult (steppedBy (m .verdict) (stateIn s′))) before after o → ComesTo (moveMade t S w) before after o
-  moved-to h = rw stepped h
+      → ComesTo (steppedResult (m .members) (steppedBy (m .verdict) (stateIn s′))) before after o → ComesTo (moveMade t S w) before after o
+  moved-to h = rw stepped (rw (counted (m .verdict) _ members-of) at h)
 
 -- five words, one by one
 pub five : (m : List ℕ) → length m ≡ 5 → getD m 0 0 ∷ getD m 1 0 ∷ getD m 2 0 ∷ getD m 3 0 ∷ getD m 4 0 ∷ [] ≡ m

@@ -9,13 +9,13 @@ use borrow.Author.Tests.{le-leb, lt-leb}
 use Rattle.semantics.specs.Move.{unless, firstFault}
 use Rattle.semantics.specs.Log.{logSizesOk}
 use Rattle.semantics.specs.State.{stateWords}
-use Rattle.semantics.specs.Answers.{answerOf, outcomeOf, targetAfter, Result, write, unlessDenied, stateVerdict, logVerdict, hasWords}
+use Rattle.semantics.specs.Answers.{answerOf, outcomeOf, targetAfter, Result, leave, unlessDenied, stateVerdict, logVerdict, hasWords}
 use Rattle.semantics.specs.declared.Refusal.{Refusal}
 use Rattle.semantics.specs.declared.Refusal.the-variants.{LogSizes, TargetTooShort}
 use Rattle.semantics.specs.declared.Verdict.{Verdict}
 use Rattle.semantics.specs.declared.Verdict.the-variants.{Allowed, Denied}
 use Rattle.semantics.specs.declared.Outcome.{Outcome}
-use Rattle.semantics.specs.declared.Outcome.the-variants.{Written, Refused}
+use Rattle.semantics.specs.declared.Outcome.the-variants.{Moved, Refused}
 use Rattle.wellformed.specs.Verdicts.{unless-intro, unless-false, FaultAt, first-fault, Passed, no-fault}
 use Rattle.state.specs.declared.State.{State}
 use Rattle.state.specs.Working.{stateIn, Stored}
@@ -33,9 +33,10 @@ pub passed-gives : (vs : List Verdict) (x : Result) (before : List ℕ) {after :
     → Gives (unlessDenied (firstFault vs) x) before after o
 passed-gives vs x before h made = rw (no-fault vs h) (ap answerOf (made .outcome), made .target)
 
--- a state that is stored
-pub stored-to : {s : State} {before after : List ℕ} {n : ℕ} → Stored s before after n → ComesTo (write (stateWords (stateIn s))) before after (Written n)
-stored-to k = record { outcome = rw (k .words); target = k .target }
+-- a state that is stored, after moves that ended so many members
+pub stored-to : {s : State} {before after : List ℕ} {n : ℕ} → Stored s before after n → (members : ℕ)
+    → ComesTo (leave (stateWords (stateIn s)) members) before after (Moved n members)
+stored-to k members = record { outcome = rw (k .words); target = k .target }
 
 -- ---- single tests
 

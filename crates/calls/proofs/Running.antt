@@ -18,19 +18,20 @@ use Rattle.wellformed.specs.Verdicts.{FaultAt}
 use Rattle.state.specs.declared.State.{State}
 use Rattle.state.specs.Working.{stateIn}
 use Rattle.state.specs.Arrays.{HoldsIn}
-use Rattle.run.specs.declared.Ran.{Ran}
-use Rattle.run.specs.Runs.{RanAs, ranBy}
+use Rattle.run.specs.declared.Summed.{Summed}
+use Rattle.run.specs.Runs.{ranBy}
+use Rattle.run.specs.Sums.{SummedAs}
 use Rattle.run.specs.Whole.{ran-whole}
 use Rattle.calls.specs.Results.{ComesTo}
 use Rattle.calls.specs.Logs.{runMade}
 use Rattle.calls.proofs.Results.{fault-gives, passed-gives, too-short, long-enough, log-denied, log-missized, log-allowed}
 
 -- the run from the loaded state
-module _ (t S l before : List ℕ) {r : Ran} {s s′ : State}
-    (loaded : HoldsIn s (stateOf S)) (ran : RanAs r lineCeiling (tableOf t) l s s′) where
+module _ (t S l before : List ℕ) {r : Summed} {s s′ : State}
+    (loaded : HoldsIn s (stateOf S)) (summed : SummedAs r lineCeiling (tableOf t) l s s′) where
   pub ran-to : {after : List ℕ} {o : Outcome}
-      → ComesTo (ranResult (ranBy (r .verdict) (r .place) (stateIn s′))) before after o → ComesTo (runMade t S l) before after o
-  ran-to h = rw (ran-whole t S l loaded ran) at h
+      → ComesTo (ranResult (r .members) (ranBy (r .ran .verdict) (r .ran .place) (stateIn s′))) before after o → ComesTo (runMade t S l) before after o
+  ran-to h = rw (ran-whole t S l loaded (summed .ran), summed .members, loaded .holds .value) at h
 
 -- what `run` says
 abbrev pub RunAnswered : List ℕ → List ℕ → List ℕ → List ℕ → List ℕ → Outcome → Type 0

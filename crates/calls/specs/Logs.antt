@@ -5,7 +5,7 @@ use mathlib.Core.Path.{_≡_}
 use mathlib.Core.List.{List}
 use lib.ListN.{length}
 use Rattle.semantics.specs.Log.{logSizesOk}
-use Rattle.semantics.specs.Answers.{Result, stateRoom, lineCeiling, runOf, ranResult}
+use Rattle.semantics.specs.Answers.{Result, stateRoom, lineCeiling, runOf, runMembers, ranResult}
 use Rattle.ready.specs.Ready.{Ready}
 
 -- all that is tested before the log is run
@@ -16,4 +16,4 @@ pub record LogReady (t index s l target : List ℕ) : Type 0 where
 
 -- the run of a log in order
 abbrev pub runMade : List ℕ → List ℕ → List ℕ → Result
-runMade t s l = ranResult (runOf lineCeiling t s l)
+runMade t s l = ranResult (runMembers lineCeiling t s l) (runOf lineCeiling t s l)

@@ -4,7 +4,8 @@ use mathlib.Core.List.{List}
 use lib.ListN.{length}
 use Rattle.semantics.specs.Table.{tableOf}
 use Rattle.semantics.specs.State.{stateOf}
-use Rattle.semantics.specs.Move.{stepWords}
+use Rattle.semantics.specs.Move.{moveOf, stepWords}
+use Rattle.semantics.specs.Members.{membersEnded}
 use Rattle.semantics.specs.Answers.{Result, stateRoom, lineCeiling, steppedResult}
 use Rattle.ready.specs.Ready.{Ready}
 
@@ -15,4 +16,4 @@ pub record Movable (t index s target : List ℕ) : Type 0 where
 
 -- the move in the words w, made on the state
 abbrev pub moveMade : List ℕ → List ℕ → List ℕ → Result
-moveMade t s w = steppedResult (stepWords lineCeiling (tableOf t) 1 (stateOf s) w)
+moveMade t s w = steppedResult (membersEnded (stateOf s) (moveOf (tableOf t) w)) (stepWords lineCeiling (tableOf t) 1 (stateOf s) w)

@@ -20,23 +20,25 @@ use step::form::form_ok;
 use step::make::make;
 use words::head::MoveWords;
 
-// The state that a move left, or why it is refused, in which case nothing is written.
+// The state that a move left, with the members that it ended, or why it is refused, in which case nothing
+// is written.
 fn store_made<'a>(
     verdict: Verdict,
     left: Extent,
+    members: u32,
     owners: &'a [u16; 1024],
     items: &'a [u32; 1024],
     target: &mut [u32],
 ) -> Outcome
     requires { ⌜ Columns (now owners) (now items) (left .len) × (2 + 2 * left .len ≤ length (now target)) ⌝ }
     ensures { λ r. ⌜ ((gs : List ℕ)
-        → ComesTo (steppedResult (steppedBy verdict (stateIn (held (now (owners .entry)) (now (items .entry)) gs left))))
+        → ComesTo (steppedResult members (steppedBy verdict (stateIn (held (now (owners .entry)) (now (items .entry)) gs left))))
         (now (target .entry)) (now (target .exit)) r) ⌝ }
 {
     if let Verdict::Denied(refusal) = verdict {
         return Outcome::Refused(refusal);
     }
-    Outcome::Written(state::store(owners, items, left, target))
+    Outcome::Moved(state::store(owners, items, left, target), members)
 }
 
 // A move in order, with a target that is long enough: 7 to 12, 18.
@@ -67,10 +69,10 @@ fn make_and_store<'a>(
         State::MAX_ENTRIES,
     );
     let verdict = made.verdict;
-    store_made(verdict, made.left, &owners, &items, target)
+    store_made(verdict, made.left, made.members, &owners, &items, target)
 }
 
-// One move: the words written, or 1 to 12.
+// One move: the words written and the members ended, or 1 to 12, 18.
 pub fn make_move<'a>(
     table: &'a [u32],
     state: &'a [u32],

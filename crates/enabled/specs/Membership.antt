@@ -12,6 +12,7 @@ use Rattle.semantics.specs.Table.{Table, tableOf}
 use Rattle.semantics.specs.State.{State, stateOf}
 use Rattle.semantics.specs.Move.{Move, moveOk, moveOf, allowed, applied, unless, refused, steppedBy, moveVerdict}
 use Rattle.semantics.specs.Enabled.{candidates, isAllowed, enabled, moveWords}
+use Rattle.semantics.specs.Members.{membersEnded}
 use Rattle.semantics.specs.Answers.{stateVerdict, answerOf, Result, outcomeOf, lineCeiling, stateRoom, steppedResult, moveResult, makeMove, enabledIn}
 use Rattle.semantics.specs.declared.Refusal.the-variants.{MoveForm, TooManyEntries}
 use Rattle.semantics.specs.declared.Verdict.{Verdict}
@@ -48,11 +49,11 @@ verdict-allowed ceiling t s m h = passed-each (allowed t s m ∷ unless (leb (le
 -- ---- a single move's answer
 
 -- 0 is the answer exactly if the words are in order and the verdict allows their move
-answered : (ok : Bool) (v : Verdict) (s : State) → answerOf (outcomeOf (steppedResult (cond ok (steppedBy v s) (refused MoveForm)))) .number ≡ 0
+answered : (ok : Bool) (v : Verdict) (n : ℕ) (s : State) → answerOf (outcomeOf (steppedResult n (cond ok (steppedBy v s) (refused MoveForm)))) .number ≡ 0
     → (ok ≡ true) × (v ≡ Allowed)
-answered true Allowed s h = (refl, refl)
-answered true (Denied r) s h = absurd (let k = number-own r .0 in omega arith)
-answered false v s h = absurd (omega arith)
+answered true Allowed n s h = (refl, refl)
+answered true (Denied r) n s h = absurd (let k = number-own r .0 in omega arith)
+answered false v n s h = absurd (omega arith)
 
 -- the number of the answer to a move, under any ceiling
 abbrev pub moveNumber : ℕ → List ℕ → List ℕ → List ℕ → List ℕ → ℕ
@@ -68,11 +69,14 @@ module _ (ceiling : ℕ) (t s m target : List ℕ) (h : stateVerdict t s ≡ All
   abbrev left : State
   left = applied (tableOf t) 1 (stateOf s) move
 
-  result : moveResult ceiling t s m target ≡ steppedResult (cond (moveOk (tableOf t) m) (steppedBy verdict left) (refused MoveForm))
-  result = moveResult-step ceiling t s m target h l ∙ ap steppedResult (stepWords-verdict ceiling (tableOf t) 1 (stateOf s) m)
+  abbrev members : ℕ
+  members = membersEnded (stateOf s) move
+
+  result : moveResult ceiling t s m target ≡ steppedResult members (cond (moveOk (tableOf t) m) (steppedBy verdict left) (refused MoveForm))
+  result = moveResult-step ceiling t s m target h l ∙ ap (steppedResult members) (stepWords-verdict ceiling (tableOf t) 1 (stateOf s) m)
 
   accepted : moveNumber ceiling t s m target ≡ 0 → (moveOk (tableOf t) m ≡ true) × (verdict ≡ Allowed)
-  accepted k = answered (moveOk (tableOf t) m) verdict left (subst (λ (x : Result). answerOf (outcomeOf x) .number ≡ 0) result k)
+  accepted k = answered (moveOk (tableOf t) m) verdict members left (subst (λ (x : Result). answerOf (outcomeOf x) .number ≡ 0) result k)
 
   accepts : moveOk (tableOf t) m ≡ true → verdict ≡ Allowed → moveNumber ceiling t s m target ≡ 0
   accepts a b = subst (λ (x : Result). answerOf (outcomeOf x) .number ≡ 0) (sym result) (rw (a, b))

@@ -25,6 +25,7 @@ pub mod Over
 pub mod Sift
 pub mod Padded
 pub mod Found
+pub mod Counts
 pub mod Beginning
 pub mod Neither
 pub mod Numbers

@@ -1,6 +1,6 @@
 -- Counts: of what is kept, of a sum of tests; and how often a number occurs in a list without repetitions.
 use Prim.Native.Nat.{ℕ, _+_, _≤_}
-use mathlib.Core.Bool.{Bool, true, false, _||_, not, true≢false}
+use mathlib.Core.Bool.{Bool, true, false, _&&_, _||_, not, true≢false}
 use mathlib.Core.List.{List, [], _∷_}
 use mathlib.Core.Path.{_≡_, refl}
 use native.Mathlib.Omega.{arith}
@@ -11,6 +11,15 @@ use borrow.Author.Tests.{eqb-true, not-true}
 
 module _ {A : Type 0} where
   module _ (p : A → Bool) where
+    pub count-keep : (q : A → Bool) (xs : List A) → countIf p (keep q xs) ≡ countIf (λ x. q x && p x) xs
+    count-keep q [] = refl
+    count-keep q (x ∷ xs) = go (q x) (count-keep q xs)
+      where
+        go : (b : Bool) → countIf p (keep q xs) ≡ countIf (λ x. q x && p x) xs
+            → countIf p (keepIf b x (keep q xs)) ≡ oneIf (b && p x) + countIf (λ x. q x && p x) xs
+        go true e = omega arith
+        go false e = omega arith
+
     pub count-keep-le : (q : A → Bool) (xs : List A) → countIf p (keep q xs) ≤ countIf p xs
     count-keep-le q [] = omega arith
     count-keep-le q (x ∷ xs) = go (q x) (count-keep-le q xs)

@@ -7,7 +7,7 @@ use mathlib.Core.Path.{_≡_, refl, sym, ap, _∙_}
 use native.Mathlib.Nat.{zero-add, add-zero, eq-or-lt-of-le}
 use native.Mathlib.Omega.{arith}
 use lib.Dec.{leb, eqb}
-use lib.ListN.{length}
+use lib.ListN.{length, getD}
 use borrow.Author.Tests.{leb-true, eqb-true, ne-eqb}
 use Rattle.lists.specs.Lists.{any, keepIf, keep, upFrom, oneIf, countIf, risesFrom}
 use Rattle.lists.specs.Choices.{and-left, and-right}
@@ -39,6 +39,15 @@ rises-all key m (x ∷ xs) h =
 pub up-each : (P : ℕ → Type 0) (i n : ℕ) → ((x : ℕ) → i ≤ x → x < i + n → P x) → All P (upFrom i n)
 up-each P i zero h = tt
 up-each P i (suc n) h = (h i (omega arith) (omega arith), up-each P (suc i) n (λ x l m. h x (omega arith) (omega arith)))
+
+count-shift : (p : ℕ → Bool) (i n : ℕ) → countIf p (upFrom (suc i) n) ≡ countIf (λ x. p (suc x)) (upFrom i n)
+count-shift p i zero = refl
+count-shift p i (suc n) = ap (λ (k : ℕ). oneIf (p (suc i)) + k) (count-shift p (suc i) n)
+
+-- counted by place or by element
+pub count-places : {A : Type 0} (d : A) (p : A → Bool) (xs : List A) → countIf (λ i. p (getD xs i d)) (upFrom 0 (length xs)) ≡ countIf p xs
+count-places d p [] = refl
+count-places d p (x ∷ xs) = ap (λ (m : ℕ). oneIf (p x) + m) (count-shift (λ i. p (getD (x ∷ xs) i d)) 0 (length xs) ∙ count-places d p xs)
 
 pub up-among : (i n v : ℕ) → i ≤ v → v < i + n → Among v (upFrom i n)
 up-among i zero v l h = absurd (omega arith)

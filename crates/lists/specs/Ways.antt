@@ -14,6 +14,7 @@ use Rattle.lists.specs.Tests.{and-right-false}
 use Rattle.lists.specs.Each.{All, All-keep, All-map}
 use Rattle.lists.specs.Counting.{length-keep}
 use Rattle.lists.specs.Totals.{count-sum}
+use Rattle.lists.specs.UpFrom.{count-places}
 use Rattle.lists.specs.Keys.{timesIn, times-append, times-one}
 use Rattle.lists.specs.Choosing.{isFree, choicesFrom}
 
@@ -23,15 +24,6 @@ ways count earlier [] = 1
 ways count earlier (t ∷ ts) = (count t - timesIn t earlier) * ways count (earlier ++ t ∷ []) ts
 
 -- ---- counts of places
-
-count-shift : (p : ℕ → Bool) (i n : ℕ) → countIf p (upFrom (suc i) n) ≡ countIf (λ x. p (suc x)) (upFrom i n)
-count-shift p i zero = refl
-count-shift p i (suc n) = ap (λ (k : ℕ). oneIf (p (suc i)) + k) (count-shift p (suc i) n)
-
--- by place or by element
-count-places : (p : ℕ → Bool) (ks : List ℕ) → countIf (λ x. p (getD ks x 0)) (upFrom 0 (length ks)) ≡ countIf p ks
-count-places p [] = refl
-count-places p (k ∷ ks) = ap (λ (m : ℕ). oneIf (p k) + m) (count-shift (λ x. p (getD (k ∷ ks) x 0)) 0 (length ks) ∙ count-places p ks)
 
 count-past : (b : Bool) (p i n : ℕ) → p < i → countIf (λ x. b && eqb x p) (upFrom i n) ≡ 0
 count-past b p i zero h = refl
@@ -92,7 +84,7 @@ used-none ks = record { free = λ t. omega (arith, none t) }
   where
     none : (t : ℕ) → countIf (isFree ks [] t) (upFrom 0 (length ks)) ≡ countIf (λ x. eqb x t) ks
     none t =
-        ap (λ (p : ℕ → Bool). countIf p (upFrom 0 (length ks))) (fun-ext (λ x. and-true (eqb (getD ks x 0) t))) ∙ count-places (λ x. eqb x t) ks
+        ap (λ (p : ℕ → Bool). countIf p (upFrom 0 (length ks))) (fun-ext (λ x. and-true (eqb (getD ks x 0) t))) ∙ count-places 0 (λ x. eqb x t) ks
 
 pub used-next : (ks earlier used : List ℕ) (t p : ℕ) → p < length ks → isFree ks used t p ≡ true → Used ks earlier used
     → Used ks (earlier ++ t ∷ []) (used ++ p ∷ [])

@@ -1,55 +1,35 @@
--- How many entries the end of a transaction leaves, counted from its first entry on.
-use Prim.Native.Nat.{ℕ, zero, suc, _+_, _≤_, _<_}
+-- What is counted of the end of a transaction, from its first entry on: the entries that stay, and its member marks (`ending`'s laws).
+use Prim.Native.Nat.{ℕ, _≤_, _<_}
 use mathlib.Core.Bool.{Bool, true, not}
 use mathlib.Core.List.{List}
 use mathlib.Core.Path.{_≡_, sym, ap, _∙_}
-use native.Mathlib.Nat.{zero-add, add-zero}
-use native.Mathlib.Numerals.{add-one}
 use native.Mathlib.Omega.{arith}
 use borrow.Author.Tests.{ne-eqb}
 use lib.Dec.{eqb}
 use lib.ListN.{length, length-map, getD}
-use Rattle.lists.specs.Lists.{oneIf, countIf, keep, allBelow}
-use Rattle.lists.specs.Walk.{below-of-each}
+use Rattle.lists.specs.Lists.{countIf, keep, allBelow}
+use Rattle.lists.specs.Walk.{below-each, below-of-each}
 use Rattle.lists.specs.Counting.{length-keep}
-use Rattle.lists.specs.Tests.{and-both, true-or}
-use Rattle.lists.specs.Ahead.{Ahead, ahead-next, ahead-done}
-use Rattle.lists.specs.Rows.{rows, rowsFrom, rows-tails, rows-whole}
+use Rattle.lists.specs.Counts.{CountedTo, counted-from, counted-done, count-uniform}
+use Rattle.lists.specs.Tests.{true-or}
+use Rattle.lists.specs.Rows.{rows}
 use Rattle.semantics.specs.State.{Entry, owned}
 use Rattle.semantics.specs.Move.{freed, ended}
 use Rattle.wellformed.specs.Ends.{stays}
 use Rattle.ending.specs.End.{NoneBefore}
 
--- the loop before row i: so many of the entries before it stay
-pub record Counted (p : Entry → Bool) (id : ℕ) (row : ℕ → Entry) (n left i : ℕ) : Type 0 where
-  pub few : left ≤ i
-  pub ahead : Ahead (rowsFrom row n) n (λ es. left + countIf (stays p id) es) i (countIf (stays p id) (rows row 0 n))
+-- all before the first entry owned stay
+pub entries-from : (p : Entry → Bool) (id : ℕ) (row : ℕ → Entry) (n i : ℕ) → i ≤ n → allBelow i (λ k. not (owned id (row k))) ≡ true
+    → CountedTo (stays p id) row n i i (countIf (stays p id) (rows row 0 n))
+entries-from p id row n i l none =
+    counted-from (stays p id) row n i i l
+    (count-uniform (stays p id) true row 0 i (λ k a u. true-or (p (row k)) (below-each (λ k. not (owned id (row k))) i k none (omega arith))))
 
-module _ {p : Entry → Bool} {id : ℕ} {row : ℕ → Entry} {n left i : ℕ} (c : Counted p id row n left i) where
-  pub counted-next : i < n → {one : ℕ} → one ≡ oneIf (stays p id (row i)) → one ≤ 1 → Counted p id row n (left + one) (i + 1)
-  counted-next l {one} e few = record {
-    few = omega (arith, c .few);
-    ahead = ahead-next (rows-tails row n) (c .ahead) l _ (λ es. omega (arith, e));
-  }
-
-  -- all of them, once the last is seen
-  pub counted-done : n ≤ i → (next : ℕ) → left ≡ length (ended p id (record { next = next; entries = rows row 0 n }) .entries)
-  unfolding ended
-  counted-done l next =
-      sym (add-zero left) ∙ ahead-done (rows-tails row n) (c .ahead) l ∙ sym (length-keep (stays p id) (rows row 0 n))
-      ∙ sym (length-map (keep (stays p id) (rows row 0 n)) (freed p id))
-
--- the loop may begin at the first entry owned: all before it stay
-pub counted-from : (p : Entry → Bool) (id : ℕ) (row : ℕ → Entry) (n i : ℕ) → i ≤ n → allBelow i (λ k. not (owned id (row k))) ≡ true
-    → Counted p id row n i i
-counted-from p id row n zero l none = record {
-  few = omega arith;
-  ahead = record { within = l; so-far = zero-add _ ∙ ap (countIf (stays p id)) (rows-whole row n) };
-}
-counted-from p id row n (suc i) l none =
-    let (a, b) = and-both (allBelow i (λ k. not (owned id (row k)))) (not (owned id (row i))) none in
-    let before = counted-from p id row n i (omega arith) a in
-    rw (← add-one i) (counted-next before (omega arith) (sym (ap oneIf (true-or (p (row i)) b))) (omega arith))
+pub entries-done : (p : Entry → Bool) (id : ℕ) {row : ℕ → Entry} {n i c : ℕ} → CountedTo (stays p id) row n i c (countIf (stays p id) (rows row 0 n)) → n ≤ i
+    → (next : ℕ) → c ≡ length (ended p id (record { next = next; entries = rows row 0 n }) .entries)
+unfolding ended
+entries-done p id {row} {n} h l next =
+    counted-done (stays p id) h l ∙ sym (length-keep (stays p id) (rows row 0 n)) ∙ sym (length-map (keep (stays p id) (rows row 0 n)) (freed p id))
 
 -- a place before which a search has found nothing
 pub none-before : (os : List ℕ) (id n : ℕ) {i : ℕ} → i ≤ n → ((j : ℕ) → j < i → getD os j 0 ≡ id → ⊥) → NoneBefore os id n i

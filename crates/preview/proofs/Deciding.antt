@@ -14,6 +14,7 @@ use Rattle.lists.specs.Rows.{length-rows}
 use Rattle.semantics.specs.Words.{headKind, headNumber}
 use Rattle.semantics.specs.Table.{Table, sizesOf, tableOf, ruleAt, begins}
 use Rattle.semantics.specs.Move.{moveOk, moveOf, applied, reacted, ended, steppedBy, moveVerdict}
+use Rattle.semantics.specs.Members.{memberCount, membersEnded}
 use Rattle.semantics.specs.Preview.{reactionConcerns, concerned, foreseenIn, previewed}
 use Rattle.semantics.specs.State as semantics
 use Rattle.semantics.specs.declared.Refusal.{Refusal}
@@ -35,7 +36,7 @@ use Rattle.reaction.specs.Places.{Places, column, places, owners-at}
 use Rattle.reaction.specs.Verdict.{reactVerdict, verdict-allowed, picks-fit, count-left}
 use Rattle.ending.specs.End.{endVerdict}
 use Rattle.step.specs.Make.{step-formed}
-use Rattle.step.specs.Moves.{IsMove, move-react, move-commit, move-abort, verdict-react, verdict-end, applied-react, applied-end}
+use Rattle.step.specs.Moves.{IsMove, move-react, move-commit, move-abort, verdict-react, verdict-end, applied-react, members-react, members-end, applied-end}
 
 -- ---- any move
 
@@ -45,16 +46,18 @@ module _ (ceiling : ℕ) (t : Table) (s : semantics.State) (m : List ℕ) (form 
   left = applied t 1 s (moveOf t m)
 
   -- what the verdict makes of it
-  decided : {w : Verdict} → v ≡ w → foreseenIn (concerned t s (moveOf t m)) (steppedBy w left) ≡ previewed ceiling t s m
+  decided : {w : Verdict} → v ≡ w
+      → foreseenIn (concerned t s (moveOf t m)) (membersEnded s (moveOf t m)) (steppedBy w left) ≡ previewed ceiling t s m
   unfolding previewed
   decided h = rw (step-formed ceiling t 1 s m form, ← e, h)
 
   pub preview-rejected : {q : Refusal} → v ≡ Denied q → Rejected q ≡ previewed ceiling t s m
   preview-rejected h = decided h
 
-  pub preview-accepted : v ≡ Allowed → {entries next id : ℕ} → entries ≡ length (left .entries) → next ≡ left .next → id ≡ concerned t s (moveOf t m)
-      → Accepted (record { entries = entries; next = next; id = id }) ≡ previewed ceiling t s m
-  preview-accepted h a b c = rw (a, b, c) (decided h)
+  pub preview-accepted : v ≡ Allowed → {entries next id members : ℕ} → entries ≡ length (left .entries) → next ≡ left .next
+      → id ≡ concerned t s (moveOf t m) → members ≡ membersEnded s (moveOf t m)
+      → Accepted (record { entries = entries; next = next; id = id; members = members }) ≡ previewed ceiling t s m
+  preview-accepted h a b c d = rw (a, b, c, d) (decided h)
 
 -- the columns are those of a loaded state
 pub preview-loaded : (ceiling : ℕ) (t : Table) (m : List ℕ) {os ws gs : List ℕ} {at : Extent} {σ : semantics.State} → HoldsIn (held os ws gs at) σ
@@ -135,12 +138,12 @@ module _ {t : Table} {x : Rule} {head : ℕ} {picks : List ℕ} {ceiling : ℕ} 
     pub reaction-accepted : {entries next id : ℕ} → entries ≡ at .len - x .consumes + (x .count - x .consumes)
         → next ≡ cond (x .begins) (at .next + 1) (at .next)
         → id ≡ cond (x .begins) (at .next) (cond (eqb (x .class) 0) 0 (least (column os ps)))
-        → (gs : List ℕ) → Accepted (record { entries = entries; next = next; id = id }) ≡ previewed ceiling t (σ gs) (head ∷ picks)
+        → (gs : List ℕ) → Accepted (record { entries = entries; next = next; id = id; members = 0 }) ≡ previewed ceiling t (σ gs) (head ∷ picks)
     reaction-accepted a b c gs =
         preview-accepted ceiling t (σ gs) (head ∷ picks) (g .form) (verdict-is gs) h
         (a ∙ sym (count-left x decodes picks (g .four) os ws gs at 1 (given gs))
         ∙ sym (ap (λ (z : semantics.State). length (z .entries)) (applied-react is-move 1 (σ gs) (g .kind))))
-        (b ∙ sym (next-is gs)) (c ∙ sym (concerns gs))
+        (b ∙ sym (next-is gs)) (c ∙ sym (concerns gs)) (sym (members-react is-move (σ gs) (g .kind)))
 
 -- ---- an end
 
@@ -174,12 +177,13 @@ module _ {t : Table} {head : ℕ} {picks : List ℕ} {ceiling : ℕ} {os ws : Li
   left-is : (gs : List ℕ) → applied t 1 (s gs) (moveOf t (head ∷ picks)) ≡ ended (λ e. eqb (e .kind) (headKind head - 1)) (headNumber head) (s gs)
   left-is gs = applied-end t head picks 1 (s gs) (g .kind) (end-kind t (head ∷ picks) (g .form) (g .kind))
 
-  pub end-accepted : r ≡ Allowed → {entries id kind : ℕ} → id ≡ headNumber head → kind ≡ headKind head
-      → ((gs : List ℕ) → entries ≡ length (ended (λ e. eqb (e .kind) (kind - 1)) id (s gs) .entries))
-      → (gs : List ℕ) → Accepted (record { entries = entries; next = at .next; id = id }) ≡ previewed ceiling t (s gs) (head ∷ picks)
+  pub end-accepted : r ≡ Allowed → {entries id kind members : ℕ} → id ≡ headNumber head → kind ≡ headKind head
+      → ((gs : List ℕ) → entries ≡ length (ended (λ e. eqb (e .kind) (kind - 1)) id (s gs) .entries)) → ((gs : List ℕ) → members ≡ memberCount id (s gs))
+      → (gs : List ℕ) → Accepted (record { entries = entries; next = at .next; id = id; members = members }) ≡ previewed ceiling t (s gs) (head ∷ picks)
   unfolding ended
-  end-accepted h i k a gs =
+  end-accepted h i k a n gs =
       preview-accepted ceiling t (s gs) (head ∷ picks) (g .form) (end-verdict-is gs) h
       (a gs ∙ rw (i, k) (sym (ap (λ (z : semantics.State). length (z .entries)) (left-is gs))))
       (sym (ap (λ (z : semantics.State). z .next) (left-is gs)))
       (i ∙ sym (end-concerns t head picks (g .kind) (s gs)))
+      (n gs ∙ rw i (sym (members-end t head picks (s gs) (g .kind))))

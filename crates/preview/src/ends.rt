@@ -1,7 +1,7 @@
 // The preview of a commit (release) or an abort (call-off).
 ghost use Prim.Native.Nat.{ℕ, _≤_};
 ghost use mathlib.Core.Path.{_≡_};
-ghost use mathlib.Core.Bool.{not, _||_};
+ghost use mathlib.Core.Bool.{not, _&&_, _||_};
 ghost use mathlib.Core.List.{List};
 ghost use lib.Dec.{eqb};
 ghost use lib.ListN.{length};
@@ -9,6 +9,7 @@ ghost use Rattle.lists.specs.Lists.{oneIf};
 ghost use Rattle.semantics.specs.Words.{headKind, itemKind};
 ghost use Rattle.semantics.specs.Table.{tableOf};
 ghost use Rattle.semantics.specs.Move.{ended};
+ghost use Rattle.semantics.specs.Members.{memberCount};
 ghost use Rattle.semantics.specs.Preview.{previewed};
 ghost use Rattle.words.specs.Head.{wordsIn};
 ghost use Rattle.state.specs.Lent.{stateFrom, Columns};
@@ -36,27 +37,49 @@ fn stays(owner: u16, item: u32, id: u16, kind: u32) -> u32
     }
 }
 
-// How many entries the end of a transaction leaves: all before the place from, and from there on those that stay.
-fn left_after<'a>(
+// 1 where an entry is a member mark of the transaction, else 0.
+fn member_of(owner: u16, item: u32, id: u16) -> u32
+    ensures { λ r. ⌜ (r ≡ oneIf (eqb owner id && eqb (itemKind item) 3)) × (r ≤ 1) ⌝ }
+{
+    if (owner == id) & (item::kind_of(item) == item::MEMBER_MARK) {
+        1
+    } else {
+        0
+    }
+}
+
+// How many entries the end of a transaction leaves, and how many member marks it removes.
+struct Counts {
+    entries: u32,
+    members: u32,
+}
+
+// All entries before the place from stay, and from there on both are counted.
+fn counts_after<'a>(
     owners: &'a [u16; 1024],
     items: &'a [u32; 1024],
     from: usize,
     at: Extent,
     id: u16,
     kind: u32,
-) -> u32
+) -> Counts
     requires { ⌜ Columns (now owners) (now items) (at .len) × NoneBefore (now owners) id (at .len) from ⌝ }
-    ensures { λ r. ⌜ ((gs : List ℕ)
-        → r ≡ length (ended (λ e. eqb (e .kind) kind) id (stateFrom (now (owners .entry)) (now (items .entry)) gs at) .entries)) ⌝ }
+    ensures entries { λ r. ⌜ ((gs : List ℕ)
+        → r .entries ≡ length (ended (λ e. eqb (e .kind) kind) id (stateFrom (now (owners .entry)) (now (items .entry)) gs at) .entries)) ⌝ }
+    ensures members { λ r. ⌜ ((gs : List ℕ) → r .members ≡ memberCount id (stateFrom (now (owners .entry)) (now (items .entry)) gs at)) ⌝ }
 {
     let n = at.len;
-    let mut left = from as u32;
+    let mut entries = from as u32;
+    let mut members = 0;
     let mut i = from;
     while i < n {
-        left += stays(owners[i], items[i], id, kind);
+        let owner = owners[i];
+        let item = items[i];
+        entries += stays(owner, item, id, kind);
+        members += member_of(owner, item, id);
         i += 1;
     }
-    left
+    Counts { entries, members }
 }
 
 // 9, 10. In a call of its own an abort is not tested for messages inside, on which it does not depend.
@@ -100,10 +123,11 @@ pub fn preview_end<'a>(
     if let Verdict::Denied(refusal) = verdict {
         return Previewed::Rejected(refusal);
     }
-    let entries = left_after(owners, items, from, at, id, kind - 1);
+    let counts = counts_after(owners, items, from, at, id, kind - 1);
     Previewed::Accepted(Foreseen {
-        entries,
+        entries: counts.entries,
         next: at.next,
         id: id as u32,
+        members: counts.members,
     })
 }

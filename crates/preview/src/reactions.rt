@@ -89,5 +89,12 @@ pub fn preview_reaction<'a>(
     let entries = entries_after(at.len, k, rule.count);
     let next = next_after(at.next, rule.begins);
     let id = concerned(owners, at.next, rule.class, rule.begins, picks, k);
-    Previewed::Accepted(Foreseen { entries, next, id })
+    // A rule consumes messages only, so that no member mark would go.
+    let members = 0;
+    Previewed::Accepted(Foreseen {
+        entries,
+        next,
+        id,
+        members,
+    })
 }

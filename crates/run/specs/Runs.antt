@@ -16,6 +16,7 @@ use Rattle.semantics.specs.Log.{moveCount, moveAt, movesOf, Ran, completed, sto
 use Rattle.semantics.specs.declared.Refusal.{Refusal}
 use Rattle.semantics.specs.declared.Verdict.{Verdict}
 use Rattle.semantics.specs.declared.Verdict.the-variants.{Allowed, Denied}
+use Rattle.wellformed.specs.Step.{completed-same}
 use Rattle.state.specs.declared.State.{State}
 use Rattle.state.specs.Working.{stateIn}
 use Rattle.log.specs.Form.{LogSized}
@@ -85,15 +86,12 @@ module _ (l : List ℕ) where
 
 -- ---- parts of a run
 
-ended-same : {a b : semantics.State} → completed a ≡ completed b → a ≡ b
-ended-same h = cc
-
 module _ (ceiling : ℕ) (t : Table) where
   -- what follows an accepted part goes on from the state that it left
   run-append : (i : ℕ) (s : semantics.State) (xs ys : List (List ℕ)) (s′ : semantics.State) → run ceiling t i s xs ≡ completed s′
       → run ceiling t i s (xs ++ ys) ≡ run ceiling t (i + length xs) s′ ys
   unfolding run
-  run-append i s [] ys s′ h = rw (add-zero i, ended-same h)
+  run-append i s [] ys s′ h = rw (add-zero i, completed-same h)
   run-append i s (m ∷ xs) ys s′ h = go (stepWords ceiling t (suc i) s m) (λ x. run-append (suc i) x xs ys s′) h
     where
       go : (x : Stepped) → ((x : semantics.State) → run ceiling t (suc i) x xs ≡ completed s′

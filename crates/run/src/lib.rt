@@ -1,12 +1,14 @@
 // The run of a log: its moves in order, each on the state that the one before it left.
 pub mod trace;
 
-ghost use Prim.Native.Nat.{_+_, _<_};
+ghost use Prim.Native.Nat.{_+_, _≤_, _<_};
+ghost use mathlib.Core.Path.{_≡_};
 ghost use Rattle.semantics.specs.Table.{tableOf};
 ghost use Rattle.semantics.specs.Log.{moveCount, moveAt};
 ghost use Rattle.state.specs.Working.{held};
 ghost use Rattle.step.specs.Make.{Workable, MadeAs};
-ghost use Rattle.run.specs.Runs.{Prepared, Runnable, RanAs};
+ghost use Rattle.run.specs.Runs.{Prepared, Runnable};
+ghost use Rattle.run.specs.Sums.{SummedAs};
 use log::count_of;
 use log::move_at;
 use semantics::Verdict;
@@ -20,6 +22,12 @@ pub struct Ran {
     pub verdict: Verdict,
     pub place: u32,
     pub left: Extent,
+}
+
+// A run, and the member marks that its moves removed, in all.
+pub struct Summed {
+    pub ran: Ran,
+    pub members: u32,
 }
 
 // The move at place i of a log, decided and made. Its maker is i + 1: the maker 0 is the start. What it
@@ -42,17 +50,8 @@ pub fn make_at<'a>(
         (held (now (owners .exit)) (now (items .exit)) (now (origins .exit)) (r .left)) ⌝ }
 {
     let mv = move_at(log, i);
-    let made = make(
-        table,
-        starts,
-        owners,
-        items,
-        origins,
-        at,
-        mv,
-        (i + 1) as u32,
-        ceiling,
-    );
+    let by = (i + 1) as u32;
+    let made = make(table, starts, owners, items, origins, at, mv, by, ceiling);
     let verdict = made.verdict;
     let at = made.left;
     let left = Extent {
@@ -60,10 +59,28 @@ pub fn make_at<'a>(
         next: at.next,
         unmarked: at.unmarked,
     };
-    Made { verdict, left }
+    let members = made.members;
+    Made {
+        verdict,
+        left,
+        members,
+    }
 }
 
-// The moves of the log one after another, to the first that is refused.
+// A run that came as far as the place i.
+fn came_to(verdict: Verdict, i: usize, left: Extent, members: u32) -> Summed
+    requires { ⌜ i ≤ 1024 ⌝ }
+    ensures { λ r. ⌜ r ≡ record { ran = record { verdict = verdict; place = i; left = left }; members = members } ⌝ }
+{
+    let ran = Ran {
+        verdict,
+        place: i as u32,
+        left,
+    };
+    Summed { ran, members }
+}
+
+// The moves of the log one after another, to the first that is refused; their members are added up.
 pub fn run_log<'a>(
     table: &'a [u32],
     starts: &'a [u32; 65],
@@ -73,34 +90,25 @@ pub fn run_log<'a>(
     start: Extent,
     log: &'a [u32],
     ceiling: usize,
-) -> Ran
+) -> Summed
     requires { ⌜ Runnable (now table) (now starts) (now log) ceiling (held (now owners) (now items) (now origins) start) ⌝ }
-    ensures { λ r. ⌜ RanAs r ceiling (tableOf (now (table .entry))) (now (log .entry))
+    ensures { λ r. ⌜ SummedAs r ceiling (tableOf (now (table .entry))) (now (log .entry))
         (held (now (owners .entry)) (now (items .entry)) (now (origins .entry)) start)
-        (held (now (owners .exit)) (now (items .exit)) (now (origins .exit)) (r .left)) ⌝ }
+        (held (now (owners .exit)) (now (items .exit)) (now (origins .exit)) (r .ran .left)) ⌝ }
 {
     let moves = count_of(log);
     let mut left = start;
+    let mut members = 0;
     let mut i = 0;
     while i < moves {
         let made = make_at(table, starts, owners, items, origins, left, log, i, ceiling);
         let verdict = made.verdict;
         left = made.left;
         if let Verdict::Denied(_) = verdict {
-            let place = i as u32;
-            return Ran {
-                verdict,
-                place,
-                left,
-            };
+            return came_to(verdict, i, left, members);
         }
+        members += made.members;
         i += 1;
     }
-    let place = i as u32;
-    let verdict = Verdict::Allowed;
-    Ran {
-        verdict,
-        place,
-        left,
-    }
+    came_to(Verdict::Allowed, i, left, members)
 }

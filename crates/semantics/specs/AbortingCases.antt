@@ -8,6 +8,7 @@ use Rattle.semantics.specs.State.{State, stateOf, stateWords, stateSizes
 use Rattle.semantics.specs.Move.{reactAllowed, moveOk, moveOf, reacted, allowed, applied, step, stepWords}
 use Rattle.semantics.specs.Move as Move
 use Rattle.semantics.specs.Log.{logSizesOk, logWords, run}
+use Rattle.semantics.specs.Members.{membersAlong}
 use Rattle.semantics.specs.Serial.{after, acts, again, replayed, serial, along, serialFits}
 use Rattle.semantics.specs.Answers.{tableVerdict, stateOwnVerdict, stateVerdict, moveResult, makeMove, makeMoveTarget, logVerdict, runResult}
 use Rattle.semantics.specs.Answers.{runLog}
@@ -22,17 +23,17 @@ pub record Asked : Type 0 where
   pub found : Answer
   pub stated : Answer
 
--- a move's number; of a move that is made the words of its state, two and two for each entry
+-- a move's number; of a reaction that is made the words of its state, two and two for each entry
 abbrev move : List ℕ → List ℕ → List ℕ → ℕ → ℕ → Asked
-move table s m number words = record { found = makeMove table s m target; stated = record { number = number; words = words; place = 0; own = 0 } }
+move table s m number words = record { found = makeMove table s m target; stated = record { number = number; words = words; place = 0; own = 0; members = 0 } }
 
--- a call that writes so many words
-abbrev writes : Answer → ℕ → Asked
-writes found words = record { found = found; stated = record { number = 0; words = words; place = 0; own = 0 } }
+-- a call that writes so many words and removes so many member marks
+abbrev writes : Answer → ℕ → ℕ → Asked
+writes found words members = record { found = found; stated = record { number = 0; words = words; place = 0; own = 0; members = members } }
 
 -- 16, with the move's place and its own number
 abbrev breaksOff : Answer → ℕ → ℕ → Asked
-breaksOff found place own = record { found = found; stated = record { number = 16; words = 0; place = place; own = own } }
+breaksOff found place own = record { found = found; stated = record { number = 16; words = 0; place = place; own = own; members = 0 } }
 
 -- Three transactions of the two-lot plant, the second with an abort mark: a message of each on the merge port (4, 6, 8), one of the second on the
 -- local port (9) and on the global port (10), and one that is global (11).
@@ -76,7 +77,7 @@ aborting =
     ∷ move twoLot three (rule2 2 4 8) 0 26
     -- its commit is refused as before, and its abort made; the abort of another
     ∷ move twoLot three (release 2) 10 0
-    ∷ move twoLot three (callOff 2) 0 16
+    ∷ writes (makeMove twoLot three (callOff 2) target) 16 1
     ∷ move twoLot three (callOff 1) 10 0
     -- 8 before 18: a global rule on a message of the second, a local one over two transactions; inside either of them
     ∷ move twoLot three (rule1 0 10) 8 0
@@ -95,14 +96,14 @@ aborting =
     ∷ breaksOff (runLog twoLot three (logOf (rule2 2 4 8 ∷ rule1 1 7 ∷ [])) target) 1 18
     ∷ breaksOff (runLog growing one (logOf (rule1 1 0 ∷ rule1 0 1 ∷ [])) target) 1 18
     ∷ breaksOff (serialize growing one (logOf (rule1 1 0 ∷ rule1 0 1 ∷ [])) target) 1 18
-    ∷ writes (runLog growing one (logOf (rule1 1 0 ∷ callOff 1 ∷ [])) target) 2
-    ∷ writes (serialize growing one (logOf (rule1 1 0 ∷ callOff 1 ∷ [])) target) 11
+    ∷ writes (runLog growing one (logOf (rule1 1 0 ∷ callOff 1 ∷ [])) target) 2 1
+    ∷ writes (serialize growing one (logOf (rule1 1 0 ∷ callOff 1 ∷ [])) target) 11 0
     ∷ []
 
 pub aborting-hold : map (λ c. c .found) aborting ≡ map (λ c. c .stated) aborting
 unfolding twoLot three growing two aborting tableSizesOk numbersOk atomOk ruleOk rulesOk tableContentsOk ruleOf tableOf stateOf stateWords stateSizesOk
-    entryOk entriesOk moveOk moveOf reacted Move.ended allowed applied step stepWords logSizesOk logWords run after acts again replayed serial along
-    serialFits tableVerdict stateOwnVerdict stateVerdict moveResult makeMove logVerdict runResult runLog serialOf serialFitsOf serialResult serialize
+    entryOk entriesOk moveOk moveOf reacted Move.ended allowed applied step stepWords logSizesOk logWords run membersAlong after acts again replayed serial
+    along serialFits tableVerdict stateOwnVerdict stateVerdict moveResult makeMove logVerdict runResult runLog serialOf serialFitsOf serialResult serialize
 aborting-hold = refl
 
 -- what the abort leaves: the second transaction's compensation as a message of the plant, and the others as they were

@@ -9,6 +9,7 @@ use Rattle.semantics.specs.Table.{sizesOf, tableSizesOk, tableContentsOk
 use Rattle.semantics.specs.State.{State, maxEntries, stateSizesOk, entriesOk, stateOf, stateWords}
 use Rattle.semantics.specs.Move.{unless, firstFault, Move, moveOk, moveOf, Stepped, to, refused, stepWords}
 use Rattle.semantics.specs.Log.{moveCount, movesOf, logSizesOk, logWords, Ran, completed, stopped, run}
+use Rattle.semantics.specs.Members.{membersEnded, membersAlong}
 use Rattle.semantics.specs.Serial.{beginsEmit, anyOpen, serial, serialFits}
 use Rattle.semantics.specs.Enabled.{enabled, moveWords, pageCount, pageOf}
 use Rattle.semantics.specs.Preview.{previewed}
@@ -19,7 +20,7 @@ use Rattle.semantics.specs.declared.Refusal.the-variants.{LogSizes, Begi
 use Rattle.semantics.specs.declared.Verdict.{Verdict}
 use Rattle.semantics.specs.declared.Verdict.the-variants.{Allowed, Denied}
 use Rattle.semantics.specs.declared.Outcome.{Outcome}
-use Rattle.semantics.specs.declared.Outcome.the-variants.{Passed, Written, Refused, MoveRefused}
+use Rattle.semantics.specs.declared.Outcome.the-variants.{Passed, Written, Moved, Refused, MoveRefused}
 use Rattle.semantics.specs.declared.Answer.{Answer}
 use Rattle.semantics.specs.declared.Page.{Page}
 use Rattle.semantics.specs.declared.Listed.{Listed}
@@ -53,27 +54,33 @@ number TransactionAborting = 18
 
 -- What C gets: 0 and the count of words written, or the refusal's number and nothing else; only 16 says more.
 abbrev pub answerOf : Outcome → Answer
-answerOf Passed = record { number = 0; words = 0; place = 0; own = 0 }
-answerOf (Written n) = record { number = 0; words = n; place = 0; own = 0 }
-answerOf (Refused r) = record { number = number r; words = 0; place = 0; own = 0 }
+answerOf Passed = record { number = 0; words = 0; place = 0; own = 0; members = 0 }
+answerOf (Written n) = record { number = 0; words = n; place = 0; own = 0; members = 0 }
+-- after moves: the member marks that they removed, too (02, M-120)
+answerOf (Moved n k) = record { number = 0; words = n; place = 0; own = 0; members = k }
+answerOf (Refused r) = record { number = number r; words = 0; place = 0; own = 0; members = 0 }
 -- 16: which move of the log was refused, from 0, and why
-answerOf (MoveRefused i r) = record { number = 16; words = 0; place = i; own = number r }
+answerOf (MoveRefused i r) = record { number = 16; words = 0; place = i; own = number r; members = 0 }
 
 -- ---- what a call comes to: words to write, or why not
 
 pub data Result : Type 0 where
   write : List ℕ → Result
+  -- the words of the state that moves left, and how many member marks they removed (02, M-120)
+  leave : List ℕ → ℕ → Result
   refuse : Refusal → Result
   refuseMove : ℕ → Refusal → Result
 
 abbrev pub outcomeOf : Result → Outcome
 outcomeOf (write ws) = Written (length ws)
+outcomeOf (leave ws k) = Moved (length ws) k
 outcomeOf (refuse r) = Refused r
 outcomeOf (refuseMove i r) = MoveRefused i r
 
 -- words go over the target's beginning, and the rest of it stays; after a refusal all of it does
 abbrev pub targetAfter : Result → List ℕ → List ℕ
 targetAfter (write ws) target = over ws target
+targetAfter (leave ws k) target = over ws target
 targetAfter (refuse r) target = target
 targetAfter (refuseMove i r) target = target
 
@@ -128,9 +135,9 @@ serialRoom l = 1 + 5 * moveCount l
 abbrev pub hasWords : ℕ → List ℕ → Verdict
 hasWords n target = unless (leb n (length target)) TargetTooShort
 
-abbrev pub steppedResult : Stepped → Result
-steppedResult (to s) = write (stateWords s)
-steppedResult (refused r) = refuse r
+abbrev pub steppedResult : ℕ → Stepped → Result
+steppedResult k (to s) = leave (stateWords s) k
+steppedResult k (refused r) = refuse r
 
 -- a move: 1, 2, 3, 4, 5, 6, ..
 abbrev pub moveFaults : List ℕ → List ℕ → List ℕ → List ℕ → List Verdict
@@ -139,7 +146,8 @@ moveFaults t s m target = stateVerdict t s ∷ unless (moveOk (tableOf t) m) Mov
 -- .. and then 7 to 12 and 18, of which the state decides
 unfoldable pub moveResult : ℕ → List ℕ → List ℕ → List ℕ → List ℕ → Result
 moveResult ceiling t s m target =
-    unlessDenied (firstFault (moveFaults t s m target)) (steppedResult (stepWords ceiling (tableOf t) 1 (stateOf s) m))
+    unlessDenied (firstFault (moveFaults t s m target))
+    (steppedResult (membersEnded (stateOf s) (moveOf (tableOf t) m)) (stepWords ceiling (tableOf t) 1 (stateOf s) m))
 
 unfoldable pub makeMove : List ℕ → List ℕ → List ℕ → List ℕ → Answer
 makeMove t s m target = answerOf (outcomeOf (moveResult lineCeiling t s m target))
@@ -149,9 +157,9 @@ makeMoveTarget t s m target = targetAfter (moveResult lineCeiling t s m target) 
 
 -- ---- the run
 
-abbrev pub ranResult : Ran → Result
-ranResult (completed s) = write (stateWords s)
-ranResult (stopped i r) = refuseMove i r
+abbrev pub ranResult : ℕ → Ran → Result
+ranResult k (completed s) = leave (stateWords s) k
+ranResult k (stopped i r) = refuseMove i r
 
 -- what the run and the serial log ask of table, state and log: 1, 2, 3, 4, 13
 unfoldable pub logVerdict : List ℕ → List ℕ → List ℕ → Verdict
@@ -160,13 +168,17 @@ logVerdict t s l = firstFault (stateVerdict t s ∷ unless (logSizesOk l) LogSiz
 abbrev pub runOf : ℕ → List ℕ → List ℕ → List ℕ → Ran
 runOf ceiling t s l = run ceiling (tableOf t) 0 (stateOf s) (movesOf l)
 
+abbrev pub runMembers : ℕ → List ℕ → List ℕ → List ℕ → ℕ
+runMembers ceiling t s l = membersAlong ceiling (tableOf t) 0 (stateOf s) (movesOf l)
+
 -- a run: 1, 2, 3, 4, 13, 6, ..
 abbrev pub runFaults : List ℕ → List ℕ → List ℕ → List ℕ → List Verdict
 runFaults t s l target = logVerdict t s l ∷ hasWords stateRoom target ∷ []
 
 -- .. and then 16
 unfoldable pub runResult : ℕ → List ℕ → List ℕ → List ℕ → List ℕ → Result
-runResult ceiling t s l target = unlessDenied (firstFault (runFaults t s l target)) (ranResult (runOf ceiling t s l))
+runResult ceiling t s l target =
+    unlessDenied (firstFault (runFaults t s l target)) (ranResult (runMembers ceiling t s l) (runOf ceiling t s l))
 
 unfoldable pub runLog : List ℕ → List ℕ → List ℕ → List ℕ → Answer
 runLog t s l target = answerOf (outcomeOf (runResult lineCeiling t s l target))
@@ -256,10 +268,10 @@ unlessRejected (Denied r) x = Rejected r
 unfoldable pub previewResult : ℕ → List ℕ → List ℕ → List ℕ → Previewed
 previewResult ceiling t s m = unlessRejected (stateVerdict t s) (previewed ceiling (tableOf t) (stateOf s) m)
 
--- what C gets: 0 and the three figures, or the refusal's number and nothing else
+-- what C gets: 0 and the figures, or the refusal's number and nothing else
 abbrev pub previewAnswer : Previewed → Preview
-previewAnswer (Accepted f) = record { number = 0; entries = f .entries; next = f .next; id = f .id }
-previewAnswer (Rejected r) = record { number = number r; entries = 0; next = 0; id = 0 }
+previewAnswer (Accepted f) = record { number = 0; entries = f .entries; next = f .next; id = f .id; members = f .members }
+previewAnswer (Rejected r) = record { number = number r; entries = 0; next = 0; id = 0; members = 0 }
 
 unfoldable pub previewMove : List ℕ → List ℕ → List ℕ → Preview
 previewMove t s m = previewAnswer (previewResult lineCeiling t s m)

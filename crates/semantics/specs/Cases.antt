@@ -8,6 +8,7 @@ use Rattle.semantics.specs.State.{stateOf, stateWords, stateSizesOk, ent
 use Rattle.semantics.specs.Move.{moveOk, moveOf, reacted, allowed, applied, step, stepWords}
 use Rattle.semantics.specs.Move as Move
 use Rattle.semantics.specs.Log.{logSizesOk, logWords, run}
+use Rattle.semantics.specs.Members.{membersAlong}
 use Rattle.semantics.specs.Serial.{after, acts, again, replayed, serial, along, serialFits}
 use Rattle.semantics.specs.Answers.{tableVerdict, stateOwnVerdict, stateVerdict, checkTable, checkState, moveResult, makeMove, makeMoveTarget}
 use Rattle.semantics.specs.Answers.{logVerdict, runResult, runLog, runLogTarget, serialOf, serialFitsOf, serialResult, serialize}
@@ -96,10 +97,14 @@ found (theSerialLog ms) = foundIn (serialize twoLot start (logOf ms) target) (se
 found (afterRun ms m) = foundIn (makeMove twoLot (reachedBy ms) m target) (makeMoveTarget twoLot (reachedBy ms) m target)
 
 abbrev pub writes : List ℕ → Found
-writes ws = record { answer = record { number = 0; words = length ws; place = 0; own = 0 }; written = ws }
+writes ws = record { answer = record { number = 0; words = length ws; place = 0; own = 0; members = 0 }; written = ws }
+
+-- a run, with the member marks that it removed (02, M-120)
+abbrev pub leaves : List ℕ → ℕ → Found
+leaves ws k = record { answer = record { number = 0; words = length ws; place = 0; own = 0; members = k }; written = ws }
 
 abbrev pub answers : ℕ → Found
-answers n = record { answer = record { number = n; words = 0; place = 0; own = 0 }; written = [] }
+answers n = record { answer = record { number = n; words = 0; place = 0; own = 0; members = 0 }; written = [] }
 
 pub record Case : Type 0 where
   pub call : Call
@@ -110,15 +115,15 @@ cases =
     record { call = theTable; stated = answers 0 }
     ∷ record { call = theStart; stated = answers 0 }
     -- (a) two members merged and committed
-    ∷ record { call = theRun logA; stated = writes (2 ∷ 3 ∷ 0 ∷ 0 ∷ 0x00010007 ∷ 0x00010009 ∷ []) }
+    ∷ record { call = theRun logA; stated = leaves (2 ∷ 3 ∷ 0 ∷ 0 ∷ 0x00010007 ∷ 0x00010009 ∷ []) 2 }
     -- (b) a commit before the merge: 10
     ∷ record { call = afterRun (take 4 logA) (release 1); stated = answers 10 }
     -- (c) the second transaction aborted, the first still there
-    ∷ record { call = theRun logC; stated = writes (4 ∷ 3 ∷ 1 ∷ 1 ∷ 0 ∷ 1 ∷ 0x03000001 ∷ 0x01000007 ∷ 0x00000009 ∷ 0x00030007 ∷ []) }
+    ∷ record { call = theRun logC; stated = leaves (4 ∷ 3 ∷ 1 ∷ 1 ∷ 0 ∷ 1 ∷ 0x03000001 ∷ 0x01000007 ∷ 0x00000009 ∷ 0x00030007 ∷ []) 1 }
     -- (d) two transactions aborted in the other order than begun: the serial log, the run, and the serial log's run
     ∷ record { call = theSerialLog logD; stated = writes (logOf serialD) }
-    ∷ record { call = theRun logD; stated = writes (2 ∷ 3 ∷ 0 ∷ 0 ∷ 7 ∷ 9 ∷ []) }
-    ∷ record { call = theRun serialD; stated = writes (2 ∷ 3 ∷ 0 ∷ 0 ∷ 9 ∷ 7 ∷ []) }
+    ∷ record { call = theRun logD; stated = leaves (2 ∷ 3 ∷ 0 ∷ 0 ∷ 7 ∷ 9 ∷ []) 2 }
+    ∷ record { call = theRun serialD; stated = leaves (2 ∷ 3 ∷ 0 ∷ 0 ∷ 9 ∷ 7 ∷ []) 2 }
     -- (e) an entry picked twice: 7
     ∷ record { call = afterRun (take 4 logA) (rule2 2 4 4); stated = answers 7 }
     -- (f) an abort that nothing asked for: 10
@@ -131,7 +136,7 @@ cases =
 
 pub cases-hold : map (λ c. found (c .call)) cases ≡ map (λ c. c .stated) cases
 unfolding twoLot start logA logC logD serialD cases found tableSizesOk numbersOk atomOk ruleOk rulesOk tableContentsOk ruleOf tableOf stateOf
-    stateWords stateSizesOk entryOk entriesOk moveOk moveOf reacted Move.ended allowed applied step stepWords logSizesOk logWords run after acts
+    stateWords stateSizesOk entryOk entriesOk moveOk moveOf reacted Move.ended allowed applied step stepWords logSizesOk logWords run membersAlong after acts
     again replayed serial along serialFits tableVerdict stateOwnVerdict stateVerdict checkTable checkState moveResult makeMove makeMoveTarget
     logVerdict runResult runLog runLogTarget serialOf serialFitsOf serialResult serialize serializeTarget
 cases-hold = refl

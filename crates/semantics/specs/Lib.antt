@@ -3,6 +3,7 @@ pub mod Table
 pub mod State
 pub mod Move
 pub mod Log
+pub mod Members
 pub mod Serial
 pub mod Enabled
 pub mod Preview
@@ -12,5 +13,6 @@ pub mod OddCases
 pub mod AbortingCases
 pub mod ListCases
 pub mod PreviewCases
+pub mod MemberCases
 pub mod Program
 pub mod ProgramCases

@@ -1,4 +1,4 @@
--- 02, M-115: what a move would leave, told before it is made.
+-- 02, M-115: what a move would leave, told before it is made; and M-120: how many member marks it would remove.
 use Prim.Native.Nat.{ℕ}
 use mathlib.Core.Bool.{cond}
 use mathlib.Core.List.{List}
@@ -8,6 +8,7 @@ use Rattle.lists.specs.Lists.{least}
 use Rattle.semantics.specs.Table.{Table, Rule, ruleAt, begins}
 use Rattle.semantics.specs.State.{State}
 use Rattle.semantics.specs.Move.{Move, react, commit, abort, moveOf, ownersAt, Stepped, to, refused, stepWords}
+use Rattle.semantics.specs.Members.{membersEnded}
 use Rattle.semantics.specs.declared.Previewed.{Previewed}
 use Rattle.semantics.specs.declared.Previewed.the-variants.{Accepted, Rejected}
 
@@ -22,11 +23,11 @@ concerned t s (react r ps) = reactionConcerns (ruleAt t r) s ps
 concerned t s (commit b) = b
 concerned t s (abort b) = b
 
--- Entries and next id are those of the state that the move leaves; a refused move has no figures.
-abbrev pub foreseenIn : ℕ → Stepped → Previewed
-foreseenIn id (to s) = Accepted (record { entries = length (s .entries); next = s .next; id = id })
-foreseenIn id (refused r) = Rejected r
+-- Entries and next id are those of the state that the move leaves, the members those that it ends; a refused move has no figures.
+abbrev pub foreseenIn : ℕ → ℕ → Stepped → Previewed
+foreseenIn id members (to s) = Accepted (record { entries = length (s .entries); next = s .next; id = id; members = members })
+foreseenIn id members (refused r) = Rejected r
 
 -- a move in words on a state: 5, then 7 to 12 and 18
 unfoldable pub previewed : ℕ → Table → State → List ℕ → Previewed
-previewed ceiling t s m = foreseenIn (concerned t s (moveOf t m)) (stepWords ceiling t 1 s m)
+previewed ceiling t s m = foreseenIn (concerned t s (moveOf t m)) (membersEnded s (moveOf t m)) (stepWords ceiling t 1 s m)

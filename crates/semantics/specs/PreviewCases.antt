@@ -1,4 +1,4 @@
--- 02, M-115: previews on the two-lot plant, on odd cases and at full size, three tables: number, entries, next id and id.
+-- 02, M-115: previews on the two-lot plant, on odd cases and at full size, three tables: number, entries, next id and id; of an end the members, too.
 use Prim.Native.Nat.{ℕ, _*_}
 use mathlib.Core.List.{List, [], _∷_, _++_, map}
 use mathlib.Core.Path.{_≡_, refl}
@@ -19,16 +19,23 @@ pub record Shown : Type 0 where
   pub found : Preview
   pub stated : Preview
 
--- the preview of a move: its figures, or its number and no figures
+-- the preview of an end or of a reaction, which removes no member marks: its figures, or its number and no figures
+abbrev showsEnd : List ℕ → List ℕ → List ℕ → ℕ → ℕ → ℕ → ℕ → Shown
+showsEnd t s m entries next id members =
+    record { found = previewMove t s m; stated = record { number = 0; entries = entries; next = next; id = id; members = members } }
+
 abbrev shows : List ℕ → List ℕ → List ℕ → ℕ → ℕ → ℕ → Shown
-shows t s m entries next id = record { found = previewMove t s m; stated = record { number = 0; entries = entries; next = next; id = id } }
+shows t s m entries next id = showsEnd t s m entries next id 0
 
 abbrev refuses : List ℕ → List ℕ → List ℕ → ℕ → Shown
-refuses t s m number = record { found = previewMove t s m; stated = record { number = number; entries = 0; next = 0; id = 0 } }
+refuses t s m number = record { found = previewMove t s m; stated = record { number = number; entries = 0; next = 0; id = 0; members = 0 } }
 
 -- on the two-lot plant, after some moves of a log
 abbrev after : ℕ → List (List ℕ) → List ℕ → ℕ → ℕ → ℕ → Shown
 after k log m entries next id = shows twoLot (reachedBy (take k log)) m entries next id
+
+abbrev endAfter : ℕ → List (List ℕ) → List ℕ → ℕ → ℕ → ℕ → ℕ → Shown
+endAfter k log m entries next id members = showsEnd twoLot (reachedBy (take k log)) m entries next id members
 
 abbrev refusedAfter : ℕ → List (List ℕ) → List ℕ → ℕ → Shown
 refusedAfter k log m number = refuses twoLot (reachedBy (take k log)) m number
@@ -42,17 +49,17 @@ plantPreviews =
     ∷ after 3 logA (rule1 1 3) 6 3 2
     ∷ after 4 logA (rule2 2 4 5) 6 3 1
     ∷ after 4 logA (rule2 2 5 4) 6 3 1
-    ∷ after 5 logA (release 1) 2 3 1
+    ∷ endAfter 5 logA (release 1) 2 3 1 2
     -- (b) 10
     ∷ refusedAfter 4 logA (release 1) 10
     -- (c) the second transaction asks for its abort, and is aborted
     ∷ after 3 logC (rule1 3 3) 6 3 2
-    ∷ after 4 logC (callOff 2) 4 3 2
+    ∷ endAfter 4 logC (callOff 2) 4 3 2 1
     -- (d) each asks for its abort; the abort of the second, then of the first
     ∷ after 2 logD (rule1 3 1) 6 3 1
     ∷ after 3 logD (rule1 3 3) 6 3 2
-    ∷ after 4 logD (callOff 2) 4 3 2
-    ∷ after 5 logD (callOff 1) 2 3 1
+    ∷ endAfter 4 logD (callOff 2) 4 3 2 1
+    ∷ endAfter 5 logD (callOff 1) 2 3 1 1
     -- (e) 7, (f) 10, (g) 9; 9 also for an id that was merged into a smaller one
     ∷ refusedAfter 4 logA (rule2 2 4 4) 7
     ∷ refusedAfter 1 logA (callOff 1) 10
@@ -90,9 +97,9 @@ oddPreviews =
     ∷ shows mergeFour fourApart (0 ∷ 4 ∷ 5 ∷ 6 ∷ 7 ∷ []) 5 9 2
     ∷ shows twoLot (4 ∷ 4 ∷ 3 ∷ 3 ∷ 3 ∷ 3 ∷ 0x03000003 ∷ 0x01000001 ∷ 0x00030001 ∷ 0x00030002 ∷ []) (rule2 2 3 2) 4 4 3
     -- an end under its own id, where its transaction has other members too: what it frees stays, the rest goes
-    ∷ shows twoLot (5 ∷ 9 ∷ 2 ∷ 0 ∷ 2 ∷ 2 ∷ 2 ∷ 0x03000002 ∷ 0x00000001 ∷ 0x03000005 ∷ 0x01000004 ∷ 0x00010006 ∷ []) (release 2) 2 9 2
-    ∷ shows twoLot (5 ∷ 9 ∷ 2 ∷ 0 ∷ 2 ∷ 2 ∷ 2 ∷ 0x03000002 ∷ 0x00000001 ∷ 0x02000000 ∷ 0x01000004 ∷ 0x00010006 ∷ []) (callOff 2) 2 9 2
-    ∷ shows twoLot three (callOff 2) 7 4 2
+    ∷ showsEnd twoLot (5 ∷ 9 ∷ 2 ∷ 0 ∷ 2 ∷ 2 ∷ 2 ∷ 0x03000002 ∷ 0x00000001 ∷ 0x03000005 ∷ 0x01000004 ∷ 0x00010006 ∷ []) (release 2) 2 9 2 2
+    ∷ showsEnd twoLot (5 ∷ 9 ∷ 2 ∷ 0 ∷ 2 ∷ 2 ∷ 2 ∷ 0x03000002 ∷ 0x00000001 ∷ 0x02000000 ∷ 0x01000004 ∷ 0x00010006 ∷ []) (callOff 2) 2 9 2 1
+    ∷ showsEnd twoLot three (callOff 2) 7 4 2 1
     -- the last id is begun, and no further one: 11
     ∷ shows twoLot (1 ∷ 65535 ∷ 0 ∷ 5 ∷ []) (rule1 0 0) 3 65536 65535
     ∷ refuses twoLot (1 ∷ 65536 ∷ 0 ∷ 5 ∷ []) (rule1 0 0) 11

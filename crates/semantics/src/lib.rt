@@ -27,22 +27,25 @@ pub enum Verdict {
     Denied(Refusal),
 }
 
-// What a public call says: a check is passed; words were written; the call is refused; or the log's
+// What a public call says: a check is passed; words were written; moves were made, the words of the state
+// that they left and the member marks that they removed (02, M-120); the call is refused; or the log's
 // move at a place is.
 pub enum Outcome {
     Passed,
     Written(u32),
+    Moved(u32, u32),
     Refused(Refusal),
     MoveRefused(u32, Refusal),
 }
 
-// The same in numbers, for C. place and own only with 16, else 0.
+// The same in numbers, for C. place and own only with 16, else 0; members only of a move or a run.
 #[repr(C)]
 pub struct Answer {
     pub number: u32,
     pub words: u32,
     pub place: u32,
     pub own: u32,
+    pub members: u32,
 }
 
 // What the list of open moves says: words of a page written, or why not, and the length of the whole
@@ -61,11 +64,13 @@ pub struct Page {
 }
 
 // What a move that is accepted would leave, by the preview (02, M-115): the entries in all, the next id
-// (01's next ticket), and the id of the transaction that the move concerns, 0 where there is none.
+// (01's next ticket), and the id of the transaction that the move concerns, 0 where there is none; and
+// how many member marks it would remove (02, M-120).
 pub struct Foreseen {
     pub entries: u32,
     pub next: u32,
     pub id: u32,
+    pub members: u32,
 }
 
 // What the preview of a move says.
@@ -81,6 +86,7 @@ pub struct Preview {
     pub entries: u32,
     pub next: u32,
     pub id: u32,
+    pub members: u32,
 }
 
 // 01's G, L, M, R and A: how many global, local and merge ports (plant, batch, joining ports), rules

@@ -43,7 +43,7 @@ use Rattle.cells.specs.SameCells.{end-closed, messages-same}
 
 -- ---- the end
 
-sound-runs : (t : Table) → TableRight t → (i : ℕ) (s : State) (ms : List Move) (e : State) → Accepted t i s ms e → Sound (t .sizes) s → All (RuleKnown t) ms
+pub sound-runs : (t : Table) → TableRight t → (i : ℕ) (s : State) (ms : List Move) (e : State) → Accepted t i s ms e → Sound (t .sizes) s → All (RuleKnown t) ms
     → Sound (t .sizes) e
 sound-runs t right i s [] e h sound known = subst (Sound (t .sizes)) h sound
 sound-runs t right i s (m ∷ ms) e h sound known = sound-runs t right (suc i) (applied t (suc i) s m) ms e (h .1)

@@ -14,6 +14,7 @@ pub mod InnerMoves
 pub mod Decoded
 pub mod LogWords
 pub mod RunWords
+pub mod SameSum
 pub mod Demand3
 pub mod PublicCalls
 pub mod Instances

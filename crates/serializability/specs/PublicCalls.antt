@@ -9,15 +9,17 @@ use lib.ListN.{length, take}
 use Rattle.lists.specs.Over.{take-over, drop-over}
 use Rattle.semantics.specs.State.{State, stateWords}
 use Rattle.semantics.specs.Log.{moveCount, logWords}
-use Rattle.semantics.specs.Answers.{Result, write, refuse, answerOf, outcomeOf, targetAfter, lineCeiling, runResult, runLog, runLogTarget, serialOf, serialResult, serialize, serializeTarget}
+use Rattle.semantics.specs.Answers.{Result, write, leave, refuse, answerOf, outcomeOf, targetAfter, lineCeiling, runMembers, runResult, runLog, runLogTarget, serialOf, serialResult, serialize, serializeTarget}
 use Rattle.semantics.specs.declared.Refusal.the-variants.{SerialTooManyEntries}
 use Rattle.semantics.specs.declared.Answer.{Answer}
 use Rattle.serializability.specs.Statement.{Serializable, roomAlong, Serialized, Rerun, PublicDemand3}
-use Rattle.serializability.specs.Demand3.{demand3}
+use Rattle.serializability.specs.Demand3.{demand3, log-ran}
 
 -- ---- the theorem
 
-module _ (T S L : List ℕ) (e : State) (h : Serializable lineCeiling T S L e) (target : List ℕ) (long : 1 + 5 * moveCount L ≤ length target) where
+module _ (T S L : List ℕ) (e : State) (h : Serializable lineCeiling T S L e)
+    (log-ran : (other : List ℕ) → 2050 ≤ length other → runResult lineCeiling T S L other ≡ leave (stateWords e) (runMembers lineCeiling T S L))
+    (target : List ℕ) (long : 1 + 5 * moveCount L ≤ length target) where
   result : {b : Bool} → roomAlong lineCeiling T S L ≡ b → serialResult lineCeiling T S L target ≡ cond b (write (logWords (serialOf T S L)))
       (refuse SerialTooManyEntries)
   result f = h .answer target long ∙ rw f
@@ -44,15 +46,17 @@ module _ (T S L : List ℕ) (e : State) (h : Serializable lineCeiling T S L e) (
     read-back = rw (words-said, left f) (take-over (logWords (serialOf T S L)) target)
 
     rerun-result : (other : List ℕ) → 2050 ≤ length other
-        → runResult lineCeiling T S (take (serialize T S L target .words) (serializeTarget T S L target)) other ≡ write (stateWords (h .serial .end))
-    rerun-result other l = rw read-back (h .rerun f other l)
+        → runResult lineCeiling T S (take (serialize T S L target .words) (serializeTarget T S L target)) other
+        ≡ leave (stateWords (h .serial .end)) (runMembers lineCeiling T S L)
+    rerun-result other l = rw (read-back, ← h .members f) (h .rerun f other l)
 
-    rerun-is : (other : List ℕ) → 2050 ≤ length other → Rerun T S (take (serialize T S L target .words) (serializeTarget T S L target)) (h .serial .end) other
+    rerun-is : (other : List ℕ) → 2050 ≤ length other → Rerun T S L (take (serialize T S L target .words) (serializeTarget T S L target)) (h .serial .end) other
     unfolding runLog runLogTarget
     rerun-is other l =
         let r = rerun-result other l in
         record {
           number = rw r;
+          members = rw (r, log-ran other l);
           state = rw r (take-over (stateWords (h .serial .end)) other);
         }
 
@@ -70,4 +74,4 @@ module _ (T S L : List ℕ) (e : State) (h : Serializable lineCeiling T S L e) (
 pub public-demand3 : PublicDemand3
 public-demand3 T S L e ok ne op lo ran cl =
     let h = demand3 lineCeiling T S L e ok ne op lo ran cl in
-    (h, serialized T S L e h)
+    (h, serialized T S L e h (log-ran lineCeiling T S L e ok ne op lo ran cl))

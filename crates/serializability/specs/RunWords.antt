@@ -24,6 +24,7 @@ use Rattle.wellformed.specs.Rules.{TableRight}
 use Rattle.wellformed.specs.Entries.{Sound}
 use Rattle.wellformed.specs.MoveWords.{Holdable, words-ok, words-back, open-id}
 use Rattle.wellformed.specs.Picks.{picks-length}
+use Rattle.wellformed.specs.Step.{completed-same}
 use Rattle.wellformed.specs.Preservation.{RuleKnown, applied-keeps}
 use Rattle.serializability.specs.Statement.{Accepted}
 use Rattle.cells.specs.Moves.{after-allowed, react-passes, commit-passes, abort-passes}
@@ -36,10 +37,7 @@ not-ended h = let z : _≡_ {A = ℕ} 0 1 = cc in omega arith
 pub run-accepted : (ceiling : ℕ) (t : Table) (i : ℕ) (s : State) (ws : List (List ℕ)) (e : State) → run ceiling t i s ws ≡ Log.completed e
     → Accepted t i s (map (moveOf t) ws) e × All (λ w. moveOk t w ≡ true) ws
 unfolding run stepWords step
-run-accepted ceiling t i s [] e h = (ended-inj h, tt)
-  where
-    ended-inj : {s e : State} → Log.completed s ≡ Log.completed e → s ≡ e
-    ended-inj h = cc
+run-accepted ceiling t i s [] e h = (completed-same h, tt)
 run-accepted ceiling t i s (w ∷ ws) e h = go (λ s′ k. run-accepted ceiling t (suc i) s′ ws e k) (moveOk t w) refl (allowed t s (moveOf t w)) refl h
   where
     s1 : State

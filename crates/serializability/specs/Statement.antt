@@ -13,7 +13,7 @@ use Rattle.semantics.specs.State.{Origin, Entry, State, owned, markValues, stat
 use Rattle.semantics.specs.Move.{Move, react, commit, abort, picked, entriesIn, allowed, applied, moveOf}
 use Rattle.semantics.specs.Log.{moveCount, movesOf, logSizesOk, logWords, completed}
 use Rattle.semantics.specs.Serial.{beginsEmit, anyOpen, Act, originsOf, marksIn, membersOf, after, acts, isEnd, isBegin, isInner, sameOrigin, belongsTo, ordered, serial, along, fits}
-use Rattle.semantics.specs.Answers.{stateVerdict, lineCeiling, runOf, serialOf, write, refuse, runResult, runLog, runLogTarget, serialResult, serialize, serializeTarget}
+use Rattle.semantics.specs.Answers.{stateVerdict, lineCeiling, runOf, runMembers, serialOf, write, leave, refuse, runResult, runLog, runLogTarget, serialResult, serialize, serializeTarget}
 use Rattle.semantics.specs.declared.Refusal.the-variants.{SerialTooManyEntries}
 use Rattle.semantics.specs.declared.Verdict.the-variants.{Allowed}
 
@@ -142,7 +142,9 @@ pub record Serializable (ceiling : ℕ) (T S L : List ℕ) (e : State) : Type 0 
       → serialResult ceiling T S L target ≡ cond (roomAlong ceiling T S L) (write (logWords (serialOf T S L))) (refuse SerialTooManyEntries)
   -- .. in which case their run is accepted, given a target that could hold any state.
   pub rerun : roomAlong ceiling T S L ≡ true → (target : List ℕ) → 2050 ≤ length target
-      → runResult ceiling T S (logWords (serialOf T S L)) target ≡ write (stateWords (serial .end))
+      → runResult ceiling T S (logWords (serialOf T S L)) target ≡ leave (stateWords (serial .end)) (runMembers ceiling T S (logWords (serialOf T S L)))
+  -- 5 (02, M-120). As many members end: that run removes as many member marks as the run of the log.
+  pub members : roomAlong ceiling T S L ≡ true → runMembers ceiling T S (logWords (serialOf T S L)) ≡ runMembers ceiling T S L
 
 -- For all table, state and log words and every ceiling: given a well-formed state under a well-formed table (1 to 4), no begin that emits (14), no open
 -- transaction at the start (15), a well-formed log (13) whose run is accepted (16), and no open transaction at its end (15).
@@ -152,9 +154,10 @@ Demand3 = (ceiling : ℕ) (T S L : List ℕ) (e : State) → stateVerdict T S �
 
 -- ---- the same of the public calls
 
--- a run of these words, with this target, is accepted and leaves this state there
-pub record Rerun (T S words : List ℕ) (end : State) (target : List ℕ) : Type 0 where
+-- a run of these words, with this target, is accepted and leaves this state there, and it removes as many member marks as the run of the log
+pub record Rerun (T S L words : List ℕ) (end : State) (target : List ℕ) : Type 0 where
   pub number : runLog T S words target .number ≡ 0
+  pub members : runLog T S words target .members ≡ runLog T S L target .members
   pub state : take (runLog T S words target .words) (runLogTarget T S words target) ≡ stateWords end
 
 -- What `serialize` answers, and what it leaves in a target of at least 1+5k words.
@@ -168,9 +171,10 @@ pub record Serialized (T S L : List ℕ) (end : State) (target : List ℕ) : Typ
   pub log : roomAlong lineCeiling T S L ≡ true → take (serialize T S L target .words) (serializeTarget T S L target) ≡ logWords (serialOf T S L)
   pub beyond : roomAlong lineCeiling T S L ≡ true
       → drop (serialize T S L target .words) (serializeTarget T S L target) ≡ drop (serialize T S L target .words) target
-  -- A run of exactly these words, given a target that could hold any state, is accepted and leaves the end of the serial log.
+  -- A run of exactly these words, given a target that could hold any state, is accepted, leaves the end of the serial log, and removes as many member
+  -- marks as the log's run.
   pub rerun : roomAlong lineCeiling T S L ≡ true → (other : List ℕ) → 2050 ≤ length other
-      → Rerun T S (take (serialize T S L target .words) (serializeTarget T S L target)) end other
+      → Rerun T S L (take (serialize T S L target .words) (serializeTarget T S L target)) end other
 
 -- Under the premises of demand 3, for the line's 1,024 entries.
 abbrev pub PublicDemand3 : Type 0

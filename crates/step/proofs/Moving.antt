@@ -11,6 +11,7 @@ use Rattle.lists.specs.Rows.{length-rows}
 use Rattle.semantics.specs.Words.{headKind, headNumber}
 use Rattle.semantics.specs.Table.{Table, sizesOf, tableOf, ruleAt}
 use Rattle.semantics.specs.Move.{isZero, moveOk, moveOf, reacted, ended, moveVerdict}
+use Rattle.semantics.specs.Members.{memberCount}
 use Rattle.semantics.specs.Answers.{tableVerdict}
 use Rattle.semantics.specs.declared.Refusal.{Refusal}
 use Rattle.semantics.specs.declared.Verdict.{Verdict}
@@ -31,7 +32,7 @@ use Rattle.words.specs.Origin.{Maker}
 use Rattle.products.specs.Narrow.{rule-ready}
 use Rattle.products.specs.React.{Permitted}
 use Rattle.step.specs.declared.make.Made.{Made}
-use Rattle.step.specs.Moves.{IsMove, endForm, form-end, form-rule, verdict-react, verdict-end, applied-react, applied-end}
+use Rattle.step.specs.Moves.{IsMove, endForm, form-end, form-rule, verdict-react, verdict-end, applied-react, members-react, members-end, applied-end}
 use Rattle.step.specs.Bounds.{verdict-higher}
 use Rattle.step.specs.Looking.{lookedTo, reacted-looked, ended-looked}
 use Rattle.step.specs.Make.{Workable, MadeAs, made-refused, made-allowed}
@@ -61,9 +62,9 @@ module _ {T : List ℕ} {x : Rule} {head : ℕ} {picks : List ℕ} (g : Chosen T
       unfolding stateIn
       verdict-is = e ∙ verdict-react ceiling is-move (stateFrom os ws gs at) (g .kind)
 
-      pub reaction-refused : (i : ℕ) {made : Made} {q : Refusal} → made .verdict ≡ Denied q → r ≡ Denied q
+      pub reaction-refused : (i : ℕ) {made : Made} {q : Refusal} → made .verdict ≡ Denied q → made .members ≡ 0 → r ≡ Denied q
           → MadeAs made ceiling (tableOf T) i (head ∷ picks) (held os ws gs at) (held os ws gs at)
-      reaction-refused i v h = made-refused w form v (sym verdict-is ∙ h)
+      reaction-refused i v n h = made-refused w form v n (sym verdict-is ∙ h)
 
       module _ (h : r ≡ Allowed) where
         pub reaction-asked : {maker : ℕ} → Maker maker → Permitted x picks maker (held os ws gs at)
@@ -79,12 +80,14 @@ module _ {T : List ℕ} {x : Rule} {head : ℕ} {picks : List ℕ} (g : Chosen T
         unfolding stateIn
         given = verdict-allowed ceiling (ruleIn x) (stateFrom os ws gs at) (take (x .consumes) picks) (sym e ∙ h) .0
 
-        pub reaction-made : (i : ℕ) {made : Made} → made .verdict ≡ r → {u : ℕ} → (u ≤ at .len) × UnmarkedTo ws u → {os′ ws′ gs′ : List ℕ} {left : Extent}
+        pub reaction-made : (i : ℕ) {made : Made} → made .verdict ≡ Allowed → made .members ≡ 0 → {u : ℕ} → (u ≤ at .len) × UnmarkedTo ws u
+            → {os′ ws′ gs′ : List ℕ} {left : Extent}
             → HoldsIn (held os′ ws′ gs′ left) (reacted (ruleIn x) i (stateIn (held os ws gs at)) (take (x .consumes) picks))
             → MadeAs made ceiling (tableOf T) i (head ∷ picks) (held os ws gs at) (held os′ ws′ gs′ (lookedTo left (u - x .consumes)))
-        reaction-made i v (l, none) m =
+        reaction-made i v n (l, none) m =
             let count = count-picks x (decodes-itself x _ (g .rule)) picks (g .four) in
-            made-allowed w form (v ∙ h) (sym verdict-is ∙ h) (rw (applied-react is-move i (stateIn (held os ws gs at)) (g .kind))
+            let ends-none = members-react is-move (stateIn (held os ws gs at)) (g .kind) in
+            made-allowed w form v (n ∙ sym ends-none) (sym verdict-is ∙ h) (rw (applied-react is-move i (stateIn (held os ws gs at)) (g .kind))
             (reacted-looked os ws gs at _ l none (ruleIn x) i (take (x .consumes) picks) given count m))
 
 -- ---- an end
@@ -114,14 +117,16 @@ module _ {t : Table} {head : ℕ} {picks : List ℕ} (g : Ending t head picks) {
       rw (same, k, n) at e
       ∙ verdict-end ceiling t (stateFrom os ws gs at) (omega (arith, w .bounds .fits, length-rows (rowOf os ws gs) 0 (at .len))) head picks (g .kind)
 
-  pub end-refused : (i : ℕ) {made : Made} {q : Refusal} → made .verdict ≡ Denied q → r ≡ Denied q
+  pub end-refused : (i : ℕ) {made : Made} {q : Refusal} → made .verdict ≡ Denied q → made .members ≡ 0 → r ≡ Denied q
       → MadeAs made ceiling t i (head ∷ picks) (held os ws gs at) (held os ws gs at)
-  end-refused i v h = made-refused w (g .form) v (sym end-verdict-is ∙ h)
+  end-refused i v n h = made-refused w (g .form) v n (sym end-verdict-is ∙ h)
 
-  pub end-made : (i : ℕ) {made : Made} → made .verdict ≡ r → r ≡ Allowed → {os′ ws′ gs′ : List ℕ} {left : Extent}
+  pub end-made : (i : ℕ) {made : Made} → made .verdict ≡ Allowed → made .members ≡ memberCount id (stateIn (held os ws gs at)) → r ≡ Allowed
+      → {os′ ws′ gs′ : List ℕ} {left : Extent}
       → HoldsIn (held os′ ws′ gs′ left) (ended (λ e. eqb (e .kind) (kind - 1)) id (stateIn (held os ws gs at)))
       → MadeAs made ceiling t i (head ∷ picks) (held os ws gs at) (held os′ ws′ gs′ (lookedTo left (at .unmarked - (at .len - left .len))))
-  end-made i v h m =
+  end-made i v count h m =
       let m = ended-looked os ws gs at (at .unmarked) (w .looked .within) (w .looked .none) (kind - 1) id m in
-      made-allowed w (g .form) (v ∙ h) (sym end-verdict-is ∙ h)
+      let all = members-end t head picks (stateIn (held os ws gs at)) (g .kind) in
+      made-allowed w (g .form) v (count ∙ rw n (sym all)) (sym end-verdict-is ∙ h)
       (rw (applied-end t head picks i (stateIn (held os ws gs at)) (g .kind) (g .small)) (rw (k, n) at m))

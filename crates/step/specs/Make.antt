@@ -5,7 +5,8 @@ use mathlib.Core.Bool.{true, false}
 use mathlib.Core.List.{List}
 use Rattle.semantics.specs.Table.{Table, sizesOf, numbersOf}
 use Rattle.semantics.specs.Move.{moveOk, moveOf, applied, refused, steppedBy, stepWords, moveVerdict}
-use Rattle.semantics.specs.Answers.{tableVerdict}
+use Rattle.semantics.specs.Members.{membersEnded}
+use Rattle.semantics.specs.Answers.{tableVerdict, unlessDeniedZero}
 use Rattle.semantics.specs.declared.Refusal.{Refusal}
 use Rattle.semantics.specs.declared.Refusal.the-variants.{MoveForm}
 use Rattle.semantics.specs.declared.Verdict.the-variants.{Allowed, Denied}
@@ -38,10 +39,12 @@ pub record Makeable (t index : List ℕ) (maker ceiling : ℕ) (s : State) : Typ
   pub maker-fits : Maker maker
   pub workable : Workable s ceiling
 
--- s′ is what the move w, of this maker, leaves of s; the verdict says why it is refused, and then s is as it was
+-- s′ is what the move w, of this maker, leaves of s; the verdict says why it is refused, and then s is as it was. The members are those that the move ends
+-- in s, 0 where it is refused.
 pub record MadeAs (made : Made) (ceiling : ℕ) (t : Table) (maker : ℕ) (w : List ℕ) (s s′ : State) : Type 0 where
   pub step : stepWords ceiling t maker (stateIn s) w ≡ steppedBy (made .verdict) (stateIn s′)
   pub same : (q : Refusal) → made .verdict ≡ Denied q → s′ ≡ s
+  pub members : made .members ≡ unlessDeniedZero (made .verdict) (membersEnded (stateIn s) (moveOf t w))
   pub workable : Workable s′ ceiling
 
 -- ---- from the tests to the step
@@ -55,20 +58,23 @@ module _ (ceiling : ℕ) (t : Table) (i : ℕ) (s : semantics.State) (w : List �
 
 module _ {ceiling : ℕ} {t : Table} {i : ℕ} {w : List ℕ} {s : State} (k : Workable s ceiling) {made : Made} where
   -- 5
-  pub made-malformed : made .verdict ≡ Denied MoveForm → moveOk t w ≡ false → MadeAs made ceiling t i w s s
-  made-malformed v h = record { step = step-malformed ceiling t i (stateIn s) w h ∙ rw v; same = λ q e. refl; workable = k }
+  pub made-malformed : made .verdict ≡ Denied MoveForm → made .members ≡ 0 → moveOk t w ≡ false → MadeAs made ceiling t i w s s
+  made-malformed v n h = record { step = step-malformed ceiling t i (stateIn s) w h ∙ rw v; same = λ q e. refl; members = rw v n; workable = k }
 
   module _ (form : moveOk t w ≡ true) where
     -- 7 to 12, 18
-    pub made-refused : {q : Refusal} → made .verdict ≡ Denied q → moveVerdict ceiling t (stateIn s) (moveOf t w) ≡ Denied q → MadeAs made ceiling t i w s s
-    made-refused v h = record { step = step-formed ceiling t i (stateIn s) w form ∙ rw (h, v); same = λ q e. refl; workable = k }
+    pub made-refused : {q : Refusal} → made .verdict ≡ Denied q → made .members ≡ 0 → moveVerdict ceiling t (stateIn s) (moveOf t w) ≡ Denied q
+        → MadeAs made ceiling t i w s s
+    made-refused v n h = record { step = step-formed ceiling t i (stateIn s) w form ∙ rw (h, v); same = λ q e. refl; members = rw v n; workable = k }
 
-    pub made-allowed : made .verdict ≡ Allowed → moveVerdict ceiling t (stateIn s) (moveOf t w) ≡ Allowed
+    pub made-allowed : made .verdict ≡ Allowed → made .members ≡ membersEnded (stateIn s) (moveOf t w)
+        → moveVerdict ceiling t (stateIn s) (moveOf t w) ≡ Allowed
         → {s′ : State} → HoldsIn s′ (applied t i (stateIn s) (moveOf t w)) → MadeAs made ceiling t i w s s′
     unfolding stateIn
-    made-allowed v h {s′} held = record {
+    made-allowed v n h {s′} held = record {
       step = step-formed ceiling t i (stateIn s) w form ∙ rw (h, v, held .holds .value);
       same = λ q e. absurd (denied≢allowed (sym e ∙ v));
+      members = rw v n;
       workable = record {
         arrays = held .arrays;
         bounds = applied-bounded ceiling t (stateIn s) (moveOf t w) h (k .bounds .next) i (held .holds);

@@ -13,6 +13,7 @@ use Rattle.lists.specs.Tests.{false-and, true-and}
 use Rattle.semantics.specs.Words.{headKind, headNumber}
 use Rattle.semantics.specs.Table.{Table, sizesOf, tableOf, ruleAt, consumed}
 use Rattle.semantics.specs.Move.{Move, react, commit, abort, unless, both, isZero, moveOk, moveOf, reacted, isOpen, mayCommit, mayAbort, ended, allowed, applied, moveVerdict}
+use Rattle.semantics.specs.Members.{memberCount, membersEnded}
 use Rattle.semantics.specs.declared.Refusal.the-variants.{NoTransaction, EndNotAllowed}
 use Rattle.semantics.specs.declared.Sizes.{Sizes}
 use Rattle.semantics.specs.declared.Verdict.{Verdict}
@@ -130,6 +131,19 @@ pub applied-react : {t : Table} {x : Rule} {head : ℕ} {picks : List ℕ} (m : 
     → applied t i s (moveOf t (head ∷ picks)) ≡ reacted (ruleIn x) i s (take (x .consumes) picks)
 unfolding applied
 applied-react {t} {x} {head} {picks} m i s k = rw (move-react m k, rule-in x (ruleAt t (headNumber head)) (m .rule k))
+
+-- the members that it ends: none by a reaction, and those of its transaction by an end
+pub members-react : {t : Table} {x : Rule} {head : ℕ} {picks : List ℕ} (m : IsMove t x head picks) (s : semantics.State) → headKind head ≡ 0
+    → membersEnded s (moveOf t (head ∷ picks)) ≡ 0
+members-react m s k = ap (membersEnded s) (move-react m k)
+
+pub members-end : (t : Table) (head : ℕ) (picks : List ℕ) (s : semantics.State) → (headKind head ≡ 0 → ⊥)
+    → membersEnded s (moveOf t (head ∷ picks)) ≡ memberCount (headNumber head) s
+members-end t head picks s k = ap (membersEnded s) (move-end t head picks k) ∙ go (eqb (headKind head) 1)
+  where
+    go : (c : Bool) → membersEnded s (cond c (commit (headNumber head)) (abort (headNumber head))) ≡ memberCount (headNumber head) s
+    go true = refl
+    go false = refl
 
 -- a commit frees the messages (kind 0), an abort (kind 2) the compensations (kind 1)
 pub applied-end : (t : Table) (head : ℕ) (picks : List ℕ) (i : ℕ) (s : semantics.State) → (headKind head ≡ 0 → ⊥) → headKind head ≤ 2

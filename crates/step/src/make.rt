@@ -27,19 +27,32 @@ use table::parts::sizes_of;
 use words::head;
 use words::head::MoveWords;
 
-// Why a move is refused, and the extent of the state that it leaves.
+// Why a move is refused, the extent of the state that it leaves, and how many member marks it removed.
 pub struct Made {
     pub verdict: Verdict,
     pub left: Extent,
+    pub members: u32,
 }
 
 // Nothing is changed.
 fn refused(refusal: Refusal, left: Extent) -> Made
-    ensures { λ r. ⌜ r ≡ record { verdict = Denied refusal; left = left } ⌝ }
+    ensures { λ r. ⌜ r ≡ record { verdict = Denied refusal; left = left; members = 0 } ⌝ }
 {
     Made {
         verdict: Verdict::Denied(refusal),
         left,
+        members: 0,
+    }
+}
+
+// Allowed, and made.
+fn allowed(left: Extent, members: u32) -> Made
+    ensures { λ r. ⌜ r ≡ record { verdict = Allowed; left = left; members = members } ⌝ }
+{
+    Made {
+        verdict: Verdict::Allowed,
+        left,
+        members,
     }
 }
 
@@ -107,7 +120,8 @@ fn make_reaction<'a>(
     }
     let after = react(owners, items, origins, at, rule, picks, maker);
     let left = kept(after, unmarked, rule.consumes);
-    Made { verdict, left }
+    // A rule consumes messages only, so that no member mark goes.
+    allowed(left, 0)
 }
 
 // A commit (kind 1) frees the transaction's messages (0), an abort (kind 2) its compensations (1).
@@ -138,10 +152,11 @@ fn make_end(
     if let Verdict::Denied(refusal) = verdict {
         return refused(refusal, at);
     }
-    let after = end_transaction(owners, items, origins, from, at, id, kind - 1);
+    let ended = end_transaction(owners, items, origins, from, at, id, kind - 1);
+    let after = ended.left;
     let gone = less_by(at.len, after.len);
     let left = kept(after, at.unmarked, gone);
-    Made { verdict, left }
+    allowed(left, ended.members)
 }
 
 // One move in words on lent columns: decided (5, 7 to 12, 18) and, where it is allowed, made.

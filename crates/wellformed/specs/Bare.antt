@@ -5,13 +5,15 @@ use mathlib.Core.List.{List, [], _∷_, _++_, map, map-map, map-append}
 use mathlib.Core.Path.{_≡_, refl, sym, ap, _∙_}
 use lib.Dec.{ltb, eqb}
 use lib.ListN.{length-map, List·getD-map}
-use Rattle.lists.specs.Lists.{all, any, keep, distinct, without}
+use Rattle.lists.specs.Lists.{all, any, keep, countIf, distinct, without}
+use Rattle.lists.specs.Counting.{count-map}
 use Rattle.lists.specs.Parts.{keep-map, all-map, any-map, without-map}
 use Rattle.semantics.specs.Words.{itemWord}
 use Rattle.semantics.specs.Table.{Table, Rule, ruleAt, consumed, productAtoms, begins}
 use Rattle.semantics.specs.State.{Entry, State, isMessage, isAbortMark, isMemberMark, owned, stateWords, entryOk, isOwnMark, ownerOk, entriesOk}
 use Rattle.semantics.specs.Move.{unless, both, Move, react, commit, abort, nothing, picked, onPorts, ownersAt, ownersFit, isZero, hasId, merged, products}
 use Rattle.semantics.specs.Move.{reacted, entriesIn, mayAbort, takesPart, toGlobal, freed, ended, allowed, applied}
+use Rattle.semantics.specs.Members.{memberCount, membersEnded}
 use Rattle.semantics.specs.declared.Atom.{Atom}
 use Rattle.semantics.specs.declared.Sizes.{Sizes}
 use Rattle.semantics.specs.declared.Refusal.the-variants.{WrongPick, WrongOwner, NoTransaction, EndNotAllowed, NoMoreIds, TransactionAborting}
@@ -85,6 +87,16 @@ allowed-bare t s (abort b) = λ k.
     both (unless (ltb 0 b && any-map bare (owned b) (s .entries) k) NoTransaction)
     (unless (abort-bare s b k) EndNotAllowed)
 
+-- ---- the members that a move ends
+
+marks-bare : (s : State) (b : ℕ) → memberCount b (bareState s) ≡ memberCount b s
+marks-bare s b = ap (countIf isMemberMark) (keep-map bare (owned b) (s .entries)) ∙ count-map bare isMemberMark (entriesIn b s)
+
+members-bare : (s : State) (m : Move) → membersEnded (bareState s) m ≡ membersEnded s m
+members-bare s (react r ps) = refl
+members-bare s (commit b) = marks-bare s b
+members-bare s (abort b) = marks-bare s b
+
 -- ---- what a move leaves
 
 module _ (R : Rule) (i j : ℕ) (s : State) (ps : List ℕ) where
@@ -155,6 +167,9 @@ module _ (s s′ : State) (same : bareState s ≡ bareState s′) where
 
   pub entriesOk-same : (z : Sizes) → entriesOk z s ≡ entriesOk z s′
   entriesOk-same z = sym (entriesOk-bare z s) ∙ ap (entriesOk z) same ∙ entriesOk-bare z s′
+
+  pub members-alike : (m : Move) → membersEnded s m ≡ membersEnded s′ m
+  members-alike m = sym (members-bare s m) ∙ ap (λ (x : State). membersEnded x m) same ∙ members-bare s′ m
 
   pub allowed-same : (t : Table) (m : Move) → allowed t s m ≡ allowed t s′ m
   allowed-same t m = sym (allowed-bare t s m) ∙ ap (λ (x : State). allowed t x m) same ∙ allowed-bare t s′ m

@@ -9,9 +9,9 @@ use Rattle.semantics.specs.Answers.{answerOf, outcomeOfCheck, stateVerdict, che
 use Rattle.semantics.specs.Answers.{runLog, runLogTarget}
 use Rattle.semantics.specs.declared.Verdict.{Verdict}
 use Rattle.semantics.specs.declared.Verdict.the-variants.{Allowed}
-use Rattle.wellformed.specs.Results.{write-accepted, move-refused, written}
-use Rattle.wellformed.specs.MoveKeeps.{move-keeps}
-use Rattle.wellformed.specs.RunKeeps.{run-keeps, run-refused}
+use Rattle.wellformed.specs.Results.{move-refused, written}
+use Rattle.wellformed.specs.MoveKeeps.{move-leaves, move-keeps}
+use Rattle.wellformed.specs.RunKeeps.{run-leaves, run-keeps, run-refused}
 use Rattle.wellformed.specs.OwnNumbers.{OwnNumber}
 
 check-passes : (T S : List ℕ) → stateVerdict T S ≡ Allowed → checkState T S .number ≡ 0
@@ -23,16 +23,16 @@ pub makeMove-keeps : (T S M target : List ℕ) → makeMove T S M target .number
 unfolding makeMove makeMoveTarget
 makeMove-keeps T S M target h =
     let x = moveResult lineCeiling T S M target in
-    let (ws, e) = write-accepted x h in
-    rw (written x target ws e) (check-passes T ws (move-keeps lineCeiling (omega arith) T S M target ws e .0))
+    let (ws, k, e) = move-leaves lineCeiling T S M target h in
+    rw (written x target ws e) (check-passes T ws (move-keeps lineCeiling (omega arith) T S M target ws k e .0))
 
 pub runLog-keeps : (T S L target : List ℕ) → runLog T S L target .number ≡ 0
     → checkState T (take (runLog T S L target .words) (runLogTarget T S L target)) .number ≡ 0
 unfolding runLog runLogTarget
 runLog-keeps T S L target h =
     let x = runResult lineCeiling T S L target in
-    let (ws, e) = write-accepted x h in
-    rw (written x target ws e) (check-passes T ws (run-keeps lineCeiling (omega arith) T S L target ws e .0))
+    let (ws, k, e) = run-leaves lineCeiling T S L target h in
+    rw (written x target ws e) (check-passes T ws (run-keeps lineCeiling (omega arith) T S L target ws k e .0))
 
 pub runLog-own : (T S L target : List ℕ) → runLog T S L target .number ≡ 16
     → OwnNumber (runLog T S L target .own)

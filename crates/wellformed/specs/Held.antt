@@ -23,7 +23,7 @@ use Rattle.wellformed.specs.Tables.{well-formed, sizes-tableOf}
 use Rattle.wellformed.specs.States.{state-given, state-sized}
 use Rattle.wellformed.specs.Rules.{table-right}
 use Rattle.wellformed.specs.Entries.{EntryRight, state-right, state-tests, Sound, Small}
-use Rattle.wellformed.specs.Step.{accepted-move}
+use Rattle.wellformed.specs.Step.{completed-same, accepted-move}
 use Rattle.wellformed.specs.Preservation.{rule-known, applied-keeps, applied-small}
 use Rattle.wellformed.specs.Bare.{bareState, entriesOk-same}
 use Rattle.wellformed.specs.RoundTrip.{bare-numbered, Fits, stateOf-stateWords, stateWords-stateOf, length-stateWords, entryCount-stateWords}
@@ -121,10 +121,7 @@ module _ (T : List ℕ) (table : tableVerdict T ≡ Allowed) where
   pub run-holds : (ceiling i : ℕ) (s : State) (ms : List (List ℕ)) (s′ : State) → ceiling ≤ 1024 → Held (sizesOf T) s
       → run ceiling (tableOf T) i s ms ≡ completed s′ → Held (sizesOf T) s′
   unfolding run
-  run-holds ceiling i s [] s′ c h e = subst (Held (sizesOf T)) (same e) h
-    where
-      same : {a b : State} → completed a ≡ completed b → a ≡ b
-      same h = cc
+  run-holds ceiling i s [] s′ c h e = subst (Held (sizesOf T)) (completed-same e) h
   run-holds ceiling i s (m ∷ ms) s′ c h e = go (stepWords ceiling (tableOf T) (suc i) s m) refl (λ x k. run-holds ceiling (suc i) x ms s′ c k) e
     where
       go : (x : Stepped) → stepWords ceiling (tableOf T) (suc i) s m ≡ x

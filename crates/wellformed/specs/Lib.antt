@@ -13,6 +13,7 @@ pub mod Length
 pub mod Step
 pub mod Bare
 pub mod RoundTrip
+pub mod Conserved
 pub mod Held
 pub mod Results
 pub mod MoveKeeps
@@ -21,4 +22,5 @@ pub mod OwnNumbers
 pub mod Unmarked
 pub mod RunKeeps
 pub mod Calls
+pub mod Removes
 pub mod AsMove

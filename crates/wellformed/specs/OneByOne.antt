@@ -1,5 +1,5 @@
--- A run is its moves made one after another, each on the words that the move before it wrote.
-use Prim.Native.Nat.{ℕ, suc, _≤_}
+-- A run is its moves made one after another, each on the words that the move before it wrote; its members are theirs added up.
+use Prim.Native.Nat.{ℕ, suc, _+_, _≤_}
 use mathlib.Core.Bool.{Bool, true, false, cond}
 use mathlib.Core.List.{List, [], _∷_}
 use mathlib.Core.Path.{_≡_, refl, sym, ap, _∙_}
@@ -9,28 +9,38 @@ use borrow.Author.Tests.{le-leb, leb-true}
 use Rattle.semantics.specs.Table.{Table, sizesOf, tableOf}
 use Rattle.semantics.specs.State.{State, stateOf, stateWords}
 use Rattle.semantics.specs.Move.{unless, both, moveOk, moveOf, applied, Stepped, to, refused, steppedBy, step, within, stepWords, moveVerdict}
-use Rattle.semantics.specs.Log.{movesOf, logSizesOk, onward, run}
-use Rattle.semantics.specs.Answers.{tableVerdict, stateVerdict, Result, write, refuse, refuseMove, unlessDenied, hasWords, steppedResult, moveResult}
-use Rattle.semantics.specs.Answers.{ranResult, logVerdict, runOf, runResult}
+use Rattle.semantics.specs.Log.{movesOf, logSizesOk, Ran, completed, stopped, onward, run}
+use Rattle.semantics.specs.Members.{membersEnded, addMembers, membersAlong}
+use Rattle.semantics.specs.Answers.{tableVerdict, stateVerdict, Result, write, leave, refuse, refuseMove, unlessDenied, hasWords, steppedResult, moveResult}
+use Rattle.semantics.specs.Answers.{ranResult, logVerdict, runOf, runMembers, runResult}
 use Rattle.semantics.specs.declared.Refusal.the-variants.{MoveForm, TargetTooShort, LogSizes}
 use Rattle.semantics.specs.declared.Verdict.{Verdict}
 use Rattle.semantics.specs.declared.Verdict.the-variants.{Allowed, Denied}
 use Rattle.wellformed.specs.Verdicts.{both-allowed, unless-allowed}
 use Rattle.wellformed.specs.States.{state-given}
 use Rattle.wellformed.specs.Step.{stepWords-verdict}
-use Rattle.wellformed.specs.Bare.{bare, bareState, words-same, allowed-same, applied-same}
+use Rattle.wellformed.specs.Bare.{bare, bareState, words-same, allowed-same, members-alike, applied-same}
 use Rattle.wellformed.specs.RoundTrip.{stateWords-stateOf}
 use Rattle.wellformed.specs.Held.{Held, stateOf-held, reread, words-pass, step-holds}
 
--- on with the words that a move wrote; a refusal stops with the move's place and own number (a single move is refused by `refuse` alone)
+-- so many members more
+abbrev pub withMembers : ℕ → Result → Result
+withMembers k (write ws) = write ws
+withMembers k (leave ws n) = leave ws (k + n)
+withMembers k (refuse r) = refuse r
+withMembers k (refuseMove i r) = refuseMove i r
+
+-- On with the words that a move wrote, its members added; a refusal stops with the move's place and own number (a single move is refused by `refuse` alone,
+-- and writes by `leave`).
 abbrev pub thenOn : Result → ℕ → (List ℕ → Result) → Result
 thenOn (write ws) i rest = rest ws
+thenOn (leave ws k) i rest = withMembers k (rest ws)
 thenOn (refuse r) i rest = refuseMove i r
 thenOn (refuseMove j r) i rest = refuseMove i r
 
 -- the first of these moves has the place i
 abbrev pub oneByOneFrom : ℕ → ℕ → List ℕ → List ℕ → List (List ℕ) → List ℕ → Result
-oneByOneFrom i ceiling T S [] target = write S
+oneByOneFrom i ceiling T S [] target = leave S 0
 oneByOneFrom i ceiling T S (m ∷ ms) target = thenOn (moveResult ceiling T S m target) i (λ ws. oneByOneFrom (suc i) ceiling T ws ms target)
 
 -- moves made by single calls: the first gets S, each later one the words that the move before it wrote
@@ -41,25 +51,26 @@ oneByOne = oneByOneFrom 0
 
 -- on a well-formed state and a long enough target, only the step counts
 pub moveResult-step : (ceiling : ℕ) (T S m target : List ℕ) → stateVerdict T S ≡ Allowed → 2050 ≤ length target
-    → moveResult ceiling T S m target ≡ steppedResult (stepWords ceiling (tableOf T) 1 (stateOf S) m)
+    → moveResult ceiling T S m target ≡ steppedResult (membersEnded (stateOf S) (moveOf (tableOf T) m)) (stepWords ceiling (tableOf T) 1 (stateOf S) m)
 unfolding moveResult stepWords
 moveResult-step ceiling T S m target h l =
-    rw (h, le-leb 2050 (length target) l) (go (moveOk (tableOf T) m) (within ceiling (step (tableOf T) 1 (stateOf S) (moveOf (tableOf T) m))))
+    rw (h, le-leb 2050 (length target) l)
+    (go (membersEnded (stateOf S) (moveOf (tableOf T) m)) (moveOk (tableOf T) m) (within ceiling (step (tableOf T) 1 (stateOf S) (moveOf (tableOf T) m))))
   where
-    go : (b : Bool) (x : Stepped)
-        → unlessDenied (both (unless b MoveForm) Allowed) (steppedResult (cond b x (refused MoveForm))) ≡ steppedResult (cond b x (refused MoveForm))
-    go true x = refl
-    go false x = refl
+    go : (k : ℕ) (b : Bool) (x : Stepped)
+        → unlessDenied (both (unless b MoveForm) Allowed) (steppedResult k (cond b x (refused MoveForm))) ≡ steppedResult k (cond b x (refused MoveForm))
+    go k true x = refl
+    go k false x = refl
 
--- the words that a step leaves do not depend on origins
+-- the words that a step leaves do not depend on origins, nor do its members
 pub steppedResult-same : (ceiling : ℕ) (t : Table) (i j : ℕ) (s s′ : State) (m : List ℕ) → bareState s ≡ bareState s′
-    → steppedResult (stepWords ceiling t i s m) ≡ steppedResult (stepWords ceiling t j s′ m)
+    → steppedResult (membersEnded s (moveOf t m)) (stepWords ceiling t i s m) ≡ steppedResult (membersEnded s′ (moveOf t m)) (stepWords ceiling t j s′ m)
 unfolding moveVerdict
 steppedResult-same ceiling t i j s s′ m h =
-    ap steppedResult (stepWords-verdict ceiling t i s m)
-    ∙ rw (allowed-same s s′ h t (moveOf t m), fewer)
-    (go (moveOk t m) (moveVerdict ceiling t s′ (moveOf t m)))
-    ∙ sym (ap steppedResult (stepWords-verdict ceiling t j s′ m))
+    ap (steppedResult (membersEnded s (moveOf t m))) (stepWords-verdict ceiling t i s m)
+    ∙ rw (allowed-same s s′ h t (moveOf t m), fewer, members-alike s s′ h (moveOf t m))
+    (go (membersEnded s′ (moveOf t m)) (moveOk t m) (moveVerdict ceiling t s′ (moveOf t m)))
+    ∙ sym (ap (steppedResult (membersEnded s′ (moveOf t m))) (stepWords-verdict ceiling t j s′ m))
   where
     left : bareState (applied t i s (moveOf t m)) ≡ bareState (applied t j s′ (moveOf t m))
     left = applied-same s s′ h t i j (moveOf t m)
@@ -69,37 +80,46 @@ steppedResult-same ceiling t i j s s′ m h =
         ∙ ap (λ (x : State). length (x .entries)) (applied-same s s′ h t 0 0 (moveOf t m))
         ∙ length-map (applied t 0 s′ (moveOf t m) .entries) bare
 
-    go : (b : Bool) (v : Verdict)
-        → steppedResult (cond b (steppedBy v (applied t i s (moveOf t m))) (refused MoveForm)) ≡ steppedResult
+    go : (k : ℕ) (b : Bool) (v : Verdict)
+        → steppedResult k (cond b (steppedBy v (applied t i s (moveOf t m))) (refused MoveForm)) ≡ steppedResult k
         (cond b (steppedBy v (applied t j s′ (moveOf t m))) (refused MoveForm))
-    go false v = refl
-    go true (Denied r) = refl
-    go true Allowed = ap write (words-same (applied t i s (moveOf t m)) (applied t j s′ (moveOf t m)) left)
+    go k false v = refl
+    go k true (Denied r) = refl
+    go k true Allowed = ap (λ (ws : List ℕ). leave ws k) (words-same (applied t i s (moveOf t m)) (applied t j s′ (moveOf t m)) left)
 
 -- ---- a log
 
 module _ (ceiling : ℕ) (c : ceiling ≤ 1024) (T : List ℕ) (table : tableVerdict T ≡ Allowed) (target : List ℕ) (l : 2050 ≤ length target) where
   run-held : (i : ℕ) (s : State) → Held (sizesOf T) s → (ms : List (List ℕ))
-      → ranResult (run ceiling (tableOf T) i s ms) ≡ oneByOneFrom i ceiling T (stateWords s) ms target
-  unfolding run
+      → ranResult (membersAlong ceiling (tableOf T) i s ms) (run ceiling (tableOf T) i s ms) ≡ oneByOneFrom i ceiling T (stateWords s) ms target
+  unfolding run membersAlong
   run-held i s h [] = refl
   run-held i s h (m ∷ ms) =
-      go (stepWords ceiling (tableOf T) (suc i) s m) refl (λ s′ k. run-held (suc i) s′ k ms)
+      go (membersEnded s (moveOf (tableOf T) m)) (stepWords ceiling (tableOf T) (suc i) s m) refl (λ s′ k. run-held (suc i) s′ k ms)
       ∙ ap (λ (r : Result). thenOn r i (λ ws. oneByOneFrom (suc i) ceiling T ws ms target)) (sym same)
     where
-      same : moveResult ceiling T (stateWords s) m target ≡ steppedResult (stepWords ceiling (tableOf T) (suc i) s m)
+      same : moveResult ceiling T (stateWords s) m target
+          ≡ steppedResult (membersEnded s (moveOf (tableOf T) m)) (stepWords ceiling (tableOf T) (suc i) s m)
       same = moveResult-step ceiling T (stateWords s) m target (words-pass T table s h) l
           ∙ steppedResult-same ceiling (tableOf T) 1 (suc i) (stateOf (stateWords s)) s m (reread T table s h)
 
-      go : (x : Stepped) → stepWords ceiling (tableOf T) (suc i) s m ≡ x
-          → ((s′ : State) → Held (sizesOf T) s′ → ranResult (run ceiling (tableOf T) (suc i) s′ ms) ≡ oneByOneFrom (suc i) ceiling T (stateWords s′) ms target)
-          → ranResult (onward x i (λ s′. run ceiling (tableOf T) (suc i) s′ ms)) ≡ thenOn (steppedResult x) i
-          (λ ws. oneByOneFrom (suc i) ceiling T ws ms target)
-      go (to s′) e ih = ih s′ (step-holds T table ceiling (suc i) s m s′ c h e)
-      go (refused r) e ih = refl
+      more : (k n : ℕ) (x : Ran) → ranResult (k + n) x ≡ withMembers k (ranResult n x)
+      more k n (completed s′) = refl
+      more k n (stopped j r) = refl
+
+      go : (k : ℕ) (x : Stepped) → stepWords ceiling (tableOf T) (suc i) s m ≡ x
+          → ((s′ : State) → Held (sizesOf T) s′
+          → ranResult (membersAlong ceiling (tableOf T) (suc i) s′ ms) (run ceiling (tableOf T) (suc i) s′ ms)
+          ≡ oneByOneFrom (suc i) ceiling T (stateWords s′) ms target)
+          → ranResult (addMembers x k (λ s′. membersAlong ceiling (tableOf T) (suc i) s′ ms)) (onward x i (λ s′. run ceiling (tableOf T) (suc i) s′ ms))
+          ≡ thenOn (steppedResult k x) i (λ ws. oneByOneFrom (suc i) ceiling T ws ms target)
+      go k (to s′) e ih =
+          more k (membersAlong ceiling (tableOf T) (suc i) s′ ms) (run ceiling (tableOf T) (suc i) s′ ms)
+          ∙ ap (withMembers k) (ih s′ (step-holds T table ceiling (suc i) s m s′ c h e))
+      go k (refused r) e ih = refl
 
 pub run-one-by-one : (ceiling : ℕ) → ceiling ≤ 1024 → (T S target : List ℕ) → stateVerdict T S ≡ Allowed → 2050 ≤ length target → (ms : List (List ℕ))
-    → ranResult (run ceiling (tableOf T) 0 (stateOf S) ms) ≡ oneByOne ceiling T S ms target
+    → ranResult (membersAlong ceiling (tableOf T) 0 (stateOf S) ms) (run ceiling (tableOf T) 0 (stateOf S) ms) ≡ oneByOne ceiling T S ms target
 run-one-by-one ceiling c T S target h l ms =
     let (table, k, e) = state-given S T h in
     run-held ceiling c T table target l 0 (stateOf S) (stateOf-held T S h) ms
@@ -112,7 +132,7 @@ unfolding runResult logVerdict
 runResult-one-by-one ceiling c T S L target = go (both (logVerdict T S L) (hasWords 2050 target)) refl
   where
     go : (v : Verdict) → both (logVerdict T S L) (hasWords 2050 target) ≡ v
-        → unlessDenied v (ranResult (runOf ceiling T S L)) ≡ unlessDenied v (oneByOne ceiling T S (movesOf L) target)
+        → unlessDenied v (ranResult (runMembers ceiling T S L) (runOf ceiling T S L)) ≡ unlessDenied v (oneByOne ceiling T S (movesOf L) target)
     go (Denied r) e = refl
     go Allowed e =
         let (a, b) = both-allowed (logVerdict T S L) (hasWords 2050 target) e in

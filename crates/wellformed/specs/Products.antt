@@ -1,19 +1,21 @@
 -- The products of a reaction, one for each atom that makes something, and the marks among them.
 use Prim.Native.Nat.{ℕ, suc, _+_}
 use mathlib.Core.Bool.{Bool, true, false, cond}
-use mathlib.Core.List.{List, [], _∷_, map}
+use mathlib.Core.List.{List, [], _∷_, _++_, map, map-append}
 use mathlib.Core.Logic.{inl, inr}
-use mathlib.Core.Path.{_≡_, refl, ap}
+use mathlib.Core.Path.{_≡_, refl, ap, _∙_}
 use native.Mathlib.Omega.{arith}
 use lib.Dec.{eqb}
 use lib.ListN.{replicate}
 use borrow.Author.Tests.{eq-eqb, ne-eqb}
-use Rattle.lists.specs.Lists.{oneIf, countIf, keepIf, keep}
+use Rattle.lists.specs.Lists.{oneIf, countIf, keepIf, keep, without}
+use Rattle.lists.specs.Parts.{keep-append}
 use Rattle.lists.specs.Members.{Among}
-use Rattle.semantics.specs.Table.{Rule, hasRole}
+use Rattle.semantics.specs.Table.{Rule, hasRole, productAtoms}
 use Rattle.semantics.specs.State.{Origin, Entry, State, isMemberMark, markValues}
-use Rattle.semantics.specs.Move.{merged, valueIn, made, products}
+use Rattle.semantics.specs.Move.{picked, ownersAt, merged, valueIn, made, products}
 use Rattle.semantics.specs.declared.Atom.{Atom}
+use Rattle.wellformed.specs.Picks.{ReactGiven, marks-left}
 
 module _ (R : Rule) (s : State) (es : List Entry) (i : ℕ) where
   pub among-products : (q : ℕ) (atoms : List Atom) (e : Entry) → Among e (products R s es i q atoms)
@@ -28,7 +30,7 @@ module _ (R : Rule) (s : State) (es : List Entry) (i : ℕ) where
   products-among q (b ∷ atoms) a (inr m) = let (o, n) = products-among (suc q) atoms a m in (o, inr n)
 
   -- the marks that are made: one for each begin, of value N
-  pub marks-made : (q : ℕ) (atoms : List Atom) → markValues (products R s es i q atoms) ≡ replicate (countIf (hasRole 2) atoms) (s .next)
+  marks-made : (q : ℕ) (atoms : List Atom) → markValues (products R s es i q atoms) ≡ replicate (countIf (hasRole 2) atoms) (s .next)
   marks-made q [] = refl
   marks-made q (a ∷ atoms) =
       go (marks-made (suc q) atoms) (eqb (a .role) 2) (eqb (a .role) 4) (eqb (a .role) 5) (made R s es (record { maker = i; index = q }) a) refl refl
@@ -50,7 +52,7 @@ module _ (R : Rule) (s : State) (es : List Entry) (i : ℕ) where
       go ih false false false e k v = rw (ne-eqb (e .kind) 3 (λ q. omega arith), ih) (fewer (countIf (hasRole 2) atoms))
 
 -- merging changes no mark's value
-pub marks-merged : (os : List ℕ) (es : List Entry) → markValues (map (merged os) es) ≡ markValues es
+marks-merged : (os : List ℕ) (es : List Entry) → markValues (map (merged os) es) ≡ markValues es
 marks-merged os [] = refl
 marks-merged os (e ∷ es) = go (isMemberMark e) (marks-merged os es)
   where
@@ -58,3 +60,14 @@ marks-merged os (e ∷ es) = go (isMemberMark e) (marks-merged os es)
         → map (λ e. e .value) (keepIf b (merged os e) (keep isMemberMark (map (merged os) es))) ≡ map (λ e. e .value) (keepIf b e (keep isMemberMark es))
     go true ih = rw ih
     go false ih = ih
+
+-- a reaction picks no mark, and adds one for each begin
+pub marks-added : {R : Rule} {s : State} {ps : List ℕ} → ReactGiven R s ps → (i : ℕ)
+    → markValues (map (merged (ownersAt s ps)) (without ps 0 (s .entries)) ++ products R s (picked s ps) i 0 (productAtoms R))
+    ≡ markValues (s .entries) ++ replicate (countIf (hasRole 2) (productAtoms R)) (s .next)
+marks-added {R} {s} {ps} g i =
+    let left = map (merged (ownersAt s ps)) (without ps 0 (s .entries)) in
+    let new = products R s (picked s ps) i 0 (productAtoms R) in
+    ap (map (λ e. e .value)) (keep-append isMemberMark left new)
+    ∙ map-append (λ e. e .value) (keep isMemberMark left) (keep isMemberMark new)
+    ∙ rw (marks-merged (ownersAt s ps) (without ps 0 (s .entries)), marks-left g, marks-made R s (picked s ps) i 0 (productAtoms R))

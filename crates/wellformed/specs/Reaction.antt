@@ -1,7 +1,7 @@
 -- An allowed reaction keeps a state sound, and its values small.
 use Prim.Native.Nat.{ℕ, zero, suc, _≤_, _<_}
 use mathlib.Core.Bool.{Bool, true, false, not, cond}
-use mathlib.Core.List.{List, _++_, map, map-append, append-nil}
+use mathlib.Core.List.{List, _++_, map, append-nil}
 use mathlib.Core.Logic.{_⊎_, inl, inr, ⊎-elim}
 use mathlib.Core.Path.{_≡_, refl, sym, ap, subst, _∙_}
 use native.Mathlib.Omega.{arith}
@@ -15,7 +15,7 @@ use Rattle.lists.specs.Smallest.{least-le, least-of}
 use Rattle.lists.specs.Totals.{count-keep-le}
 use Rattle.lists.specs.Removed.{among-without}
 use Rattle.lists.specs.Unrepeated.{distinct-snoc}
-use Rattle.lists.specs.Parts.{keep-append, getD-each}
+use Rattle.lists.specs.Parts.{getD-each}
 use Rattle.semantics.specs.Table.{Rule, hasRole, consumed, productAtoms, begins}
 use Rattle.semantics.specs.State.{Origin, Entry, State, isMemberMark, markValues}
 use Rattle.semantics.specs.Move.{picked, ownersAt, merged, valueIn, kindMade, made, products, reacted}
@@ -25,7 +25,7 @@ use Rattle.semantics.specs.declared.AtomValue.{AtomValue}
 use Rattle.semantics.specs.declared.AtomValue.the-variants.{Constant, Received}
 use Rattle.wellformed.specs.Rules.{ValueRight, AtomRight, RuleRight, product-atom, role-begins, begins-global}
 use Rattle.wellformed.specs.Entries.{EntryRight, HasOwnMark, message-entry, compensation-entry, abort-entry, member-entry, Sound, Small}
-use Rattle.wellformed.specs.Products.{among-products, products-among, marks-made, marks-merged}
+use Rattle.wellformed.specs.Products.{among-products, products-among, marks-added}
 use Rattle.wellformed.specs.Picks.{ReactGiven, pick-among, marks-left, owners-zero, owners-positive, home-zero, least-owner, owner-pick}
 
 module _ {z : Sizes} {R : Rule} (right : RuleRight z R) {s : State} (sound : Sound z s) {ps : List ℕ} (g : ReactGiven R s ps) (i : ℕ) where
@@ -230,12 +230,6 @@ module _ {z : Sizes} {R : Rule} (right : RuleRight z R) {s : State} (sound : Sou
       (λ k. inr (among-products R s (picked s ps) i 0 (productAtoms R) d k))
       (among-append (map (merged os) (without ps 0 (s .entries))) new d m)
 
-  marks-all : markValues all-entries ≡ markValues (s .entries) ++ replicate (countIf (hasRole 2) (productAtoms R)) (s .next)
-  marks-all =
-      ap (map (λ e. e .value)) (keep-append isMemberMark (map (merged os) (without ps 0 (s .entries))) new)
-      ∙ map-append (λ e. e .value) (keep isMemberMark (map (merged os) (without ps 0 (s .entries)))) (keep isMemberMark new)
-      ∙ rw (marks-merged os (without ps 0 (s .entries)), marks-left g, marks-made R s (picked s ps) i 0 (productAtoms R))
-
   next-new : isIn (s .next) (markValues (s .entries)) ≡ false
   next-new = is-false (isIn (s .next) (markValues (s .entries))) (λ h.
       let (e, m, q) = among-map (λ e. e .value) (keep isMemberMark (s .entries)) (s .next) (isIn-among (s .next) (markValues (s .entries)) h) in
@@ -243,7 +237,7 @@ module _ {z : Sizes} {R : Rule} (right : RuleRight z R) {s : State} (sound : Sou
       let l = sound .right .each e k .member-mark (eqb-true (e .kind) 3 t) .value-lt in omega arith)
 
   marks-distinct : distinct (markValues all-entries) ≡ true
-  marks-distinct = rw marks-all (go (countIf (hasRole 2) (productAtoms R))
+  marks-distinct = rw (marks-added g i) (go (countIf (hasRole 2) (productAtoms R))
       (let l = count-keep-le (hasRole 2) (λ a. not (hasRole 0 a)) (R .atoms) in let h = right .begins-le in omega arith))
     where
       go : (n : ℕ) → n ≤ 1 → distinct (markValues (s .entries) ++ replicate n (s .next)) ≡ true

@@ -5,7 +5,7 @@ use mathlib.Core.Path.{_≡_, refl}
 use native.Mathlib.Omega.{arith}
 use lib.ListN.{length, take, drop}
 use lib.Seq.{take-append-seam}
-use Rattle.semantics.specs.Answers.{number, answerOf, Result, write, refuse, refuseMove, outcomeOf, targetAfter, unlessDenied}
+use Rattle.semantics.specs.Answers.{number, answerOf, Result, write, leave, refuse, refuseMove, outcomeOf, targetAfter, unlessDenied}
 use Rattle.semantics.specs.declared.Refusal.{Refusal}
 use Rattle.semantics.specs.declared.Refusal.the-variants.{TableSizes, TableContents, StateSizes, StateContents, MoveForm, TargetTooShort, WrongPick}
 use Rattle.semantics.specs.declared.Refusal.the-variants.{WrongOwner, NoTransaction, EndNotAllowed, NoMoreIds, TooManyEntries, LogSizes, BeginEmits}
@@ -13,15 +13,18 @@ use Rattle.semantics.specs.declared.Refusal.the-variants.{TransactionOpen, Seri
 use Rattle.semantics.specs.declared.Verdict.{Verdict}
 use Rattle.semantics.specs.declared.Verdict.the-variants.{Allowed, Denied}
 
-pub refuse≢write : {r : Refusal} {ws : List ℕ} → refuse r ≡ write ws → ⊥
-refuse≢write h = let z : _≡_ {A = ℕ} 0 1 = cc in omega arith
+pub refuse≢leave : {r : Refusal} {ws : List ℕ} {k : ℕ} → refuse r ≡ leave ws k → ⊥
+refuse≢leave h = let z : _≡_ {A = ℕ} 0 1 = cc in omega arith
 
-pub unlessDenied-write : (v : Verdict) (x : Result) (ws : List ℕ) → unlessDenied v x ≡ write ws → (v ≡ Allowed) × (x ≡ write ws)
-unlessDenied-write Allowed x ws h = (refl, h)
-unlessDenied-write (Denied r) x ws h = absurd (refuse≢write h)
+pub unlessDenied-leave : (v : Verdict) (x : Result) (ws : List ℕ) (k : ℕ) → unlessDenied v x ≡ leave ws k → (v ≡ Allowed) × (x ≡ leave ws k)
+unlessDenied-leave Allowed x ws k h = (refl, h)
+unlessDenied-leave (Denied r) x ws k h = absurd (refuse≢leave h)
 
-pub write-same : {a b : List ℕ} → write a ≡ write b → a ≡ b
-write-same h = cc
+pub leave-same : {a b : List ℕ} {k n : ℕ} → leave a k ≡ leave b n → (a ≡ b) × (k ≡ n)
+leave-same {a} {b} {k} {n} h =
+    let words : a ≡ b = cc in
+    let members : k ≡ n = cc in
+    (words, members)
 
 -- no refusal has the number 0, and none but that of a log's move 16
 pub number-own : (r : Refusal) → (1 ≤ number r) × (number r ≡ 16 → ⊥)
@@ -43,16 +46,21 @@ number-own TransactionOpen = omega arith
 number-own SerialTooManyEntries = omega arith
 number-own TransactionAborting = omega arith
 
-pub write-accepted : (x : Result) → answerOf (outcomeOf x) .number ≡ 0 → (ws : List ℕ) × (x ≡ write ws)
-write-accepted (write ws) h = (ws, refl)
-write-accepted (refuse r) h = absurd (let p = number-own r .0 in omega arith)
-write-accepted (refuseMove i r) h = absurd (omega arith)
+-- an accepted call that makes moves, and so writes nothing but the state that they leave
+pub leave-accepted : (v : Verdict) (x : Result) → ((ws : List ℕ) → x ≡ write ws → ⊥) → answerOf (outcomeOf (unlessDenied v x)) .number ≡ 0
+    → (ws : List ℕ) × (k : ℕ) × (unlessDenied v x ≡ leave ws k)
+leave-accepted (Denied r) x n h = absurd (let p = number-own r .0 in omega arith)
+leave-accepted Allowed (write ws) n h = absurd (n ws refl)
+leave-accepted Allowed (leave ws k) n h = (ws, k, refl)
+leave-accepted Allowed (refuse r) n h = absurd (let p = number-own r .0 in omega arith)
+leave-accepted Allowed (refuseMove i r) n h = absurd (omega arith)
 
 pub move-refused : (x : Result) → answerOf (outcomeOf x) .number ≡ 16 → (i : ℕ) × (r : Refusal) × (x ≡ refuseMove i r)
 move-refused (write ws) h = absurd (omega arith)
+move-refused (leave ws k) h = absurd (omega arith)
 move-refused (refuse r) h = absurd (number-own r .1 h)
 move-refused (refuseMove i r) h = (i, r, refl)
 
--- the words that an accepted call wrote stand at the target's beginning, as many as its answer says
-pub written : (x : Result) (target ws : List ℕ) → x ≡ write ws → take (answerOf (outcomeOf x) .words) (targetAfter x target) ≡ ws
+-- the words that an accepted move or run wrote stand at the target's beginning, as many as its answer says
+pub written : (x : Result) (target ws : List ℕ) {k : ℕ} → x ≡ leave ws k → take (answerOf (outcomeOf x) .words) (targetAfter x target) ≡ ws
 written x target ws h = rw h (take-append-seam ws (drop (length ws) target))

@@ -10,6 +10,7 @@ use borrow.Author.Tests.{leb-true}
 use Rattle.semantics.specs.Table.{Table}
 use Rattle.semantics.specs.State.{State}
 use Rattle.semantics.specs.Move.{unless, both, moveOk, moveOf, allowed, applied, Stepped, to, refused, steppedBy, step, within, stepWords, moveVerdict}
+use Rattle.semantics.specs.Log.{completed}
 use Rattle.semantics.specs.declared.Refusal.{Refusal}
 use Rattle.semantics.specs.declared.Refusal.the-variants.{MoveForm, TooManyEntries}
 use Rattle.semantics.specs.declared.Verdict.{Verdict}
@@ -34,6 +35,9 @@ stepWords-verdict ceiling t i s m =
     (within-step ceiling (allowed t s (moveOf t m)) (applied t i s (moveOf t m))
     ∙ ap (λ (n : ℕ). steppedBy (both (allowed t s (moveOf t m)) (unless (leb n ceiling) TooManyEntries)) (applied t i s (moveOf t m)))
     (length-maker t i 0 s (moveOf t m)))
+
+pub completed-same : {a b : State} → completed a ≡ completed b → a ≡ b
+completed-same h = cc
 
 pub refused≢to : {r : Refusal} {s : State} → refused r ≡ to s → ⊥
 refused≢to h = let z : _≡_ {A = ℕ} 0 1 = cc in omega arith

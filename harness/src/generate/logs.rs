@@ -23,7 +23,7 @@ impl<'a> Walk<'a> {
     pub fn make(&mut self, mv: Move) -> bool {
         let mut target = vec![0; STATE_TARGET];
         match plain::make_move(&self.table_words, &self.state.words(), &mv.words(), &mut target) {
-            Answer::Accepted(words) => {
+            Answer::Moved { words, .. } => {
                 self.state = State::from_words(&target[..words as usize]).expect("a state");
                 self.log.push(mv);
                 true

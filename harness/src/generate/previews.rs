@@ -131,10 +131,12 @@ fn met_end(state: &State, mv: &Move) -> Vec<(&'static str, bool)> {
         ("a commit that frees all but the marks", commits && messages > 0 && compensations == 0),
         ("a commit that frees nothing", commits && messages == 0),
         ("a commit of merged ones", commits && members > 1),
+        ("a commit of four or more", commits && members > 3),
         ("an abort that frees compensations and drops messages", aborts && messages > 0 && compensations > 0),
         ("an abort that frees all but the marks", aborts && messages == 0 && compensations > 0),
         ("an abort that frees nothing", aborts && compensations == 0),
         ("an abort of merged ones", aborts && members > 1),
+        ("an abort of four or more", aborts && members > 3),
         ("an abort with two abort marks", aborts && count(kind::ABORT_MARK) > 1),
     ]
 }

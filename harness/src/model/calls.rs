@@ -25,13 +25,20 @@ pub fn make_move(table: &[u32], state: &[u32], mv: &[u32], target: &mut [u32]) -
             Err(5) => Err(5),
             _ if target.len() < STATE_TARGET => Err(6),
             Err(number) => Err(number),
-            Ok(_) => Ok(ordered.state().words()),
+            Ok(made) => Ok((ordered, made.members())),
         }
     };
     match made() {
-        Ok(words) => Answer::write(&words, target),
+        Ok((after, members)) => write(&after, members, target),
         Err(number) => Answer::Refused(number),
     }
+}
+
+/// Puts the state that a move or a run left to the front of the target.
+fn write(after: &Ordered, members: u32, target: &mut [u32]) -> Answer {
+    let words = after.state().words();
+    Answer::write(&words, target);
+    Answer::Moved { words: words.len() as u32, members }
 }
 
 pub fn preview(table: &[u32], state: &[u32], mv: &[u32]) -> Preview {
@@ -68,10 +75,10 @@ pub fn run(table: &[u32], state: &[u32], log: &[u32], target: &mut [u32]) -> Ans
         if target.len() < STATE_TARGET {
             return Err(Answer::Refused(6));
         }
-        Ok(follow(&definitions, start, &log)?.1)
+        follow(&definitions, start, &log)
     };
     match end() {
-        Ok(end) => Answer::write(&end.state().words(), target),
+        Ok((history, end)) => write(&end, history.iter().map(Made::members).sum(), target),
         Err(answer) => answer,
     }
 }

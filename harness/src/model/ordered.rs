@@ -16,7 +16,18 @@ pub struct Ordered {
 #[derive(Clone, Debug)]
 pub enum Made {
     Fired { rule: usize, names: Vec<Origin>, fired: Fired },
-    Ended { kind: u32, id: u32 },
+    Ended { kind: u32, id: u32, ended: Transaction },
+}
+
+impl Made {
+    /// The members (01: lots) that ended: those of the transaction that was committed or aborted. A reaction
+    /// ends none, a merge keeps those of all that it puts together.
+    pub fn members(&self) -> u32 {
+        match self {
+            Made::Fired { .. } => 0,
+            Made::Ended { ended, .. } => ended.members.len() as u32,
+        }
+    }
 }
 
 impl Ordered {
@@ -106,12 +117,12 @@ impl Ordered {
     }
 
     pub fn end(&mut self, ending: u32, id: u32) -> Result<Made, u32> {
-        match ending {
+        let ended = match ending {
             act::COMMIT => self.solution.commit(id)?,
             _ => self.solution.abort(id)?,
         };
         self.keep_order();
-        Ok(Made::Ended { kind: ending, id })
+        Ok(Made::Ended { kind: ending, id, ended })
     }
 
     /// Molecules that are left keep their order.

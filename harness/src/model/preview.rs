@@ -11,7 +11,7 @@ impl Ordered {
         let mut copy = self.clone();
         let made = copy.make_words(definitions, words, 0, MAX_ENTRIES)?;
         let id = concerned(&self.solution, &made, &copy.solution).unwrap_or(0);
-        Ok(Preview::accepted(copy.order.len(), copy.solution.next, id))
+        Ok(Preview::accepted(copy.order.len(), copy.solution.next, id, made.members()))
     }
 }
 

@@ -13,6 +13,8 @@ pub struct State<C = Vec<u32>> {
     pub items: C,
     /// How many of the items are abort marks: where there is none, no reaction has to look for one.
     pub aborts: usize,
+    /// The member marks that moves have removed.
+    pub ended: u32,
 }
 
 /// A set of 16-bit numbers.
@@ -100,7 +102,7 @@ impl<'a> State<&'a [u32]> {
     /// The words of a state under this table; nothing is copied.
     pub fn of_words(table: &Table, words: &'a [u32]) -> Result<State<&'a [u32]>, u32> {
         let (next, owners, items) = sized(words)?;
-        let mut state = State { next, owners, items, aborts: 0 };
+        let mut state = State { next, owners, items, aborts: 0, ended: 0 };
         if state.checked(table) {
             Ok(state)
         } else {
@@ -114,7 +116,7 @@ impl State {
         let (next, owners, items) = sized(words)?;
         // Room for one reaction's products, so that a move does not reallocate.
         let room = || Vec::with_capacity(owners.len() + 16);
-        let mut state = State { next, owners: room(), items: room(), aborts: 0 };
+        let mut state = State { next, owners: room(), items: room(), aborts: 0, ended: 0 };
         state.owners.extend_from_slice(owners);
         state.items.extend_from_slice(items);
         if state.checked(table) {
@@ -130,6 +132,6 @@ impl State {
         target[1] = self.next;
         target[2..2 + n].copy_from_slice(&self.owners);
         target[2 + n..2 + 2 * n].copy_from_slice(&self.items);
-        Answer::Accepted(2 + 2 * n as u32)
+        Answer::Moved { words: 2 + 2 * n as u32, members: self.ended }
     }
 }

@@ -167,6 +167,7 @@ impl State {
                 self.items[at] &= 0xFF_FFFF;
             } else {
                 self.aborts -= usize::from(self.items[at] >> 24 == kind::ABORT_MARK);
+                self.ended += u32::from(self.items[at] >> 24 == kind::MEMBER_MARK);
                 to = self.shift(kept..at, to, beside);
                 kept = at + 1;
             }

@@ -21,25 +21,32 @@ pub struct Reaction {
     pub entries: usize,
 }
 
+/// What goes with an end that is allowed.
+pub struct Going {
+    pub entries: usize,
+    /// The member marks among them.
+    pub members: u32,
+}
+
 impl<C: Deref<Target = [u32]>> State<C> {
     /// What a move would leave, found without making it.
     pub fn preview(&self, table: &Table, call: Call, picks: &[u32; 4]) -> Result<Preview, u32> {
-        let n = self.items.len();
-        let (entries, next, id) = match call {
+        let ended = |id: u32, going: Going| (self.items.len() - going.entries, self.next, id, going.members);
+        let (entries, next, id, members) = match call {
             Call::React(rule) => {
                 let atoms = &table.atoms[rule.first..rule.end];
                 let Reaction { owner, entries, .. } =
                     self.may_react(rule, atoms, &picks[..rule.consumes], MAX_ENTRIES)?;
                 if rule.begins {
-                    (entries, self.next + 1, self.next)
+                    (entries, self.next + 1, self.next, 0)
                 } else {
-                    (entries, self.next, owner)
+                    (entries, self.next, owner, 0)
                 }
             }
-            Call::Commit(id) => (n - self.may_commit(table, id)?, self.next, id),
-            Call::Abort(id) => (n - self.may_abort(id)?, self.next, id),
+            Call::Commit(id) => ended(id, self.may_commit(table, id)?),
+            Call::Abort(id) => ended(id, self.may_abort(id)?),
         };
-        Ok(Preview::accepted(entries, next, id))
+        Ok(Preview::accepted(entries, next, id, members))
     }
 
     /// Whether a rule of these atoms may react on these picks, with at most `ceiling` entries afterwards.
@@ -84,44 +91,45 @@ impl<C: Deref<Target = [u32]>> State<C> {
         Ok(Reaction { received, owners, owner, one, entries })
     }
 
-    /// The entries that go with a commit, if it is allowed.
-    pub fn may_commit(&self, table: &Table, id: u32) -> Result<usize, u32> {
+    /// What goes with a commit, if it is allowed.
+    pub fn may_commit(&self, table: &Table, id: u32) -> Result<Going, u32> {
         // The item of a message on a global port.
         let freed = |item: u32| item >> 16 < table.global;
         let unfinished = |item: u32| match item >> 24 {
             kind::MESSAGE => !freed(item),
             other => other == kind::ABORT_MARK,
         };
-        let [entries, freed, unfinished] = self.count(id, freed, unfinished);
+        let [entries, freed, unfinished, members] = self.count(id, freed, unfinished);
         match (entries, unfinished) {
             (0, _) => Err(9),
-            (_, 0) => Ok(entries - freed),
+            (_, 0) => Ok(Going { entries: (entries - freed) as usize, members }),
             _ => Err(10),
         }
     }
 
-    /// The entries that go with an abort, if it is allowed.
-    pub fn may_abort(&self, id: u32) -> Result<usize, u32> {
+    /// What goes with an abort, if it is allowed.
+    pub fn may_abort(&self, id: u32) -> Result<Going, u32> {
         let of = |kind: u32| move |item: u32| item >> 24 == kind;
-        let [entries, freed, marks] = self.count(id, of(kind::COMPENSATION), of(kind::ABORT_MARK));
+        let [entries, freed, marks, members] = self.count(id, of(kind::COMPENSATION), of(kind::ABORT_MARK));
         match (entries, marks) {
             (0, _) => Err(9),
             (_, 0) => Err(10),
-            _ => Ok(entries - freed),
+            _ => Ok(Going { entries: (entries - freed) as usize, members }),
         }
     }
 
-    /// How many entries a transaction has, and how many of them are of one sort and of another: one pass
-    /// without a branch, so that several are compared at once.
-    fn count(&self, id: u32, one: impl Fn(u32) -> bool, other: impl Fn(u32) -> bool) -> [usize; 3] {
-        let mut counts = [0u32; 3];
+    /// How many entries a transaction has, how many of them are of one sort and of another, and how many are member
+    /// marks: one pass without a branch, so that several are compared at once.
+    fn count(&self, id: u32, one: impl Fn(u32) -> bool, other: impl Fn(u32) -> bool) -> [u32; 4] {
+        let mut counts = [0; 4];
         for (&owner, &item) in self.owners.iter().zip(&self.items[..]) {
             let inside = owner == id;
             counts[0] += u32::from(inside);
             counts[1] += u32::from(inside & one(item));
             counts[2] += u32::from(inside & other(item));
+            counts[3] += u32::from(inside & (item >> 24 == kind::MEMBER_MARK));
         }
-        counts.map(|count| count as usize)
+        counts
     }
 
     /// Whether one of these transactions has an abort mark.

@@ -21,15 +21,31 @@ static const uint32_t start[COORDINATOR_STATE_WORDS(2)] = {2, 1, 0, 0, 7, 9};
 
 static unsigned failures;
 
+/* Five words in this order, and nothing between or behind them. */
+_Static_assert(offsetof(coordinator_answer, number) == 0, "number");
+_Static_assert(offsetof(coordinator_answer, words) == 4, "words");
+_Static_assert(offsetof(coordinator_answer, place) == 8, "place");
+_Static_assert(offsetof(coordinator_answer, own) == 12, "own");
+_Static_assert(offsetof(coordinator_answer, members) == 16, "members");
+_Static_assert(sizeof(coordinator_answer) == 20, "an answer");
+
+static void expect_members(const char *what, coordinator_answer got, uint32_t number, uint32_t words, uint32_t place,
+                           uint32_t own, uint32_t members)
+{
+    if (got.number != number || got.words != words || got.place != place || got.own != own ||
+        got.members != members) {
+        printf("%s: %u %u %u %u %u, not %u %u %u %u %u\n", what, (unsigned)got.number, (unsigned)got.words,
+               (unsigned)got.place, (unsigned)got.own, (unsigned)got.members, (unsigned)number, (unsigned)words,
+               (unsigned)place, (unsigned)own, (unsigned)members);
+        failures++;
+    }
+}
+
+/* A call that removes no member marks. */
 static void expect(const char *what, coordinator_answer got, uint32_t number, uint32_t words, uint32_t place,
                    uint32_t own)
 {
-    if (got.number != number || got.words != words || got.place != place || got.own != own) {
-        printf("%s: %u %u %u %u, not %u %u %u %u\n", what, (unsigned)got.number, (unsigned)got.words,
-               (unsigned)got.place, (unsigned)got.own, (unsigned)number, (unsigned)words, (unsigned)place,
-               (unsigned)own);
-        failures++;
-    }
+    expect_members(what, got, number, words, place, own, 0);
 }
 
 static void checks(void)
@@ -85,8 +101,10 @@ typedef uint32_t mv[COORDINATOR_MOVE_WORDS];
 
 static const mv case_a[] = {{0, 0}, {0, 0}, {1, 1}, {1, 3}, {2, 4, 5}, {COMMIT(1)}};
 static const mv case_c[] = {{0, 0}, {0, 0}, {1, 1}, {3, 3}, {ABORT(2)}};
+static const mv case_d[] = {{0, 0}, {0, 0}, {3, 1}, {3, 3}, {ABORT(2)}, {ABORT(1)}};
 static const uint32_t end_a[] = {2, 3, 0, 0, 0x00010007, 0x00010009};
 static const uint32_t end_c[] = {4, 3, 1, 1, 0, 1, 0x03000001, 0x01000007, 0x00000009, 0x00030007};
+static const uint32_t end_d[] = {2, 3, 0, 0, 0x00000007, 0x00000009};
 
 /* (b), (e), (f), (g): moves of (a), then one that is refused. */
 static const struct {
@@ -101,6 +119,12 @@ static const struct {
     {"(g)", 2, {COMMIT(3)}, COORDINATOR_NO_TRANSACTION},
 };
 
+/* What a move of the plant's logs ends: the commit of (a) both lots, an abort one. */
+static uint32_t ended(uint32_t head)
+{
+    return head == COMMIT(1) ? 2 : head >= ABORT(0) ? 1 : 0;
+}
+
 /* Makes moves one by one; the state's length. */
 static size_t moves(const char *what, const mv *list, size_t count, uint32_t *state)
 {
@@ -109,7 +133,7 @@ static size_t moves(const char *what, const mv *list, size_t count, uint32_t *st
     for (at = 0; at < count; at++) {
         coordinator_answer got = coordinator_move(table, LENGTH(table), state, len, list[at], COORDINATOR_MOVE_WORDS,
                                                   target, COORDINATOR_STATE_TARGET_WORDS);
-        expect(what, got, COORDINATOR_ACCEPTED, COORDINATOR_STATE_WORDS(target[0]), 0, 0);
+        expect_members(what, got, COORDINATOR_ACCEPTED, COORDINATOR_STATE_WORDS(target[0]), 0, 0, ended(list[at][0]));
         if (got.number != COORDINATOR_ACCEPTED) {
             break;
         }
@@ -133,6 +157,11 @@ static void by_moves(void)
         printf("(c) by moves: another end\n");
         failures++;
     }
+    len = moves("(d) by moves", case_d, LENGTH(case_d), state);
+    if (len != LENGTH(end_d) || memcmp(state, end_d, sizeof end_d) != 0) {
+        printf("(d) by moves: another end\n");
+        failures++;
+    }
     for (at = 0; at < LENGTH(refused); at++) {
         len = moves(refused[at].name, case_a, refused[at].moves, state);
         clear();
@@ -152,22 +181,31 @@ static void by_moves(void)
            COORDINATOR_MOVE_FORM, 0, 0, 0);
 }
 
-/* Four words in this order, and nothing between or behind them. */
+/* Five words in this order, and nothing between or behind them. */
 _Static_assert(offsetof(coordinator_preview_answer, number) == 0, "number");
 _Static_assert(offsetof(coordinator_preview_answer, entries) == 4, "entries");
 _Static_assert(offsetof(coordinator_preview_answer, next) == 8, "next");
 _Static_assert(offsetof(coordinator_preview_answer, id) == 12, "id");
-_Static_assert(sizeof(coordinator_preview_answer) == 16, "a preview's answer");
+_Static_assert(offsetof(coordinator_preview_answer, members) == 16, "members");
+_Static_assert(sizeof(coordinator_preview_answer) == 20, "a preview's answer");
 
+static void expect_preview_members(const char *what, coordinator_preview_answer got, uint32_t number, uint32_t entries,
+                                   uint32_t next, uint32_t id, uint32_t members)
+{
+    if (got.number != number || got.entries != entries || got.next != next || got.id != id ||
+        got.members != members) {
+        printf("%s: %u %u %u %u %u, not %u %u %u %u %u\n", what, (unsigned)got.number, (unsigned)got.entries,
+               (unsigned)got.next, (unsigned)got.id, (unsigned)got.members, (unsigned)number, (unsigned)entries,
+               (unsigned)next, (unsigned)id, (unsigned)members);
+        failures++;
+    }
+}
+
+/* A move that would remove no member marks. */
 static void expect_preview(const char *what, coordinator_preview_answer got, uint32_t number, uint32_t entries,
                            uint32_t next, uint32_t id)
 {
-    if (got.number != number || got.entries != entries || got.next != next || got.id != id) {
-        printf("%s: %u %u %u %u, not %u %u %u %u\n", what, (unsigned)got.number, (unsigned)got.entries,
-               (unsigned)got.next, (unsigned)got.id, (unsigned)number, (unsigned)entries, (unsigned)next,
-               (unsigned)id);
-        failures++;
-    }
+    expect_preview_members(what, got, number, entries, next, id, 0);
 }
 
 /* The preview of a move after some moves of a log. */
@@ -186,13 +224,15 @@ static void by_previews(void)
     static const mv turned = {2, 5, 4};
     size_t at;
     for (at = 0; at < LENGTH(case_a); at++) {
-        expect_preview("a preview of (a)", preview("before a preview", case_a, at, case_a[at]), COORDINATOR_ACCEPTED,
-                       figures[at][0], figures[at][1], figures[at][2]);
+        expect_preview_members("a preview of (a)", preview("before a preview", case_a, at, case_a[at]),
+                               COORDINATOR_ACCEPTED, figures[at][0], figures[at][1], figures[at][2],
+                               ended(case_a[at][0]));
     }
     expect_preview("the merge from the other side", preview("before a preview", case_a, 4, turned),
                    COORDINATOR_ACCEPTED, 6, 3, 1);
     expect_preview("(c): the mark", preview("before a preview", case_c, 3, case_c[3]), COORDINATOR_ACCEPTED, 6, 3, 2);
-    expect_preview("(c): the abort", preview("before a preview", case_c, 4, case_c[4]), COORDINATOR_ACCEPTED, 4, 3, 2);
+    expect_preview_members("(c): the abort", preview("before a preview", case_c, 4, case_c[4]), COORDINATOR_ACCEPTED, 4,
+                           3, 2, 1);
     for (at = 0; at < LENGTH(refused); at++) {
         expect_preview(refused[at].name, preview(refused[at].name, case_a, refused[at].moves, refused[at].last),
                        refused[at].number, 0, 0, 0);
@@ -256,12 +296,15 @@ static coordinator_answer run(size_t log_len, size_t room)
 static void by_runs(void)
 {
     size_t at;
-    expect("(a)", run(log_of(case_a, LENGTH(case_a)), COORDINATOR_STATE_TARGET_WORDS), COORDINATOR_ACCEPTED,
-           LENGTH(end_a), 0, 0);
+    expect_members("(a)", run(log_of(case_a, LENGTH(case_a)), COORDINATOR_STATE_TARGET_WORDS), COORDINATOR_ACCEPTED,
+                   LENGTH(end_a), 0, 0, 2);
     expect_target("(a)", end_a, LENGTH(end_a));
-    expect("(c)", run(log_of(case_c, LENGTH(case_c)), COORDINATOR_STATE_TARGET_WORDS), COORDINATOR_ACCEPTED,
-           LENGTH(end_c), 0, 0);
+    expect_members("(c)", run(log_of(case_c, LENGTH(case_c)), COORDINATOR_STATE_TARGET_WORDS), COORDINATOR_ACCEPTED,
+                   LENGTH(end_c), 0, 0, 1);
     expect_target("(c)", end_c, LENGTH(end_c));
+    expect_members("(d)", run(log_of(case_d, LENGTH(case_d)), COORDINATOR_STATE_TARGET_WORDS), COORDINATOR_ACCEPTED,
+                   LENGTH(end_d), 0, 0, 2);
+    expect_target("(d)", end_d, LENGTH(end_d));
     for (at = 0; at < LENGTH(refused); at++) {
         mv list[LENGTH(case_a)];
         memcpy(list, case_a, sizeof case_a);
@@ -269,6 +312,16 @@ static void by_runs(void)
         expect(refused[at].name, run(log_of((const mv *)list, refused[at].moves + 1), COORDINATOR_STATE_TARGET_WORDS),
                COORDINATOR_MOVE_REFUSED, 0, (uint32_t)refused[at].moves, refused[at].number);
         expect_target(refused[at].name, NULL, 0);
+    }
+    {
+        /* All of (a), its end included, and then a move that is refused. */
+        mv list[LENGTH(case_a) + 1] = {{0}};
+        memcpy(list, case_a, sizeof case_a);
+        list[LENGTH(case_a)][0] = COMMIT(2);
+        expect("a refused move behind an end",
+               run(log_of((const mv *)list, LENGTH(list)), COORDINATOR_STATE_TARGET_WORDS), COORDINATOR_MOVE_REFUSED, 0,
+               LENGTH(case_a), COORDINATOR_NO_TRANSACTION);
+        expect_target("a refused move behind an end", NULL, 0);
     }
     expect("a short log", run(log_of(case_a, LENGTH(case_a)) - 1, COORDINATOR_STATE_TARGET_WORDS),
            COORDINATOR_LOG_SIZES, 0, 0, 0);
@@ -284,7 +337,6 @@ static coordinator_answer serialize(size_t log_len, size_t room)
 
 static void by_serial_logs(void)
 {
-    static const mv case_d[] = {{0, 0}, {0, 0}, {3, 1}, {3, 3}, {ABORT(2)}, {ABORT(1)}};
     static const uint32_t serial[] = {
         6,
         0, 3, ABORT(1), 0, 3, ABORT(2),
@@ -295,6 +347,15 @@ static void by_serial_logs(void)
     size_t len = log_of(case_d, LENGTH(case_d));
     expect("(d)", serialize(len, len), COORDINATOR_ACCEPTED, LENGTH(serial), 0, 0);
     expect_target("(d)", serial, LENGTH(serial));
+    {
+        /* The serial log ends as many. */
+        static const uint32_t end[] = {2, 3, 0, 0, 0x00000009, 0x00000007};
+        memcpy(log_words, serial, sizeof serial);
+        expect_members("the serial log of (d)", run(LENGTH(serial), COORDINATOR_STATE_TARGET_WORDS),
+                       COORDINATOR_ACCEPTED, LENGTH(end), 0, 0, 2);
+        expect_target("the serial log of (d)", end, LENGTH(end));
+        log_of(case_d, LENGTH(case_d));
+    }
     expect("a short target", serialize(len, len - 1), COORDINATOR_TARGET_TOO_SHORT, 0, 0, 0);
     expect_target("a short target", NULL, 0);
     expect("(h)", serialize(log_of(NULL, 0), 1), COORDINATOR_ACCEPTED, LENGTH(empty), 0, 0);
@@ -403,19 +464,20 @@ static void by_abort_mark(void)
     expect_preview("a preview of that merge",
                    coordinator_preview(table, LENGTH(table), stopped, LENGTH(stopped), list[0], COORDINATOR_MOVE_WORDS),
                    COORDINATOR_TRANSACTION_ABORTING, 0, 0, 0);
-    expect_preview("a preview of the abort",
-                   coordinator_preview(table, LENGTH(table), stopped, LENGTH(stopped), list[1], COORDINATOR_MOVE_WORDS),
-                   COORDINATOR_ACCEPTED, 4, 3, 2);
+    expect_preview_members("a preview of the abort",
+                           coordinator_preview(table, LENGTH(table), stopped, LENGTH(stopped), list[1],
+                                               COORDINATOR_MOVE_WORDS),
+                           COORDINATOR_ACCEPTED, 4, 3, 2, 1);
     expect_page("a list with an abort mark",
                 coordinator_list_moves(table, LENGTH(table), stopped, LENGTH(stopped), 0, 8, target,
                                        COORDINATOR_PAGE_TARGET_WORDS(8u)),
                 COORDINATOR_ACCEPTED, COORDINATOR_MOVE_WORDS, 1);
     expect_target("a list with an abort mark", list[1], COORDINATOR_MOVE_WORDS);
     clear();
-    expect("the abort",
-           coordinator_move(table, LENGTH(table), stopped, LENGTH(stopped), list[1], COORDINATOR_MOVE_WORDS, target,
-                            COORDINATOR_STATE_TARGET_WORDS),
-           COORDINATOR_ACCEPTED, LENGTH(end), 0, 0);
+    expect_members("the abort",
+                   coordinator_move(table, LENGTH(table), stopped, LENGTH(stopped), list[1], COORDINATOR_MOVE_WORDS,
+                                    target, COORDINATOR_STATE_TARGET_WORDS),
+                   COORDINATOR_ACCEPTED, LENGTH(end), 0, 0, 1);
     expect_target("the abort", end, LENGTH(end));
 }
 

@@ -164,9 +164,10 @@ impl<'a> Demand3<'a> {
         self.is_end(place) || self.concerned[place].is_empty()
     }
 
-    /// The ends of more than one member.
-    pub fn merged_ends(&self) -> usize {
-        (0..self.log.len()).filter(|&place| self.is_end(place) && self.concerned[place].len() > 1).count()
+    /// How many members each end has, in order.
+    pub fn ended(&self) -> Vec<u32> {
+        let ends = (0..self.log.len()).filter(|&place| self.is_end(place));
+        ends.map(|place| self.concerned[place].len() as u32).collect()
     }
 
     /// The most entries that any state along the serial log holds. A move changes the number of

@@ -11,36 +11,43 @@ use std::path::Path;
 
 use harness::answer::{order, Answer, OnMove, OnPage, OnTarget, Page, Preview};
 use harness::two_lot;
-use harness::words::{page_target, role, Atom, Entry, Move, State, Table};
-use harness::{library, model, plain, ROOT};
+use harness::words::{act, kind, page_target, role, Atom, Entry, Move, State, Table};
+use harness::{in_c, library, model, plain, ROOT};
 
 const NAMES: [&str; 3] = ["model", "plain", "library"];
 
-/// A call of each implementation, in the order of their names.
-pub type Calls = [OnTarget; 3];
+/// A call of each implementation, in the order of their names, and the library's as C gets it.
+#[derive(Clone, Copy)]
+pub struct Calls {
+    pub all: [OnTarget; 3],
+    pub in_c: OnTarget<[u32; 5]>,
+}
 
-pub const MAKE_MOVE: Calls = [model::make_move, plain::make_move, library::make_move];
+pub const MAKE_MOVE: Calls =
+    Calls { all: [model::make_move, plain::make_move, library::make_move], in_c: in_c::make_move };
 pub const PREVIEW: [OnMove; 3] = [model::preview, plain::preview, library::preview];
-pub const RUN: Calls = [model::run, plain::run, library::run];
-pub const SERIALIZE: Calls = [model::serialize, plain::serialize, library::serialize];
+pub const RUN: Calls = Calls { all: [model::run, plain::run, library::run], in_c: in_c::run };
+pub const SERIALIZE: Calls =
+    Calls { all: [model::serialize, plain::serialize, library::serialize], in_c: in_c::serialize };
 pub const LIST_MOVES: [OnPage; 3] = [model::list_moves, plain::list_moves, library::list_moves];
 
 /// The one answer of all implementations.
 pub fn check_table(table: &[u32]) -> Answer {
     let answers = [model::check_table(table), plain::check_table(table), library::check_table(table)];
-    agreed(answers, &[("table", table)])
+    agreed(answers, in_c::check_table(table), &[("table", table)])
 }
 
 /// The one answer of all implementations.
 pub fn check_state(table: &[u32], state: &[u32]) -> Answer {
     let answers =
         [model::check_state(table, state), plain::check_state(table, state), library::check_state(table, state)];
-    agreed(answers, &[("table", table), ("state", state)])
+    agreed(answers, in_c::check_state(table, state), &[("table", table), ("state", state)])
 }
 
-fn agreed(answers: [Answer; 3], input: &[(&str, &[u32])]) -> Answer {
+fn agreed(answers: [Answer; 3], in_c: [u32; 5], input: &[(&str, &[u32])]) -> Answer {
     let [first, others @ ..] = answers;
     assert_eq!(others, [first; 2], "{NAMES:?} answer {answers:?} for {}", shown(input));
+    assert_eq!(in_c, first.in_c(), "in C for {}", shown(input));
     first
 }
 
@@ -67,10 +74,7 @@ fn on_room<T: Copy + PartialEq + Debug>(
     for (which, name) in names.iter().enumerate() {
         let mut target = before.clone();
         let given = call(which, &mut target);
-        let written = match answer(given) {
-            Answer::Accepted(words) => words as usize,
-            _ => 0,
-        };
+        let written = answer(given).words() as usize;
         assert!(written <= room, "{name} counts {written} words of {room}");
         assert!(target[written..] == before[written..], "{name} wrote beyond its words, {}", input());
         target.truncate(written);
@@ -84,10 +88,15 @@ fn on_room<T: Copy + PartialEq + Debug>(
     (*given, words.clone())
 }
 
+/// The one answer of all implementations, and the words it counts. Fails also if C gets another one: figures beside
+/// a refusal, or members of a serialize.
 pub fn on_target(calls: Calls, [table, state, third]: [&[u32]; 3], room: usize) -> (Answer, Vec<u32>) {
-    let call = |which: usize, target: &mut [u32]| calls[which](table, state, third, target);
+    let call = |which: usize, target: &mut [u32]| calls.all[which](table, state, third, target);
     let input = || shown(&[("table", table), ("state", state), ("move or log", third)]);
-    on_room(&NAMES, call, |answer| answer, room, input)
+    let (answer, words) = on_room(&NAMES, call, |answer| answer, room, input);
+    let in_c = (calls.in_c)(table, state, third, &mut vec![0; room]);
+    assert_eq!(in_c, answer.in_c(), "in C for {}", input());
+    (answer, words)
 }
 
 /// The one preview of all implementations. Fails if they differ, if the number is none of a preview's, if C gets
@@ -101,7 +110,7 @@ pub fn preview(table: &[u32], state: &[u32], mv: &[u32]) -> Preview {
     let [first, others @ ..] = all;
     assert_eq!(others, [first; 2], "{NAMES:?} for {}", input());
     assert_eq!(plain::preview_in_place(table, state, mv), first, "in place for {}", input());
-    assert_eq!(library::preview_in_c(table, state, mv), first, "in C for {}", input());
+    assert_eq!(in_c::preview(table, state, mv), first, "in C for {}", input());
     assert!(first.number == 0 || order::PREVIEW.contains(&first.number), "{first:?} for {}", input());
     first
 }
@@ -152,10 +161,44 @@ pub fn serialize(table: &[u32], state: &[u32], log: &[u32]) -> (Answer, Vec<u32>
     on_target(SERIALIZE, [table, state, log], log.len().max(1))
 }
 
-/// Accepted, with exactly these words.
+/// Accepted, with exactly these words, whatever the members.
 #[track_caller]
-pub fn gives(result: (Answer, Vec<u32>), words: &[u32]) {
-    assert_eq!(result, (Answer::Accepted(words.len() as u32), words.to_vec()));
+pub fn gives((answer, written): (Answer, Vec<u32>), words: &[u32]) {
+    assert_eq!((answer.number(), &written[..]), (0, words));
+}
+
+/// A move or a run that is accepted, with exactly these words and members.
+#[track_caller]
+pub fn ends(result: (Answer, Vec<u32>), words: &[u32], members: u32) {
+    assert_eq!(result, (Answer::Moved { words: words.len() as u32, members }, words.to_vec()));
+}
+
+/// The answer of reactions that are accepted.
+pub fn reacted(words: u32) -> Answer {
+    Answer::Moved { words, members: 0 }
+}
+
+/// The owners of a state's member marks, from its words alone.
+pub fn mark_owners(state: &[u32]) -> impl Iterator<Item = u32> + '_ {
+    let (owners, items) = state[2..].split_at(state[0] as usize);
+    owners.iter().zip(items).filter(|(_, &item)| item >> 24 == kind::MEMBER_MARK).map(|(&owner, _)| owner)
+}
+
+/// The member marks that a move removes where it is accepted, from the words of the state before it alone.
+pub fn marks_removed(state: &[u32], mv: &[u32]) -> u32 {
+    let of = |id: u32| mark_owners(state).filter(|&owner| owner == id).count() as u32;
+    if mv[0] >> 24 == act::REACT {
+        0
+    } else {
+        of(mv[0] & 0xFF_FFFF)
+    }
+}
+
+/// The member marks that are gone from one state to another, from their words alone: each begin between them made one
+/// and took an id.
+pub fn marks_gone(before: &[u32], after: &[u32]) -> u32 {
+    let marks = |state: &[u32]| mark_owners(state).count() as u32;
+    marks(before) + (after[1] - before[1]) - marks(after)
 }
 
 /// Refused with this number.
@@ -192,6 +235,22 @@ pub fn every_rule() -> Table {
     let local = vec![Atom::consume(1), Atom::received(role::EMIT, 1, 0)];
     let global = vec![Atom::consume(0), Atom::received(role::EMIT, 0, 0)];
     Table { global: 1, local: 1, merge: 1, rules: vec![begin, local, merge(1), merge(2), merge(3), merge(4), global] }
+}
+
+/// A begin with an offer to merge, merges of two and of four that offer again, and rules that take the last offer for
+/// a commit and for an abort.
+pub fn merging() -> Table {
+    let rule = |port, count: usize, made: &[Atom]| [&vec![Atom::consume(port); count], made].concat();
+    let begin = [Atom::BEGIN, Atom::received(role::BODY, 1, 0), Atom::received(role::COMPENSATE, 0, 0)];
+    let [free, offer] = [0, 1].map(|port| Atom::received(role::EMIT, port, 0));
+    let rules = vec![
+        rule(0, 1, &begin),
+        rule(1, 2, &[offer]),
+        rule(1, 4, &[offer]),
+        rule(1, 1, &[free]),
+        rule(1, 1, &[Atom::ABORT]),
+    ];
+    Table { global: 1, local: 0, merge: 1, rules }
 }
 
 /// A table, a start of `n` entries and a log whose serial order wants one entry more than the log:

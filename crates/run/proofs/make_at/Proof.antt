@@ -9,9 +9,9 @@ move-at-requires c κs =
     let p = c .before .before .pre .0 in
     record { sizes = p .0 .log; within = p .1 }
 
-cast-make : tie.Need-cast-make
-cast-make c =
-    let p = c .before .before .before .before .before .before .pre .0 in
+cast-by : tie.Need-cast-by
+cast-by c =
+    let p = c .before .before .before .pre .0 in
     omega (arith, p .1, p .0 .log .few)
 
 make-requires : tie.Need-make-requires
@@ -23,4 +23,4 @@ returns : tie.Need-returns
 returns c = let made = c .before in rw (made .before .before .before .before .move-at .ensures) at (made .make .ensures)
 
 pub make-at-spec : {M : Type 1} → statement M
-make-at-spec = tie.close (tie.spec move-at-requires (λ c. search needs) cast-make make-requires returns)
+make-at-spec = tie.close (tie.spec move-at-requires (λ c. search needs) cast-by make-requires returns)

@@ -1,4 +1,4 @@
--- `preview_end` meets its contract: the verdict, and the entries that stay, counted (`Deciding`).
+-- `preview_end` meets its contract: the verdict, and what is counted (`Deciding`).
 use borrow.Author.Needs.{needs}
 use mathlib.Core.Path.{_≡_, ap}
 use native.Mathlib.Omega.{arith}
@@ -41,7 +41,7 @@ asked c =
       verdict = λ gs. rw (globals sizes, sizes .before .before .kind-of .ensures, sizes .before .id-of .ensures) at (c .verdict-by-kind .ensures gs);
     }
 
-sub-kind : tie.Need-sub-left-after
+sub-kind : tie.Need-sub-counts-after
 sub-kind c =
     let kind = c .before .before .before .before .before .before in
     omega (arith, kind .kind-of .ensures, kind .before .before .pre .1)
@@ -50,7 +50,8 @@ returns-2 : tie.Need-returns-2
 returns-2 c =
     let verdict = c .before .before .before in
     let id = verdict .before .before .before in
-    end-accepted (asked verdict) (c .before .enum-told .given .1) (id .id-of .ensures) (id .before .kind-of .ensures) (c .left-after .ensures)
+    end-accepted (asked verdict) (c .before .enum-told .given .1) (id .id-of .ensures) (id .before .kind-of .ensures)
+    (c .counts-after .ensures .0) (c .counts-after .ensures .1)
 
 pub preview-end-spec : {M : Type 1} → statement M
 preview-end-spec =

@@ -22,7 +22,7 @@ returns c maker =
     let start = c .before .before .before .before in
     let m = start .args .mv in
     rw (c .refused .ensures)
-    (made-malformed (start .pre .1 .0) refl
+    (made-malformed (start .pre .1 .0) refl refl
     (sym (form-end (tableOf (start .args .table .now)) (m .head) (m .picks) (four start) (start .pre .1 .1))
     ∙ sym (c .before .before .end-form .ensures) ∙ not-true _ (c .before .if1 .taken)))
 
@@ -63,7 +63,7 @@ returns-2 c maker =
     let asked = c .before .before .before .before in
     rw (c .refused2 .ensures)
     (end-refused (formed (formed-at asked)) (start (formed-at asked) .pre .1 .0) (globals (sizes-at asked)) (kind-is asked) (id-is asked)
-    (asked .end-verdict .ensures (start (formed-at asked) .args .origins .now)) maker refl (c .before .before .verdict .given .1))
+    (asked .end-verdict .ensures (start (formed-at asked) .args .origins .now)) maker refl refl (c .before .before .verdict .given .1))
 
 sub-kind : tie.Need-sub-end-transaction
 sub-kind c =
@@ -73,17 +73,21 @@ sub-kind c =
 end-transaction-requires : tie.Need-end-transaction-requires
 end-transaction-requires c κs =
     let asked = c .before .before .before .before .before in
-    let w = start (formed-at asked) .pre .1 .0 in
-    (w .arrays, omega (arith, w .bounds .fits, w .limit), asked .before .before .before .first-owned .ensures .0)
+    let w = start (formed-at asked) .pre .1 .0 in (
+      w .arrays,
+      omega (arith, w .bounds .fits, w .limit),
+      asked .before .before .before .first-owned .ensures .0,
+      omega (arith, kind-is asked, formed (formed-at asked) .small),
+    )
 
 returns-3 : tie.Need-returns-3
 returns-3 c maker =
-    let ended = c .before .before in
+    let ended = c .before .before .before .before in
     let asked = ended .before .before .before .before .before .before in
-    rw (c .kept .ensures, c .before .less-by .ensures)
+    rw (c .allowed .ensures, c .before .kept .ensures, c .before .before .less-by .ensures)
     (end-made (formed (formed-at asked)) (start (formed-at asked) .pre .1 .0) (globals (sizes-at asked)) (kind-is asked) (id-is asked)
-    (asked .end-verdict .ensures (start (formed-at asked) .args .origins .now)) maker refl
-    (ended .before .before .before .before .enum-told .given .1) (ended .end-transaction .ensures))
+    (asked .end-verdict .ensures (start (formed-at asked) .args .origins .now)) maker refl (ended .end-transaction .ensures .1)
+    (ended .before .before .before .before .enum-told .given .1) (ended .end-transaction .ensures .0))
 
 pub make-end-spec : {M : Type 1} → statement M
 make-end-spec =
@@ -93,4 +97,4 @@ make-end-spec =
     (λ c κs. well-formed _ (c .before .before .before .before .before .pre .0) .sizes .long)
     (λ c κs. let w = start (c .before .before .before .before) .pre .1 .0 in (omega (arith, w .bounds .fits, w .limit), w .arrays .owners))
     end-verdict-requires (λ c. search needs) (λ c κs. search needs) returns-2
-    (λ c. search needs) sub-kind end-transaction-requires (λ c κs. search needs) (λ c κs. search needs) returns-3)
+    (λ c. search needs) sub-kind end-transaction-requires (λ c κs. search needs) (λ c κs. search needs) (λ c κs. search needs) returns-3)

@@ -42,7 +42,7 @@ returns c =
     let start = sizes .before .before .before .before in
     let m = start .args .mv in
     rw (c .refused .ensures)
-    (made-malformed (start .pre .0 .workable) refl
+    (made-malformed (start .pre .0 .workable) refl refl
     (sym (form-no-rule _ (sizes .sizes-of .ensures) (m .head) (m .picks) (four start) (start .pre .1)
     (rw (sizes .before .number-of .ensures) at (c .before .if1 .taken)))))
 
@@ -62,7 +62,7 @@ returns-2 : tie.Need-returns-2
 returns-2 c =
     let rule = c .before .before .before in
     rw (c .refused2 .ensures)
-    (made-malformed (start rule .pre .0 .workable) refl (sym (reaction-form (chosen rule) (c .before .before .unused-zero .ensures))
+    (made-malformed (start rule .pre .0 .workable) refl refl (sym (reaction-form (chosen rule) (c .before .before .unused-zero .ensures))
     ∙ not-true _ (c .before .if2 .taken)))
 
 looked-requires : tie.Need-looked-requires
@@ -86,7 +86,7 @@ returns-3 c =
     let start = start (rule-of asked) in
     rw (c .refused3 .ensures)
     (reaction-refused (chosen (rule-of asked)) (formed (formed-at asked)) (start .pre .0 .workable) (asked .react-verdict .ensures (start .args .origins .now))
-    _ refl (c .before .before .verdict .given .1))
+    _ refl refl (c .before .before .verdict .given .1))
 
 react-requires : tie.Need-react-requires
 react-requires c κs =
@@ -97,12 +97,12 @@ react-requires c κs =
 
 returns-4 : tie.Need-returns-4
 returns-4 c =
-    let reacted = c .before in
+    let reacted = c .before .before in
     let asked = reacted .before .before .before .before .before .before in
     let start = start (rule-of asked) in
-    rw (c .kept .ensures)
+    rw (c .allowed .ensures, c .before .kept .ensures)
     (reaction-made (chosen (rule-of asked)) (formed (formed-at asked)) (start .pre .0 .workable) (asked .react-verdict .ensures (start .args .origins .now))
-    (reacted .before .before .before .before .enum-told .given .1) _ refl (looked-at asked .looked .ensures) (reacted .react .ensures))
+    (reacted .before .before .before .before .enum-told .given .1) _ refl refl (looked-at asked .looked .ensures) (reacted .react .ensures))
 
 pub make-reaction-spec : {M : Type 1} → statement M
 make-reaction-spec =
@@ -116,4 +116,4 @@ make-reaction-spec =
     ))
     (λ c κs. c .rule-at .ensures .legal .most) (λ c κs. search needs) returns-2
     looked-requires react-verdict-requires (λ c. search needs) (λ c κs. search needs) returns-3
-    (λ c. search needs) react-requires (λ c κs. search needs) returns-4)
+    (λ c. search needs) react-requires (λ c κs. search needs) (λ c κs. search needs) returns-4)
