@@ -30,8 +30,8 @@ move t s m number members = record {
 }
 
 -- on the two-lot plant, after some moves of a log
-abbrev after-some : ℕ → List (List ℕ) → List ℕ → ℕ → ℕ → Counted
-after-some k log m number members = move twoLot (reachedBy (take k log)) m number members
+abbrev afterSome : ℕ → List (List ℕ) → List ℕ → ℕ → ℕ → Counted
+afterSome k log m number members = move twoLot (reachedBy (take k log)) m number members
 
 abbrev runs : List ℕ → List ℕ → List (List ℕ) → ℕ → ℕ → Counted
 runs t s log number members = record {
@@ -43,8 +43,8 @@ runs t s log number members = record {
 abbrev serialWords : List ℕ → List ℕ → List (List ℕ) → List ℕ
 serialWords t s log = take (serialize t s (logOf log) target .words) (serializeTarget t s (logOf log) target)
 
-abbrev both-run : List ℕ → List ℕ → List (List ℕ) → ℕ → Counted
-both-run t s log members = record {
+abbrev bothRun : List ℕ → List ℕ → List (List ℕ) → ℕ → Counted
+bothRun t s log members = record {
   found =
       runLog t s (logOf log) target .members
       ∷ serialize t s (logOf log) target .number
@@ -58,27 +58,27 @@ both-run t s log members = record {
 pub plantMembers : List Counted
 plantMembers =
     -- (a) begins, local reactions and the merge remove nothing; the commit removes two marks of one transaction
-    after-some 0 logA (rule1 0 0) 0 0
-    ∷ after-some 1 logA (rule1 0 0) 0 0
-    ∷ after-some 2 logA (rule1 1 1) 0 0
-    ∷ after-some 3 logA (rule1 1 3) 0 0
-    ∷ after-some 4 logA (rule2 2 4 5) 0 0
-    ∷ after-some 5 logA (release 1) 0 2
-    ∷ both-run twoLot start logA 2
+    afterSome 0 logA (rule1 0 0) 0 0
+    ∷ afterSome 1 logA (rule1 0 0) 0 0
+    ∷ afterSome 2 logA (rule1 1 1) 0 0
+    ∷ afterSome 3 logA (rule1 1 3) 0 0
+    ∷ afterSome 4 logA (rule2 2 4 5) 0 0
+    ∷ afterSome 5 logA (release 1) 0 2
+    ∷ bothRun twoLot start logA 2
     ∷ runs twoLot start (take 5 logA) 0 0
     -- (c) an abort removes the one mark of its transaction; the other stays
-    ∷ after-some 4 logC (callOff 2) 0 1
+    ∷ afterSome 4 logC (callOff 2) 0 1
     ∷ runs twoLot start logC 0 1
     -- (d) two aborts of one mark each
-    ∷ after-some 4 logD (callOff 2) 0 1
-    ∷ after-some 5 logD (callOff 1) 0 1
-    ∷ both-run twoLot start logD 2
+    ∷ afterSome 4 logD (callOff 2) 0 1
+    ∷ afterSome 5 logD (callOff 1) 0 1
+    ∷ bothRun twoLot start logD 2
     -- (b), (e), (f), (g) are refused and remove nothing; (h) has no moves
-    ∷ after-some 4 logA (release 1) 10 0
-    ∷ after-some 4 logA (rule2 2 4 4) 7 0
-    ∷ after-some 1 logA (callOff 1) 10 0
-    ∷ after-some 2 logA (release 3) 9 0
-    ∷ both-run twoLot start [] 0
+    ∷ afterSome 4 logA (release 1) 10 0
+    ∷ afterSome 4 logA (rule2 2 4 4) 7 0
+    ∷ afterSome 1 logA (callOff 1) 10 0
+    ∷ afterSome 2 logA (release 3) 9 0
+    ∷ bothRun twoLot start [] 0
     -- a run that breaks off after the commit (16) says nothing of it
     ∷ runs twoLot start (logA ++ release 1 ∷ []) 16 0
     ∷ runs twoLot start (take 5 logD ++ rule1 3 0 ∷ []) 16 0
@@ -108,8 +108,8 @@ fourOpen = 6 ∷ 9 ∷ 3 ∷ 3 ∷ 2 ∷ 3 ∷ 0 ∷ 3 ∷ 0x03000005 ∷ 0x0300
 pub oddMembers : List Counted
 oddMembers =
     -- four members merged into one transaction, committed and aborted
-    both-run joinFour fourMessages (joined 1 ++ release 1 ∷ []) 4
-    ∷ both-run joinFour fourMessages (joined 2 ++ callOff 1 ∷ []) 4
+    bothRun joinFour fourMessages (joined 1 ++ release 1 ∷ []) 4
+    ∷ bothRun joinFour fourMessages (joined 2 ++ callOff 1 ∷ []) 4
     ∷ runs joinFour fourMessages (joined 2) 0 0
     -- what was open at the start counts too, each transaction's own marks only
     ∷ move joinFour fourOpen (release 3) 0 4
