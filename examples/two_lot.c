@@ -1,6 +1,6 @@
 /*
- * Log (a) of document 01's two-lot plant, case (b): its commit one move too early, and at the start the
- * enabled moves and the previews of two moves, of which the second would be refused.
+ * Log (a) of document 01's two-lot plant, case (b): its commit one move too early, which leaves the tally of
+ * (a), and at the start the enabled moves and the previews of two moves, of which the second would be refused.
  */
 #include "coordinator.h"
 
@@ -32,11 +32,11 @@ static const uint32_t log_b[] = {
 static const uint32_t begin[] = {0, 0, 0, 0, 0};
 static const uint32_t commit[] = {0x01000001, 0, 0, 0, 0};
 
-static void run(const char *name, const uint32_t *log, size_t log_len)
+static void run(const char *name, const uint32_t *log, size_t log_len, coordinator_tally *tally)
 {
     uint32_t target[COORDINATOR_STATE_TARGET_WORDS], at;
     coordinator_answer answer =
-        coordinator_run(table, LENGTH(table), start, LENGTH(start), log, log_len, target, LENGTH(target));
+        coordinator_run(table, LENGTH(table), start, LENGTH(start), log, log_len, tally, target, LENGTH(target));
     if (answer.number == COORDINATOR_MOVE_REFUSED) {
         printf("%s: move %" PRIu32 " is refused with %" PRIu32 "\n", name, answer.place, answer.own);
     } else if (answer.number != COORDINATOR_ACCEPTED) {
@@ -48,6 +48,8 @@ static void run(const char *name, const uint32_t *log, size_t log_len)
         }
         printf(", %" PRIu32 " members ended\n", answer.members);
     }
+    printf("tally: %" PRIu32 " moves, %" PRIu32 " begun, %" PRIu32 " committed, %" PRIu32 " aborted\n", tally->moves,
+           tally->begun, tally->committed, tally->aborted);
 }
 
 static void list(void)
@@ -81,8 +83,9 @@ static void preview(const char *name, const uint32_t *mv)
 
 int main(void)
 {
-    run("(a)", log_a, LENGTH(log_a));
-    run("(b)", log_b, LENGTH(log_b));
+    coordinator_tally tally = {0, 0, 0, 0};
+    run("(a)", log_a, LENGTH(log_a), &tally);
+    run("(b)", log_b, LENGTH(log_b), &tally);
     list();
     preview("rule 0", begin);
     preview("commit 1", commit);

@@ -7,11 +7,12 @@
  * the first fault in the order given with the call.
  *
  * What the caller owes: each pointer is valid for its length (any pointer will do for length 0),
- * and the target overlaps none of the other lists. Nothing is kept between calls, nothing is
- * allocated, and calls may be made from several threads at once.
+ * and the target overlaps none of the other lists. A run's tally is not null, and overlaps neither
+ * the target nor a list. Nothing is kept between calls, nothing is allocated, and calls may be made
+ * from several threads at once.
  *
- * A refused call leaves the whole target as it was. An accepted one writes as many words to its
- * front as the answer says and leaves the rest as it was.
+ * A refused call leaves the whole target as it was, and a tally too. An accepted one writes as many
+ * words to the target's front as the answer says and leaves the rest as it was.
  *
  * Stack: every call runs in a thread of COORDINATOR_STACK_BYTES. The figure with each call is the
  * most that was measured at full size, rounded up.
@@ -37,7 +38,7 @@ extern "C" {
 
 /* Raised when a struct or a signature below changes; a call that is added changes neither. The linker does
  * not notice: a program that was built with a header of another number must be built again. */
-#define COORDINATOR_ABI 2u
+#define COORDINATOR_ABI 3u
 
 /* Limits and sizes. */
 #define COORDINATOR_MAX_PORTS 256u       /* of a table, all three classes together */
@@ -104,6 +105,16 @@ typedef struct coordinator_preview_answer {
     uint32_t members; /* accepted: the member marks (lot marks) that the move would remove; else 0 */
 } coordinator_preview_answer;
 
+/* What a run counts, in the caller's memory. Each run counts from zero: an accepted one replaces all four
+ * figures, a refused one leaves them as they were. After an accepted run the member marks open at the start
+ * and those begun are together as many as those committed, those aborted and those still open. */
+typedef struct coordinator_tally {
+    uint32_t moves;     /* the moves made: all of the log's */
+    uint32_t begun;     /* the members begun (lots opened): reactions by a rule with a begin */
+    uint32_t committed; /* the member marks (lot marks) that commits removed: lots released */
+    uint32_t aborted;   /* the member marks that aborts removed: lots called off */
+} coordinator_tally;
+
 typedef struct coordinator_page {
     uint32_t number; /* one of the numbers above */
     uint32_t words;  /* accepted: the words written, 5 for each move of the page; else 0 */
@@ -135,11 +146,13 @@ coordinator_preview_answer coordinator_preview(const uint32_t *table, size_t tab
                                                const uint32_t *state, size_t state_len,
                                                const uint32_t *move, size_t move_len);
 
-/* The state after a log's moves, one after another, and their members added up.
- * Refusals: 1, 2, 3, 4, 13, 6, 16. Stack: 25.4 KB. */
+/* The state after a log's moves, one after another, their members added up, and the tally of them. No other
+ * call takes a tally.
+ * Refusals: 1, 2, 3, 4, 13, 6, 16. Stack: 25.5 KB. */
 coordinator_answer coordinator_run(const uint32_t *table, size_t table_len,
                                    const uint32_t *state, size_t state_len,
                                    const uint32_t *log, size_t log_len,
+                                   coordinator_tally *tally,
                                    uint32_t *target, size_t target_len);
 
 /* The serial log of a log: the same moves, those of each transaction directly before its end. Its run

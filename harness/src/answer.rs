@@ -1,5 +1,5 @@
 //! What a public call answers: one type for the model, the plain code and the library.
-use crate::words::page_target;
+use crate::words::{page_target, STATE_TARGET};
 
 #[derive(Clone, Copy, Debug, PartialEq, Eq)]
 pub enum Answer {
@@ -65,6 +65,23 @@ impl Answer {
 
 /// A call on a table, a state, a move or log, and a target.
 pub type OnTarget<A = Answer> = fn(&[u32], &[u32], &[u32], &mut [u32]) -> A;
+
+/// What a run counts, the caller's four words: moves, and members begun, committed and aborted (02: moves made, lots
+/// opened, released, called off).
+pub type Tally = [u32; 4];
+
+/// The run on a table, a state, a log, the caller's tally and a target.
+pub type OnTally = fn(&[u32], &[u32], &[u32], &mut Tally, &mut [u32]) -> Answer;
+
+/// The words of a target for a run in the shape of the other calls.
+pub const RUN_TARGET: usize = STATE_TARGET + 4;
+
+/// The run in the shape of the other calls. Its tally goes behind the largest state, so that a target has all that is
+/// answered.
+pub fn run_on_target(call: OnTally, table: &[u32], state: &[u32], log: &[u32], target: &mut [u32]) -> Answer {
+    let (target, behind) = target.split_at_mut(STATE_TARGET);
+    call(table, state, log, behind.first_chunk_mut().expect("room for a tally"), target)
+}
 
 /// What the list of enabled moves answers: the words of a page, and how many moves the whole list has,
 /// 0 if it is refused.

@@ -21,6 +21,7 @@ macro_rules! faults {
 }
 
 pub mod aborting;
+pub mod coverage;
 pub mod lists;
 pub mod logs;
 pub mod moves;
@@ -29,5 +30,4 @@ pub mod state_faults;
 pub mod states;
 pub mod table_faults;
 pub mod tables;
-pub mod tally;
 pub mod workloads;

@@ -1,7 +1,7 @@
 //! The proved archive, through the safe crate that buyers use.
-use coordinator::{Log, Move, Moved, Refusal, State, Table};
+use coordinator::{Log, Move, Refusal, State, Table};
 
-use crate::answer::{Answer, Page, Preview};
+use crate::answer::{Answer, Page, Preview, Tally};
 
 fn refused(refusal: Refusal) -> Answer {
     match refusal {
@@ -15,12 +15,9 @@ fn answer(written: Result<&[u32], Refusal>) -> Answer {
     written.map_or_else(refused, |words| Answer::Accepted(words.len() as u32))
 }
 
-/// The answer of a move or a run.
-fn moved(moved: Result<Moved, Refusal>) -> Answer {
-    moved.map_or_else(refused, |Moved { state, members, .. }| Answer::Moved {
-        words: state.words().len() as u32,
-        members,
-    })
+/// The answer of a move or a run that is accepted.
+fn moved(state: State, members: u32) -> Answer {
+    Answer::Moved { words: state.words().len() as u32, members }
 }
 
 pub fn check_table(table: &[u32]) -> Answer {
@@ -32,7 +29,8 @@ pub fn check_state(table: &[u32], state: &[u32]) -> Answer {
 }
 
 pub fn make_move(table: &[u32], state: &[u32], mv: &[u32], target: &mut [u32]) -> Answer {
-    moved(coordinator::make_move(Table::new(table), State::new(state), Move::new(mv), target))
+    let made = coordinator::make_move(Table::new(table), State::new(state), Move::new(mv), target);
+    made.map_or_else(refused, |made| moved(made.state, made.members))
 }
 
 pub fn preview(table: &[u32], state: &[u32], mv: &[u32]) -> Preview {
@@ -44,8 +42,16 @@ pub fn preview(table: &[u32], state: &[u32], mv: &[u32]) -> Preview {
     }
 }
 
-pub fn run(table: &[u32], state: &[u32], log: &[u32], target: &mut [u32]) -> Answer {
-    moved(coordinator::run(Table::new(table), State::new(state), Log::new(log), target))
+/// The crate gives a tally where a run is accepted, and takes none.
+pub fn run(table: &[u32], state: &[u32], log: &[u32], tally: &mut Tally, target: &mut [u32]) -> Answer {
+    match coordinator::run(Table::new(table), State::new(state), Log::new(log), target) {
+        Ok(ran) => {
+            let coordinator::Tally { moves, begun, committed, aborted } = ran.tally;
+            *tally = [moves, begun, committed, aborted];
+            moved(ran.state, ran.members)
+        }
+        Err(refusal) => refused(refusal),
+    }
 }
 
 pub fn serialize(table: &[u32], state: &[u32], log: &[u32], target: &mut [u32]) -> Answer {

@@ -12,5 +12,6 @@ pub mod list;
 pub mod ordered;
 pub mod preview;
 pub mod solution;
+pub mod tally;
 
 pub use calls::*;

@@ -1,6 +1,11 @@
 //! Each call of the library beside its plain counterpart, in one shape: the checks ignore what they do not take.
-use crate::answer::{page_on_target, preview_on_target, OnTarget};
+use crate::answer::{page_on_target, preview_on_target, run_on_target, OnTarget, RUN_TARGET};
 use crate::{library, plain};
+
+/// A target that is long enough for each call on this move, log or page.
+pub fn target(third: &[u32]) -> Vec<u32> {
+    vec![0; RUN_TARGET.max(third.len())]
+}
 
 #[derive(Clone, Copy)]
 pub struct Pair {
@@ -25,7 +30,11 @@ pub const PREVIEW: Pair = Pair {
     ours: |table, state, mv, target| preview_on_target(library::preview, table, state, mv, target),
     rust: |table, state, mv, target| preview_on_target(plain::preview, table, state, mv, target),
 };
-pub const RUN: Pair = Pair { name: "run", ours: library::run, rust: plain::run };
+pub const RUN: Pair = Pair {
+    name: "run",
+    ours: |table, state, log, target| run_on_target(library::run, table, state, log, target),
+    rust: |table, state, log, target| run_on_target(plain::run, table, state, log, target),
+};
 pub const SERIALIZE: Pair = Pair { name: "serialize", ours: library::serialize, rust: plain::serialize };
 pub const LIST_MOVES: Pair = Pair {
     name: "list_moves",

@@ -5,16 +5,18 @@ mod serial;
 mod state;
 mod step;
 mod table;
+mod tally;
 mod verdict;
 
 use std::ops::Deref;
 
-use crate::answer::{Answer, Page, Preview};
+use crate::answer::{Answer, Page, Preview, Tally};
 use crate::words::{page_target, MAX_ENTRIES, MAX_MOVES, STATE_TARGET};
 use list::List;
 use state::State;
 use step::Call;
 use table::Table;
+use tally::Running;
 
 pub fn check_table(table: &[u32]) -> Answer {
     Answer::of_check(Table::read(table))
@@ -99,7 +101,7 @@ fn ready<'a>(table: &'a [u32], state: &[u32], log: &'a [u32]) -> Result<(Table<'
     Ok((table, state, Log::read(log)?))
 }
 
-pub fn run(table: &[u32], state: &[u32], log: &[u32], target: &mut [u32]) -> Answer {
+pub fn run(table: &[u32], state: &[u32], log: &[u32], tally: &mut Tally, target: &mut [u32]) -> Answer {
     let (table, mut state, log) = match ready(table, state, log) {
         Ok(ready) => ready,
         Err(number) => return Answer::Refused(number),
@@ -107,12 +109,19 @@ pub fn run(table: &[u32], state: &[u32], log: &[u32], target: &mut [u32]) -> Ans
     if target.len() < STATE_TARGET {
         return Answer::Refused(6);
     }
+    let mut running = Running::default();
     for (place, (head, picks)) in log.moves().enumerate() {
-        let made = Call::read(&table, head, picks).and_then(|call| state.make(&table, call, picks));
+        let made = Call::read(&table, head, picks).and_then(|call| {
+            let ended = state.ended;
+            state.make(&table, call, picks)?;
+            running.add(call, state.ended - ended);
+            Ok(())
+        });
         if let Err(own) = made {
             return Answer::MoveRefused { place: place as u32, own };
         }
     }
+    *tally = running.words();
     state.write(target)
 }
 

@@ -1,4 +1,5 @@
 //! 01's two-lot plant and its cases, digit by digit. Tests cite these and write none of them again.
+use crate::answer::Tally;
 use crate::words::Move;
 
 pub fn table() -> Vec<u32> {
@@ -27,6 +28,8 @@ pub fn case_a() -> Vec<Move> {
 }
 
 pub const END_A: [u32; 6] = [2, 3, 0, 0, 0x0001_0007, 0x0001_0009];
+/// The tally of its run: its commit ends both members.
+pub const TALLY_A: Tally = [6, 2, 2, 0];
 
 /// The enabled moves at the start of (a) and after each of its moves, as the definitions list them.
 pub fn lists_a() -> [Vec<Move>; 7] {
@@ -64,6 +67,8 @@ pub fn case_c() -> Vec<Move> {
 }
 
 pub const END_C: [u32; 10] = [4, 3, 1, 1, 0, 1, 0x0300_0001, 0x0100_0007, 0x0000_0009, 0x0003_0007];
+/// One of two is aborted, the other still open.
+pub const TALLY_C: Tally = [5, 2, 0, 1];
 
 /// A state like that after four moves of (c): transaction 2 has an abort mark, and here also a message on
 /// port 3. Transaction 1 has one there too, so that but for the mark rule 2 would merge them.
@@ -102,6 +107,8 @@ pub fn serial_d() -> Vec<Move> {
 }
 
 pub const END_D: [u32; 6] = [2, 3, 0, 0, 7, 9];
+/// Also that of the serial log.
+pub const TALLY_D: Tally = [6, 2, 0, 2];
 /// The serial log's end: the same messages in another order.
 pub const SERIAL_END_D: [u32; 6] = [2, 3, 0, 0, 9, 7];
 

@@ -91,6 +91,7 @@ fn in_rust(parts: &str, between: char) -> String {
             "size_t" => "usize",
             "const uint32_t *" => "*const u32",
             "uint32_t *" => "*mut u32",
+            "coordinator_tally *" => "*mut Tally",
             other => panic!("{other} in the header"),
         };
         // `move` is no name in Rust.
@@ -125,11 +126,16 @@ fn declared_in_c() -> BTreeSet<String> {
     structs.chain(calls).collect()
 }
 
-/// The structs and calls that the crate declares.
+/// Rust's text without its comments.
+fn unexplained(text: &str) -> String {
+    text.lines().filter(|line| !line.trim_start().starts_with("//")).map(|line| format!("{line}\n")).collect()
+}
+
+/// The structs and calls that the crate declares. A tally is lent to the archive as callers get it.
 fn declared_in_rust() -> BTreeSet<String> {
-    let boundary = file("rust/src/boundary.rs");
+    let boundary = unexplained(&[file("rust/src/boundary.rs"), file("rust/src/ran.rs")].concat());
     let listed = |parts: &str| {
-        let parts = parts.split(',').map(str::trim).filter(|part| !part.is_empty());
+        let parts = parts.split(',').map(|part| part.trim().trim_start_matches("pub ")).filter(|part| !part.is_empty());
         parts.collect::<Vec<_>>().join(", ")
     };
     let structs = boundary.split("#[repr(C)]\npub struct ").skip(1).map(|rest| {
@@ -153,10 +159,15 @@ fn header_and_crate_declare_the_same() {
         mv: *const u32, mv_len: usize) -> PreviewAnswer";
     let answer = "Answer { number: u32, words: u32, place: u32, own: u32, members: u32 }";
     let preview_answer = "PreviewAnswer { number: u32, entries: u32, next: u32, id: u32, members: u32 }";
-    for one in [answer, preview_answer, preview] {
+    let tally = "Tally { moves: u32, begun: u32, committed: u32, aborted: u32 }";
+    let run = "run(table: *const u32, table_len: usize, state: *const u32, state_len: usize, \
+        log: *const u32, log_len: usize, tally: *mut Tally, target: *mut u32, target_len: usize) -> Answer";
+    for one in [answer, preview_answer, preview, tally, run] {
         assert!(c.contains(one), "{one} is not in {c:#?}");
     }
     assert_eq!(c, rust);
+    // No other call takes a tally.
+    assert_eq!(c.iter().filter(|one| one.contains("Tally")).count(), 2);
 }
 
 /// `NoMoreIds` as `NO_MORE_IDS`.
@@ -206,7 +217,7 @@ fn header_and_crate_agree() {
         ("MOVE_WORDS", coordinator::MOVE_WORDS),
         ("STATE_TARGET_WORDS", coordinator::STATE_TARGET_WORDS),
         ("STACK_BYTES", 256 << 10),
-        ("ABI", 2),
+        ("ABI", 3),
         ("ACCEPTED", 0),
         ("MOVE_REFUSED", Refusal::MoveRefused { place: 0, own: 5 }.number() as usize),
     ];

@@ -14,8 +14,8 @@ use std::path::Path;
 use std::process::Command;
 
 use common::demand3::Demand3;
-use common::{after_a, check_state, check_table, gives, make_move, on_target, preview, run, serialize, shrinking};
-use common::{Asked, MAKE_MOVE};
+use common::{after_a, check_state, check_table, gives, make_move, mark_owners, on_tally, on_target, preview, run};
+use common::{serialize, shrinking, Asked, MAKE_MOVE};
 use harness::answer::{order, Answer, Preview};
 use harness::markdown::{blocks, links, prose, rows, Block};
 use harness::two_lot::{self, case_a, case_c, case_d, lists_a, serial_d};
@@ -148,6 +148,8 @@ fn generated() -> BTreeMap<String, String> {
         ("page".into(), page()),
         ("previews".into(), previews()),
         ("members".into(), members()),
+        ("tallies".into(), tallies()),
+        ("run in C".into(), run_in_c()),
         ("abort mark".into(), abort_mark()),
         ("refusals".into(), refusals()),
         ("order".into(), orders()),
@@ -237,6 +239,42 @@ fn members() -> String {
         text += &line(case, run(&table, &start, &log_words(&log)).0, "");
     }
     text
+}
+
+/// The tallies of runs, with the member marks before and after them.
+fn tallies() -> String {
+    let (table, start) = (two_lot::table(), two_lot::start());
+    let twice = [&case_a()[..], &case_a()[5..]].concat();
+    let runs = [
+        ("(a)", start.clone(), case_a()),
+        ("(c)", start.clone(), case_c()),
+        ("(d)", start.clone(), case_d()),
+        ("serial (d)", start.clone(), serial_d()),
+        ("(a) from 2", after_a(2), case_a()[2..].to_vec()),
+        ("no moves", start.clone(), vec![]),
+        ("(a) and 5", start, twice),
+    ];
+    let marks = |state: &[u32]| mark_owners(state).count() as u32;
+    let line = |(name, state, log): (&str, Vec<u32>, Vec<Move>)| {
+        let (answer, words, tally) = on_tally([&table, &state, &log_words(&log)], [7; 4], 2_050);
+        let (number, at_start, [moves, begun, committed, aborted]) = (answer.number(), marks(&state), tally);
+        let at_end = if number == 0 { marks(&words).to_string() } else { "-".into() };
+        let counted = format!("{at_start:>6} {moves:>6} {begun:>6} {committed:>10} {aborted:>8}");
+        format!("{name:<10} {number:>7} {counted} {at_end:>4}\n")
+    };
+    String::from("run         number  start  moves  begun  committed  aborted  end\n")
+        + &runs.into_iter().map(line).collect::<String>()
+}
+
+/// The tally and the run as the header declares them.
+fn run_in_c() -> String {
+    let header = file("include/coordinator.h");
+    let from = |begin: &str, end: &str| {
+        let rest = &header[header.find(begin).expect(begin)..];
+        rest[..rest.find(end).expect(end) + end.len()].to_string()
+    };
+    let tally = from("typedef struct coordinator_tally {", "} coordinator_tally;\n");
+    tally + "\n" + &from("coordinator_answer coordinator_run(", ");\n")
 }
 
 /// A transaction with an abort mark: a merge with it is refused, and the list has its abort alone.
@@ -341,6 +379,20 @@ fn the_guide_has_every_number() {
         assert!(header.contains(&format!("#define COORDINATOR_{name} {number}u ")), "{name}");
         assert!(row[2..].iter().all(|cell| !cell.is_empty()) && row.len() == 4, "{row:?}");
     }
+}
+
+// Catches a guide for another header than this: the number of its ABI, and the figures of a tally in their order.
+#[test]
+fn the_guide_goes_with_the_header() {
+    let (guide, header) = (file(GUIDE), file("include/coordinator.h"));
+    let (_, rest) = header.split_once("#define COORDINATOR_ABI ").unwrap();
+    let (number, _) = rest.split_once("u\n").unwrap();
+    assert!(guide.contains(&format!("another `COORDINATOR_ABI`, which is {number} here.")), "{number}");
+    let declared = run_in_c();
+    let fields = declared.lines().filter_map(|line| line.strip_prefix("    uint32_t ")?.split(';').next());
+    let rows = rows(&prose(&guide), "| figure | 02's words | what it counts |");
+    assert_eq!(rows.len(), 4);
+    assert!(rows.iter().map(|row| row[0].trim_matches('`').to_string()).eq(fields.map(str::to_string)), "{rows:?}");
 }
 
 /// The words of an array in a C program.

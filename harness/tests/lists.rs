@@ -5,12 +5,12 @@ use std::collections::BTreeSet;
 
 use common::{after_a, Asked};
 use harness::answer::{order, Answer, Page};
+use harness::generate::coverage::Coverage;
 use harness::generate::lists::{listed, met};
 use harness::generate::state_faults::StateFault;
 use harness::generate::states::state;
 use harness::generate::table_faults::TableFault;
 use harness::generate::tables::{table, Shape};
-use harness::generate::tally::Tally;
 use harness::generate::workloads::{fours, spread};
 use harness::random::Random;
 use harness::two_lot::{self, lists_a};
@@ -158,7 +158,7 @@ fn rises(words: &[u32]) -> bool {
 #[test]
 fn pages_together_are_the_list() {
     let mut random = Random::new(901);
-    let mut tally = Tally::default();
+    let mut coverage = Coverage::default();
     for round in 0..4_000 {
         let (table, state) = listed(&mut random, round);
         let (table_words, state_words) = (table.words(), state.words());
@@ -170,9 +170,9 @@ fn pages_together_are_the_list() {
         let paged = in_pages(&table_words, &state_words, count);
         assert_eq!(paged, words(&list), "{table:?} {state:?}");
         assert!(rises(&paged), "{table:?} {state:?}");
-        tally.add(met(&mut random, &table, &state, &list));
+        coverage.add(met(&mut random, &table, &state, &list));
     }
-    tally.has_all(40);
+    coverage.has_all(40);
 }
 
 // Catches a page that begins or ends one move off: every first place and every count of short lists.

@@ -4,17 +4,18 @@ mod common;
 use std::collections::{BTreeMap, BTreeSet};
 
 use harness::answer::{Answer, Preview};
+use harness::generate::coverage::Coverage;
 use harness::generate::lists::{listed, met};
 use harness::generate::logs::{accepted, closed};
 use harness::generate::moves::open;
 use harness::generate::previews::{self, asked};
 use harness::generate::states::{messages, state};
 use harness::generate::tables::{table, Shape};
-use harness::generate::tally::Tally;
 use harness::model::colours;
 use harness::model::definitions::{Channel, Definition, Definitions, Output, Product, Term};
 use harness::model::ordered::{Made, Ordered};
 use harness::model::solution::{Message, Origin, Solution, Transaction};
+use harness::model::tally::{tally, Members};
 use harness::random::Random;
 use harness::words::{act, kind, log_words, page_target, role, Atom, Entry, Move, State, Table};
 use harness::{model, plain};
@@ -153,6 +154,7 @@ fn example_8_has_one_colour() {
     history.push(Made::Ended { kind: act::ABORT, id: 1, ended });
     assert_eq!(colours::colours(&history), [Some(5), Some(4), Some(4), Some(4), Some(4), Some(5)]);
     assert_eq!(history.iter().map(Made::members).collect::<Vec<_>>(), [0, 0, 0, 0, 2, 1]);
+    assert_eq!(tally(&history), [6, 3, 0, 3]);
 }
 
 /// The molecules of a solution as entries, without any order.
@@ -183,13 +185,55 @@ fn molecules_are_the_entries() {
             ordered.make_words(&definitions, &mv.words(), place, 1_024).unwrap();
         }
         let mut target = vec![0; 2_050];
-        let answer = plain::run(&table.words(), &start.words(), &log_words(&log), &mut target);
+        let answer = plain::run(&table.words(), &start.words(), &log_words(&log), &mut [0; 4], &mut target);
         assert_eq!(answer.number(), 0);
         let end = State::from_words(&target[..answer.words() as usize]).unwrap();
         let mut entries = end.entries.clone();
         entries.sort_unstable();
         assert_eq!((molecules(&ordered.solution), ordered.solution.next), (entries, end.next));
     }
+}
+
+/// The ids of the members of all transactions.
+fn open_members(solution: &Solution) -> BTreeSet<u32> {
+    solution.transactions.values().flat_map(|transaction| transaction.members.values().copied()).collect()
+}
+
+// Catches a member that the history of moves has lost, has twice, or counts as committed where it was aborted: after
+// each move those of the start and those begun are, one by one, committed, aborted or still open.
+#[test]
+fn no_member_is_lost_or_counted_twice() {
+    let mut random = Random::new(606);
+    let mut coverage = Coverage::default();
+    for round in 0..400 {
+        let table = table(&mut random, if round % 2 == 0 { Shape::EveryClass } else { Shape::Closable });
+        let start = state(&mut random, &table, 40, true);
+        let log = accepted(&mut random, &table, &start, 40);
+        let definitions = Definitions::read(&table.words()).unwrap();
+        let mut ordered = Ordered::read(&definitions, &start.words()).unwrap();
+        let at_start = open_members(&ordered.solution);
+        let mut history: Vec<Made> = Vec::new();
+        for (place, mv) in log.iter().enumerate() {
+            history.push(ordered.make_words(&definitions, &mv.words(), place, 1_024).unwrap());
+            let Members { begun, committed, aborted } = Members::of(&history);
+            let open = open_members(&ordered.solution);
+            let one_by_one = |parts: &[&BTreeSet<u32>]| {
+                let mut ids: Vec<u32> = parts.iter().flat_map(|part| part.iter().copied()).collect();
+                ids.sort_unstable();
+                ids
+            };
+            assert_eq!(one_by_one(&[&at_start, &begun]), one_by_one(&[&committed, &aborted, &open]), "{mv:?}");
+            let [moves, begun, committed, aborted] = tally(&history);
+            assert_eq!([moves, begun], [place as u32 + 1, ordered.solution.next - start.next]);
+            assert_eq!(committed + aborted, history.iter().map(Made::members).sum());
+        }
+        let Members { begun, committed, aborted } = Members::of(&history);
+        let both = |ended: &BTreeSet<u32>| !ended.is_disjoint(&begun) && !ended.is_disjoint(&at_start);
+        coverage
+            .add([("commits of old and new ones", both(&committed)), ("aborts of old and new ones", both(&aborted))]);
+        coverage.add([("some still open", !open_members(&ordered.solution).is_disjoint(&begun))]);
+    }
+    coverage.has_all(20);
 }
 
 // Catches a serial order after which the calculus is elsewhere: the named molecules, not only
@@ -275,7 +319,7 @@ fn plain_list(table: &[u32], state: &[u32], count: u32) -> Vec<Move> {
 #[test]
 fn the_plain_code_lists_the_models_moves() {
     let mut random = Random::new(604);
-    let mut tally = Tally::default();
+    let mut coverage = Coverage::default();
     for round in 0..4_000 {
         let (table, state) = listed(&mut random, round);
         let (table_words, state_words) = (table.words(), state.words());
@@ -284,9 +328,9 @@ fn the_plain_code_lists_the_models_moves() {
         let Some(expected) = model::enabled_moves(&table_words, &state_words, most).unwrap() else { continue };
         let count = random.pick(&[1, 7, 255, 256, u32::MAX]);
         assert_eq!(plain_list(&table_words, &state_words, count), expected, "{table:?} {state:?}");
-        tally.add(met(&mut random, &table, &state, &expected));
+        coverage.add(met(&mut random, &table, &state, &expected));
     }
-    tally.has_all(40);
+    coverage.has_all(40);
 }
 
 /// The smallest id of a transaction that is not as it was, 0 if there is none.
@@ -308,7 +352,7 @@ fn gone(before: &Solution, after: &Solution) -> u32 {
 #[test]
 fn previews_are_of_the_solution_after_the_move() {
     let mut random = Random::new(605);
-    let mut tally = Tally::default();
+    let mut coverage = Coverage::default();
     for round in 0..20_000 {
         let (table, state, words) = asked(&mut random, round);
         let (table_words, state_words) = (table.words(), state.words());
@@ -320,7 +364,7 @@ fn previews_are_of_the_solution_after_the_move() {
             Ok(_) => {
                 let entries = molecules(&after.solution).len();
                 let mv = Move::from_words(&words).unwrap();
-                tally.add(previews::met(&table, &state, &mv, entries));
+                coverage.add(previews::met(&table, &state, &mv, entries));
                 let (before, after) = (&before.solution, &after.solution);
                 Preview::accepted(entries, after.next, touched(before, after), gone(before, after))
             }
@@ -329,5 +373,5 @@ fn previews_are_of_the_solution_after_the_move() {
             assert_eq!(preview(&table_words, &state_words, &words), expected, "{words:x?} of {table:?} {state:?}");
         }
     }
-    tally.has_all(20);
+    coverage.has_all(20);
 }

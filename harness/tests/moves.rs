@@ -6,10 +6,10 @@ use common::{after, after_a, check_state, ends, every_rule, make_move, marks_gon
 use common::{reacted, refused, MAKE_MOVE};
 use harness::answer::{order, Answer};
 use harness::generate::aborting::{marked, met, number, reaction_among};
+use harness::generate::coverage::Coverage;
 use harness::generate::moves::{aborting, allowed, changed, consumes};
 use harness::generate::states::state;
 use harness::generate::tables::{table, Shape};
-use harness::generate::tally::Tally;
 use harness::in_c;
 use harness::random::Random;
 use harness::two_lot::{self, case_a, case_c, case_d};
@@ -122,7 +122,7 @@ fn a_refused_move_tells_no_members() {
 #[test]
 fn random_moves_tell_the_marks_removed() {
     let mut random = Random::new(307);
-    let mut tally = Tally::default();
+    let mut coverage = Coverage::default();
     for round in 0..12_000 {
         let table = table(&mut random, [Shape::Any, Shape::Small, Shape::EveryClass, Shape::Closable][round % 4]);
         let most = random.pick(&[6, 20, 60, 300]);
@@ -138,7 +138,7 @@ fn random_moves_tell_the_marks_removed() {
         assert_eq!(members, marks_gone(&before, &after), "{mv:?} of {state:?}");
         let begins = after[1] > before[1];
         let [reacts, commits, aborts] = [act::REACT, act::COMMIT, act::ABORT].map(|kind| mv.kind == kind);
-        tally.add([
+        coverage.add([
             ("a begin", begins),
             ("another reaction", reacts && !begins),
             ("a commit of one", commits && members == 1),
@@ -149,7 +149,7 @@ fn random_moves_tell_the_marks_removed() {
             ("an abort of four or more", aborts && members > 3),
         ]);
     }
-    tally.has_all(50);
+    coverage.has_all(50);
 }
 
 // Catches a commit with a merge message inside (b), a pick used twice (e), an abort without an
@@ -287,15 +287,15 @@ fn a_transaction_begun_with_an_abort_mark_only_aborts() {
 #[test]
 fn random_reactions_beside_abort_marks() {
     let mut random = Random::new(306);
-    let mut tally = Tally::default();
+    let mut coverage = Coverage::default();
     for _ in 0..20_000 {
         let (table, state) = marked(&mut random);
         let Some(mv) = reaction_among(&mut random, &table, &state) else { continue };
         let (answer, _) = make_move(&table.words(), &state.words(), &mv.words());
         assert_eq!(answer.number(), number(&table, &state, &mv), "{mv:?} of {table:?} {state:?}");
-        tally.add(met(&table, &state, &mv));
+        coverage.add(met(&table, &state, &mv));
     }
-    tally.has_all(50);
+    coverage.has_all(50);
 }
 
 // Catches a commit that drops or moves messages, keeps compensations, or looks at the wrong class.

@@ -6,13 +6,13 @@ use std::collections::BTreeSet;
 use common::faulty::{any_words, first_fault_counts, long_noise, noise, wrong_words};
 use common::{after, after_a, every_rule, make_move, marks_removed, on_target, shown, MAKE_MOVE};
 use harness::answer::{order, Answer, Preview};
+use harness::generate::coverage::Coverage;
 use harness::generate::moves::changed;
 use harness::generate::previews::{asked, concerned, met};
 use harness::generate::state_faults::StateFault;
 use harness::generate::states::state;
 use harness::generate::table_faults::TableFault;
 use harness::generate::tables::{table, Shape};
-use harness::generate::tally::Tally;
 use harness::random::Random;
 use harness::two_lot::{self, case_a, case_c, case_d};
 use harness::words::{role, Atom, Entry, Move, State, Table};
@@ -270,7 +270,7 @@ fn the_first_fault_counts() {
 #[test]
 fn random_moves() {
     let mut random = Random::new(1_003);
-    let mut tally = Tally::default();
+    let mut coverage = Coverage::default();
     let mut numbers = [0; 19];
     for round in 0..30_000 {
         let (table, state, words) = asked(&mut random, round);
@@ -281,10 +281,10 @@ fn random_moves() {
             let shown = (preview.id, preview.members);
             let expected = (concerned(&table, &state, &mv), marks_removed(&state.words(), &words));
             assert_eq!(shown, expected, "{mv:?} of {table:?} {state:?}");
-            tally.add(met(&table, &state, &mv, preview.entries as usize));
+            coverage.add(met(&table, &state, &mv, preview.entries as usize));
         }
     }
-    tally.has_all(40);
+    coverage.has_all(40);
     for number in [0, 5, 7, 8, 9, 10, 11, 12, 18] {
         assert!(numbers[number] > 100, "{number}: {numbers:?}");
     }

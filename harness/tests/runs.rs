@@ -1,7 +1,7 @@
 //! The run of a log: all implementations on right, damaged and random input.
 mod common;
 
-use common::{check_state, ends, make_move, marks_gone, on_target, refused, run, RUN};
+use common::{check_state, ends, make_move, marks_gone, refused, run, run_in};
 use harness::answer::{order, Answer};
 use harness::generate::logs::{accepted, broken_off};
 use harness::generate::moves::{changed, consumes};
@@ -64,7 +64,7 @@ fn a_run_is_its_moves_one_after_another() {
 #[test]
 fn a_refused_run_tells_no_members() {
     let (table, start) = (two_lot::table(), two_lot::start());
-    let in_c = |log: &[u32], room: usize| in_c::run(&table, &start, log, &mut vec![0; room]);
+    let in_c = |log: &[u32], room: usize| in_c::run(&table, &start, log, &mut [u32::MAX; 4], &mut vec![0; room]);
     for mut log in [case_a(), two_lot::case_d()] {
         assert_eq!(in_c(&log_words(&log), 2_050), [0, 6, 0, 0, 2]);
         assert_eq!(in_c(&log_words(&log), 2_049), [6, 0, 0, 0, 0]);
@@ -253,7 +253,7 @@ fn limits_of_a_log() {
 fn targets_of_a_run() {
     let (table, start, log) = (two_lot::table(), two_lot::start(), log_words(&case_a()));
     for room in (0..12).chain(2_040..2_060).chain([5_000]) {
-        let (answer, _) = on_target(RUN, [&table, &start, &log], room);
+        let (answer, ..) = run_in([&table, &start, &log], room);
         assert_eq!(answer, if room < 2_050 { Answer::Refused(6) } else { Answer::Moved { words: 6, members: 2 } });
     }
 }
@@ -286,7 +286,7 @@ fn the_first_fault_counts() {
         if has(13) {
             log.push(0);
         }
-        let (answer, _) = on_target(RUN, [&table, &start, &log], if has(6) { 2_049 } else { 2_050 });
+        let (answer, ..) = run_in([&table, &start, &log], if has(6) { 2_049 } else { 2_050 });
         assert_eq!(answer.number(), faults.first().copied().unwrap_or(0), "{faults:?}");
         if answer.number() == 16 {
             assert_eq!(answer, Answer::MoveRefused { place: 2, own: 9 });

@@ -2,13 +2,13 @@
 mod common;
 
 use common::demand3::Demand3;
-use common::{ends, gives, merging, on_target, refused, run, serialize, shrinking, SERIALIZE};
+use common::{ends, gives, merging, on_target, refused, run, serialize, shrinking, tallied, SERIALIZE};
 use harness::answer::{order, Answer};
+use harness::generate::coverage::Coverage;
 use harness::generate::logs::{accepted, broken_off, closed, Walk};
 use harness::generate::moves::aborting;
 use harness::generate::states::{messages, state};
 use harness::generate::tables::{table, Shape};
-use harness::generate::tally::Tally;
 use harness::in_c;
 use harness::random::Random;
 use harness::two_lot::{self, case_d};
@@ -70,10 +70,11 @@ fn demand3(table: &Table, start: &State, log: &[Move]) -> Answer {
     assert_eq!(answer, Answer::Accepted(1 + 5 * log.len() as u32), "peak {}", demand.peak());
     let serial = log_from_words(&words).expect("a log");
     assert_eq!(demand.check(&serial), Ok(()));
-    // The serial log runs and ends as many members.
-    let [first, again] = [&log_words(log), &words].map(|log| run(&table_words, &start_words, log).0);
-    assert_eq!((again.number(), again.members()), (0, first.members()));
-    assert_eq!(first.members(), demand.ended().iter().sum::<u32>());
+    // The serial log runs and ends as many members, with the same tally.
+    let [first, again] = [&log_words(log), &words].map(|log| tallied(&table_words, &start_words, log));
+    assert_eq!((again.0.number(), again.0.members()), (0, first.0.members()));
+    assert_eq!(first.0.members(), demand.ended().iter().sum::<u32>());
+    assert_eq!([first.2, again.2], [demand.tally(); 2]);
     // A serial log is its own serial log.
     gives(serialize(&table_words, &start_words, &words), &words);
     answer
@@ -103,31 +104,35 @@ fn random_closed_logs() {
     assert!(all.iter().zip([500, 500, 1_000, 1_000, 1_000]).all(|(&count, least)| count > least), "{all:?}");
 }
 
-// Catches a run whose members depend on the order of its moves, and members of a serialize itself, which only C sees:
-// in a log that serializes each begin's member ends.
+// Catches a run whose members or tally depend on the order of its moves, and members of a serialize itself, which only
+// C sees: in a log that serializes each begin's member ends.
 #[test]
-fn serial_logs_end_as_many_members() {
+fn serial_logs_have_the_same_members_and_tally() {
     let mut random = Random::new(507);
-    let mut tally = Tally::default();
+    let mut coverage = Coverage::default();
     for _ in 0..1_500 {
         let table = table(&mut random, Shape::Closable);
         let n = random.between(1, 30) as usize;
         let start = messages(&mut random, &table, n);
         let log = closed(&mut random, &table, &start, 40);
-        let several = Demand3::new(&table, &start, &log).ended().into_iter().max() > Some(1);
+        let demand = Demand3::new(&table, &start, &log);
+        let (several, counted) = (demand.ended().into_iter().max() > Some(1), demand.tally());
         let (table, start, log) = (table.words(), start.words(), log_words(&log));
         let (_, serial) = serialize(&table, &start, &log);
         let in_c = in_c::serialize(&table, &start, &log, &mut vec![0; log.len()]);
         assert_eq!(in_c, [0, serial.len() as u32, 0, 0, 0]);
-        let (first, end) = run(&table, &start, &log);
-        let (again, _) = run(&table, &start, &serial);
+        let (first, end, tally) = tallied(&table, &start, &log);
+        let (again, _, serial_tally) = tallied(&table, &start, &serial);
         let begun = end[1] - start[1];
         assert_eq!([first.members(), again.members()], [begun; 2]);
+        assert_eq!([tally, serial_tally], [counted; 2]);
         let other = serial != log;
-        tally.add([("more than one", begun > 1), ("more than ten", begun > 10)]);
-        tally.add([("in another order", other && begun > 1), ("several at once", other && several)]);
+        let [_, _, committed, aborted] = tally;
+        coverage.add([("more than one", begun > 1), ("more than ten", begun > 10)]);
+        coverage.add([("in another order", other && begun > 1), ("several at once", other && several)]);
+        coverage.add([("both ends", other && committed > 0 && aborted > 0 && committed != aborted)]);
     }
-    tally.has_all(100);
+    coverage.has_all(100);
 }
 
 /// The reactions that are made while some transaction has an abort mark.

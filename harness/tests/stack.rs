@@ -9,9 +9,9 @@ use common::{header_comment, Asked};
 use harness::answer::{page_words, Answer, Page};
 use harness::generate::workloads::{fours, global_log, members, merge_log, mixed, single_moves, spread, table};
 use harness::markdown::{prose, rows};
-use harness::pairs::{Pair, CHECK_STATE, CHECK_TABLE, LIST_MOVES, MAKE_MOVE, PREVIEW, RUN, SERIALIZE};
+use harness::pairs::{self, Pair, CHECK_STATE, CHECK_TABLE, LIST_MOVES, MAKE_MOVE, PREVIEW, RUN, SERIALIZE};
 use harness::random::Random;
-use harness::words::{log_words, State, STATE_TARGET};
+use harness::words::{log_words, State};
 use harness::{plain, stack, ROOT};
 
 /// What README and the header promise to be enough.
@@ -66,8 +66,7 @@ fn on_small_stack<T: Send>(call: impl FnOnce() -> T + Send) -> T {
 fn every_call_runs_in_256_kilobytes() {
     for Call { pair: Pair { name, ours, rust }, inputs } in calls() {
         for [table, state, third] in inputs {
-            let room = STATE_TARGET.max(third.len());
-            let (mut expected, mut target) = (vec![0; room], vec![0; room]);
+            let (mut expected, mut target) = (pairs::target(&third), pairs::target(&third));
             let answer = rust(&table, &state, &third, &mut expected);
             assert_eq!(answer.number(), 0, "{name}");
             assert_eq!(on_small_stack(|| ours(&table, &state, &third, &mut target)), answer, "{name}");
@@ -85,7 +84,7 @@ fn the_stated_figures_are_the_measured_ones() {
     assert_eq!(rows.len(), calls().len());
     for (Call { pair: Pair { name, ours, .. }, inputs }, row) in calls().into_iter().zip(rows) {
         let used = |[table, state, third]: [Vec<u32>; 3]| {
-            let mut target = vec![0; STATE_TARGET.max(third.len())];
+            let mut target = pairs::target(&third);
             stack::used(|| {
                 ours(&table, &state, &third, &mut target);
             })

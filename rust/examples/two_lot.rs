@@ -37,6 +37,7 @@ fn main() -> Result<(), Refusal> {
     let mut target = [0; STATE_TARGET_WORDS];
     let end = run(table, start, log, &mut target)?;
     println!("end {:?}, {} members ended", end.state.words(), end.members);
+    println!("{:?}", end.tally);
 
     let mut target = vec![0; log_target_words(d.len())];
     let serial = serialize(table, start, log, &mut target)?;

@@ -1,5 +1,5 @@
 //! The C interface of the archive, declared once; `include/coordinator.h` says the same to C.
-use crate::{Preview, Refusal};
+use crate::{Preview, Refusal, Tally};
 
 /// Number 0: accepted, with the words written, and of a move or a run the member marks removed; else both are 0.
 /// Place and own only with 16, else 0.
@@ -75,7 +75,7 @@ impl Page {
     }
 }
 
-/// The calls that write a state or a log have one shape: table, state, move or log, target.
+/// A move and a serialize have one shape: table, state, move or log, target.
 type OnTarget = unsafe extern "C" fn(
     table: *const u32,
     table_len: usize,
@@ -88,7 +88,7 @@ type OnTarget = unsafe extern "C" fn(
 ) -> Answer;
 
 mod c {
-    use super::{Answer, Page, PreviewAnswer};
+    use super::{Answer, Page, PreviewAnswer, Tally};
 
     extern "C" {
         pub fn coordinator_check_table(table: *const u32, table_len: usize) -> Answer;
@@ -123,6 +123,7 @@ mod c {
             state_len: usize,
             log: *const u32,
             log_len: usize,
+            tally: *mut Tally,
             target: *mut u32,
             target_len: usize,
         ) -> Answer;
@@ -149,8 +150,8 @@ mod c {
     }
 }
 
-// SAFETY, of every call below: a slice is valid for its length in words, the target is borrowed
-// for writing and so overlaps none of the others, and the archive keeps no pointer.
+// SAFETY, of every call below: a slice is valid for its length in words, the target and a tally are
+// borrowed for writing and so overlap none of the others, and the archive keeps no pointer.
 
 pub fn check_table(table: &[u32]) -> Answer {
     unsafe { c::coordinator_check_table(table.as_ptr(), table.len()) }
@@ -183,8 +184,20 @@ pub fn preview(table: &[u32], state: &[u32], mv: &[u32]) -> PreviewAnswer {
     unsafe { c::coordinator_preview(table.as_ptr(), table.len(), state.as_ptr(), state.len(), mv.as_ptr(), mv.len()) }
 }
 
-pub fn run(table: &[u32], state: &[u32], log: &[u32], target: &mut [u32]) -> Answer {
-    on_target(c::coordinator_run, table, state, log, target)
+pub fn run(table: &[u32], state: &[u32], log: &[u32], tally: &mut Tally, target: &mut [u32]) -> Answer {
+    unsafe {
+        c::coordinator_run(
+            table.as_ptr(),
+            table.len(),
+            state.as_ptr(),
+            state.len(),
+            log.as_ptr(),
+            log.len(),
+            tally,
+            target.as_mut_ptr(),
+            target.len(),
+        )
+    }
 }
 
 pub fn serialize(table: &[u32], state: &[u32], log: &[u32], target: &mut [u32]) -> Answer {

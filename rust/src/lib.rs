@@ -6,7 +6,7 @@
 //! handed, and answers a [`Refusal`] with the number of document 01 or 02. [`TableBuilder`],
 //! [`StateBuilder`], [`LogBuilder`] and [`react`], [`commit`], [`abort`] write the words.
 //! [`enabled_moves`] goes through the moves that can be made, [`preview`] tells what one would do, and
-//! [`make_move`] makes it.
+//! [`make_move`] makes it; [`run`] makes a whole log and gives a [`Tally`] of it.
 //!
 //! No call allocates, keeps anything, or panics. A refused call leaves its target as it was; an
 //! accepted one leaves it as it was beyond the words that it gives back. Each call runs in a
@@ -41,6 +41,7 @@ mod log;
 mod moved;
 mod page;
 mod preview;
+mod ran;
 mod refusal;
 mod state;
 mod table;
@@ -49,6 +50,7 @@ pub use log::{abort, commit, react, Log, LogBuilder, Move};
 pub use moved::Moved;
 pub use page::{enabled_moves, EnabledMoves, Page};
 pub use preview::{preview, Preview};
+pub use ran::{Ran, Tally};
 pub use refusal::Refusal;
 pub use state::{Entry, Item, State, StateBuilder};
 pub use table::{Atom, Table, TableBuilder, Value};
@@ -110,11 +112,14 @@ pub fn make_move<'t>(
     Ok(Moved { state: State::new(&target[..words]), members })
 }
 
-/// The state after a log's moves one after another, written to the front of the target, and the member marks that
-/// all of them removed. Refusals: 1 to 4, 13, 6, and 16 with the place and own number of the move refused.
-pub fn run<'t>(table: Table<'_>, state: State<'_>, log: Log<'_>, target: &'t mut [u32]) -> Result<Moved<'t>, Refusal> {
-    let (words, members) = boundary::run(table.words(), state.words(), log.words(), target).moved()?;
-    Ok(Moved { state: State::new(&target[..words]), members })
+/// The state after a log's moves one after another, written to the front of the target, the member marks that all of
+/// them removed, and the [`Tally`] of the run, which counts from zero. A refused run has no tally, however many of its
+/// moves were accepted. Refusals: 1 to 4, 13, 6, and 16 with the place and own number of the move refused.
+pub fn run<'t>(table: Table<'_>, state: State<'_>, log: Log<'_>, target: &'t mut [u32]) -> Result<Ran<'t>, Refusal> {
+    let mut tally = Tally::default();
+    let answer = boundary::run(table.words(), state.words(), log.words(), &mut tally, target);
+    let (words, members) = answer.moved()?;
+    Ok(Ran { state: State::new(&target[..words]), members, tally })
 }
 
 /// The serial log: the same moves, each transaction's together and right before its end, written

@@ -1,7 +1,7 @@
-//! What a move or a run leaves.
+//! What a move leaves.
 use crate::State;
 
-/// The state after a move or a run, and the member marks (01: lot marks) that it removed. Later versions may tell more.
+/// The state after a move, and the member marks (01: lot marks) that it removed. Later versions may tell more.
 ///
 /// ```
 /// use coordinator::*;
@@ -20,7 +20,7 @@ use crate::State;
 pub struct Moved<'t> {
     /// The state, at the front of the target.
     pub state: State<'t>,
-    /// All member marks of each transaction that was committed or aborted; 0 where none was. A merged transaction
-    /// has several.
+    /// All member marks of the transaction that was committed or aborted; 0 for a reaction. A merged transaction has
+    /// several.
     pub members: u32,
 }

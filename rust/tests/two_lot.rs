@@ -128,11 +128,29 @@ fn a_run() {
     assert_eq!(refused, Err(Refusal::MoveRefused { place: 4, own: 10 }));
 }
 
+fn case_d() -> [[u32; MOVE_WORDS]; 6] {
+    [react(0, &[0]), react(0, &[0]), react(3, &[1]), react(3, &[3]), abort(2), abort(1)]
+}
+
+// Catches figures of a tally that are swapped or lost on the way: (a), (c), (d), and a log without moves.
+#[test]
+fn tallies() {
+    let (table, start) = (table(), start());
+    let c = [react(0, &[0]), react(0, &[0]), react(1, &[1]), react(3, &[3]), abort(2)];
+    let runs = [(&case_a()[..], [6, 2, 2, 0]), (&c, [5, 2, 0, 1]), (&case_d(), [6, 2, 0, 2]), (&[], [0; 4])];
+    let mut target = [u32::MAX; STATE_TARGET_WORDS];
+    for (moves, [made, begun, committed, aborted]) in runs {
+        let end = run(Table::new(&table), State::new(&start), Log::new(&log(moves)), &mut target).unwrap();
+        assert_eq!(end.tally, Tally { moves: made, begun, committed, aborted });
+        assert_eq!(end.members, committed + aborted);
+    }
+}
+
 // Catches a serial log that is the first log, and an empty one taken for refusal 1: (d) and (h).
 #[test]
 fn a_serial_log() {
     let (table, start) = (table(), start());
-    let d = [react(0, &[0]), react(0, &[0]), react(3, &[1]), react(3, &[3]), abort(2), abort(1)];
+    let d = case_d();
     let serial = [react(0, &[1]), react(3, &[2]), abort(1), react(0, &[0]), react(3, &[2]), abort(2)];
     let mut target = vec![0; log_target_words(d.len())];
     let made = serialize(Table::new(&table), State::new(&start), Log::new(&log(&d)), &mut target).unwrap();
@@ -190,6 +208,8 @@ fn members_of_moves_and_runs() {
     let log = log(&moves.map(|(mv, _)| mv));
     let end = run(table, State::new(&start), Log::new(&log), &mut target).unwrap();
     assert_eq!((end.state.words(), end.members), (&state[..], 4));
+    // All were open at the start.
+    assert_eq!(end.tally, Tally { moves: 3, begun: 0, committed: 1, aborted: 3 });
     assert_eq!(run(table, State::new(&start), Log::new(&[0]), &mut target).unwrap().members, 0);
 }
 

@@ -1,6 +1,6 @@
 // The public calls for C and Rust: the archive of this crate is the one that buyers link.
 ghost use mathlib.Core.Path.{_≡_};
-ghost use Rattle.semantics.specs.Answers.{checkTable, checkState, makeMove, makeMoveTarget, previewMove, listMoves, listMovesTarget, runLog, runLogTarget, serialize, serializeTarget};
+ghost use Rattle.semantics.specs.Answers.{checkTable, checkState, makeMove, makeMoveTarget, previewMove, listMoves, listMovesTarget, runLog, runLogTarget, runLogTally, serialize, serializeTarget};
 use answers::answer_of;
 use answers::page_of;
 use answers::preview_of;
@@ -65,12 +65,15 @@ pub extern "C" fn coordinator_run<'a>(
     table: &'a [u32],
     state: &'a [u32],
     log: &'a [u32],
+    tally: &mut [u32; 4],
     target: &mut [u32],
 ) -> Answer
     ensures answer { λ r. ⌜ r ≡ runLog (now (table .entry)) (now (state .entry)) (now (log .entry)) (now (target .entry)) ⌝ }
     ensures contents { λ _. ⌜ now (target .exit) ≡ runLogTarget (now (table .entry)) (now (state .entry)) (now (log .entry)) (now (target .entry)) ⌝ }
+    ensures counts { λ _. ⌜ now (tally .exit)
+        ≡ runLogTally (now (table .entry)) (now (state .entry)) (now (log .entry)) (now (target .entry)) (now (tally .entry)) ⌝ }
 {
-    answer_of(calls::run(table, state, log, target))
+    answer_of(calls::run(table, state, log, tally, target))
 }
 
 #[no_mangle]

@@ -48,6 +48,11 @@ module _ {A : Type 0} where
   countIf p [] = 0
   countIf p (x ∷ xs) = oneIf (p x) + countIf p xs
 
+  -- the sum of f over the elements
+  abbrev pub total : (A → ℕ) → List A → ℕ
+  total f [] = 0
+  total f (x ∷ xs) = f x + total f xs
+
   -- no element's key is below that of the one before it, and the first's is at least m
   abbrev pub risesFrom : ℕ → (A → ℕ) → List A → Bool
   risesFrom m key [] = true

@@ -1,5 +1,5 @@
 pub mod Runs
 pub mod Fold
-pub mod Sums
+pub mod Tallies
 pub mod Lines
 pub mod Whole

@@ -11,6 +11,7 @@ use Rattle.semantics.specs.Move.{unless, firstFault, Move, moveOk, moveO
 use Rattle.semantics.specs.Log.{moveCount, movesOf, logSizesOk, logWords, Ran, completed, stopped, run}
 use Rattle.semantics.specs.Members.{membersEnded, membersAlong}
 use Rattle.semantics.specs.Serial.{beginsEmit, anyOpen, serial, serialFits}
+use Rattle.semantics.specs.Tally.{noMoves, tallyAlong, tallyWords}
 use Rattle.semantics.specs.Enabled.{enabled, moveWords, pageCount, pageOf}
 use Rattle.semantics.specs.Preview.{previewed}
 use Rattle.semantics.specs.declared.Refusal.{Refusal}
@@ -22,6 +23,7 @@ use Rattle.semantics.specs.declared.Verdict.the-variants.{Allowed, Denie
 use Rattle.semantics.specs.declared.Outcome.{Outcome}
 use Rattle.semantics.specs.declared.Outcome.the-variants.{Passed, Written, Moved, Refused, MoveRefused}
 use Rattle.semantics.specs.declared.Answer.{Answer}
+use Rattle.semantics.specs.declared.Tally.{Tally}
 use Rattle.semantics.specs.declared.Page.{Page}
 use Rattle.semantics.specs.declared.Listed.{Listed}
 use Rattle.semantics.specs.declared.Preview.{Preview}
@@ -185,6 +187,20 @@ runLog t s l target = answerOf (outcomeOf (runResult lineCeiling t s l target))
 
 unfoldable pub runLogTarget : List ℕ → List ℕ → List ℕ → List ℕ → List ℕ
 runLogTarget t s l target = targetAfter (runResult lineCeiling t s l target) target
+
+-- the tally of a run, from zero (02, M-125)
+abbrev pub runTally : ℕ → List ℕ → List ℕ → List ℕ → Tally
+runTally ceiling t s l = tallyAlong ceiling (tableOf t) 0 (stateOf s) (movesOf l) noMoves
+
+-- the four words of the caller's tally: an accepted run puts its own in their place, and a refused one leaves them (no run comes to `write`)
+abbrev pub tallyAfter : Result → Tally → List ℕ → List ℕ
+tallyAfter (write ws) y words = words
+tallyAfter (leave ws k) y words = tallyWords y
+tallyAfter (refuse r) y words = words
+tallyAfter (refuseMove i r) y words = words
+
+unfoldable pub runLogTally : List ℕ → List ℕ → List ℕ → List ℕ → List ℕ → List ℕ
+runLogTally t s l target words = tallyAfter (runResult lineCeiling t s l target) (runTally lineCeiling t s l) words
 
 -- ---- the serial log
 

@@ -5,6 +5,7 @@ pub mod Move
 pub mod Log
 pub mod Members
 pub mod Serial
+pub mod Tally
 pub mod Enabled
 pub mod Preview
 pub mod Answers
@@ -14,5 +15,6 @@ pub mod AbortingCases
 pub mod ListCases
 pub mod PreviewCases
 pub mod MemberCases
+pub mod TallyCases
 pub mod Program
 pub mod ProgramCases

@@ -85,7 +85,7 @@ plantMembers =
     ∷ []
 
 -- a begin, a merge of four that emits one, and a merge of four that asks for an abort
-pub joinFour : List ℕ
+unfoldable pub joinFour : List ℕ
 joinFour =
     1 ∷ 0 ∷ 1 ∷ 3 ∷ 13
     ∷ 0 ∷ 0 ∷ 0 ∷ 1 ∷ 1 ∷ 1 ∷ 1 ∷ 1 ∷ 2 ∷ 2 ∷ 2 ∷ 2 ∷ 2
@@ -94,15 +94,15 @@ joinFour =
     ∷ 0x00010000 ∷ 0x00010000 ∷ 0x00010000 ∷ 0x00010000 ∷ 0x50000000
     ∷ []
 
-pub fourMessages : List ℕ
+unfoldable pub fourMessages : List ℕ
 fourMessages = 4 ∷ 1 ∷ 0 ∷ 0 ∷ 0 ∷ 0 ∷ 1 ∷ 2 ∷ 3 ∷ 4 ∷ []
 
 -- four begun, and merged by rule r in this order
-abbrev joined : ℕ → List (List ℕ)
+abbrev pub joined : ℕ → List (List ℕ)
 joined r = rule1 0 0 ∷ rule1 0 0 ∷ rule1 0 0 ∷ rule1 0 0 ∷ (r ∷ 7 ∷ 1 ∷ 5 ∷ 3 ∷ []) ∷ []
 
 -- open at the start: one transaction of four members under the smallest of their ids, and one of another
-pub fourOpen : List ℕ
+unfoldable pub fourOpen : List ℕ
 fourOpen = 6 ∷ 9 ∷ 3 ∷ 3 ∷ 2 ∷ 3 ∷ 0 ∷ 3 ∷ 0x03000005 ∷ 0x03000003 ∷ 0x03000002 ∷ 0x03000008 ∷ 0x00000001 ∷ 0x03000007 ∷ []
 
 pub oddMembers : List Counted

@@ -48,6 +48,15 @@ pub struct Answer {
     pub members: u32,
 }
 
+// The tally of a run (02, M-125), as four words in this order: moves made, and members (01's lots) begun,
+// committed and aborted (opened, released and called off).
+pub struct Tally {
+    pub moves: u32,
+    pub begun: u32,
+    pub committed: u32,
+    pub aborted: u32,
+}
+
 // What the list of open moves says: words of a page written, or why not, and the length of the whole
 // list.
 pub struct Listed {

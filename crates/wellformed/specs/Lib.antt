@@ -14,6 +14,7 @@ pub mod Step
 pub mod Bare
 pub mod RoundTrip
 pub mod Conserved
+pub mod History
 pub mod Held
 pub mod Results
 pub mod MoveKeeps
@@ -23,4 +24,5 @@ pub mod Unmarked
 pub mod RunKeeps
 pub mod Calls
 pub mod Removes
+pub mod RunTally
 pub mod AsMove

@@ -31,8 +31,8 @@ ranResult-refuse : (n : ℕ) (x : Ran) (i : ℕ) (r : Refusal) → ranResult n x
 ranResult-refuse n (completed s) i r h = absurd (let z : _≡_ {A = ℕ} 0 1 = cc in omega arith)
 ranResult-refuse n (stopped j q) i r h = cc
 
-unlessDenied-refuse : (v : Verdict) (x : Result) (i : ℕ) (r : Refusal) → unlessDenied v x ≡ refuseMove i r → x ≡ refuseMove i r
-unlessDenied-refuse Allowed x i r h = h
+unlessDenied-refuse : (v : Verdict) (x : Result) (i : ℕ) (r : Refusal) → unlessDenied v x ≡ refuseMove i r → (v ≡ Allowed) × (x ≡ refuseMove i r)
+unlessDenied-refuse Allowed x i r h = (refl, h)
 unlessDenied-refuse (Denied q) x i r h = absurd (let z : _≡_ {A = ℕ} 0 1 = cc in omega arith)
 
 -- an accepted run leaves a state's words
@@ -80,12 +80,19 @@ run-keeps ceiling c T S L target ws k h =
       ap (λ (r : Result). answerOf (outcomeOf r) .words) h,
     )
 
+-- what a run that breaks off has passed, and where it stops
+pub run-stops : (ceiling : ℕ) (T S L target : List ℕ) (i : ℕ) (r : Refusal) → runResult ceiling T S L target ≡ refuseMove i r
+    → (stateVerdict T S ≡ Allowed) × (runOf ceiling T S L ≡ stopped i r)
+unfolding runResult logVerdict
+run-stops ceiling T S L target i r h =
+    let n = runMembers ceiling T S L in
+    let (v, x) = unlessDenied-refuse (both (logVerdict T S L) (hasWords 2050 target)) (ranResult n (runOf ceiling T S L)) i r h in
+    let log = both-allowed (logVerdict T S L) (hasWords 2050 target) v .0 in
+    (both-allowed (stateVerdict T S) (unless (logSizesOk L) LogSizes) log .0, ranResult-refuse n (runOf ceiling T S L) i r x)
+
 pub run-refused : (ceiling : ℕ) (T S L target : List ℕ) (i : ℕ) (r : Refusal) → runResult ceiling T S L target ≡ refuseMove i r → OwnNumber (number r)
-unfolding runResult
 run-refused ceiling T S L target i r h =
-    stopped-number ceiling (tableOf T) 0 (stateOf S) (movesOf L) i r
-    (ranResult-refuse (runMembers ceiling T S L) (runOf ceiling T S L) i r
-    (unlessDenied-refuse (both (logVerdict T S L) (hasWords 2050 target)) (ranResult (runMembers ceiling T S L) (runOf ceiling T S L)) i r h))
+    stopped-number ceiling (tableOf T) 0 (stateOf S) (movesOf L) i r (run-stops ceiling T S L target i r h .1)
 
 -- so have single calls one after another: no later one is refused for its table, its state or its target (1 to 4, 6)
 pub one-by-one-refused : (ceiling : ℕ) → ceiling ≤ 1024 → (T S target : List ℕ) → stateVerdict T S ≡ Allowed → 2050 ≤ length target

@@ -10,11 +10,11 @@ use harness::answer::{page_words, preview_on_target, OnTarget};
 use harness::generate::workloads::{
     fours, global_log, members, merge_log, messages, mixed, single_moves, spread, table,
 };
-use harness::pairs::{Pair, CHECK_STATE, CHECK_TABLE, LIST_MOVES, MAKE_MOVE, PREVIEW, RUN, SERIALIZE};
+use harness::pairs::{self, Pair, CHECK_STATE, CHECK_TABLE, LIST_MOVES, MAKE_MOVE, PREVIEW, RUN, SERIALIZE};
 use harness::plain;
 use harness::random::Random;
 use harness::stack;
-use harness::words::{log_words, Move, State, Table, STATE_TARGET};
+use harness::words::{log_words, Move, State, Table};
 
 /// So many logs are taken in turn: the times of one log again and again do not grow steadily with its moves. For the
 /// list so many states.
@@ -173,9 +173,10 @@ impl<'a> Words<'a> {
         Words { table: table.words(), inputs }
     }
 
-    /// A target that is long enough for every call.
+    /// A target that is long enough for each input.
     fn target(&self) -> Vec<u32> {
-        vec![0; self.inputs.iter().map(|(_, third)| third.len()).fold(STATE_TARGET, usize::max)]
+        let longest = self.inputs.iter().max_by_key(|(_, third)| third.len());
+        pairs::target(longest.expect("an input").1)
     }
 
     /// Both accept each input with the same answer and target.

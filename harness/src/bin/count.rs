@@ -7,9 +7,9 @@ use std::io::{stdout, Write};
 
 use harness::answer::page_words;
 use harness::generate::workloads::{fours, global_log, merge_log, single_moves, spread, table};
-use harness::pairs::{Pair, LIST_MOVES, MAKE_MOVE, PREVIEW, RUN, SERIALIZE};
+use harness::pairs::{self, Pair, LIST_MOVES, MAKE_MOVE, PREVIEW, RUN, SERIALIZE};
 use harness::random::Random;
-use harness::words::{log_words, STATE_TARGET};
+use harness::words::log_words;
 use harness::{plain, program};
 
 const CALLS: usize = 10;
@@ -82,7 +82,7 @@ fn main() {
         return stdout().write_all(&input(kind, entries, moves)).unwrap();
     }
     let (pair, [table, state, third]) = measured(call, kind, entries, moves);
-    let mut target = vec![0; STATE_TARGET.max(third.len())];
+    let mut target = pairs::target(&third);
     for call in [pair.ours, pair.rust] {
         for _ in 0..CALLS {
             let answer = black_box(call)(&table, &state, &third, &mut target);

@@ -3,7 +3,8 @@ use super::colours;
 use super::definitions::{Definitions, Product};
 use super::list::Tried;
 use super::ordered::{Made, Ordered};
-use crate::answer::{Answer, Page, Preview};
+use super::tally;
+use crate::answer::{Answer, Page, Preview, Tally};
 use crate::words::{
     log_from_words, log_words, page_target, Move, MAX_ENTRIES, MAX_MOVES, MAX_PAGE_MOVES, STATE_TARGET,
 };
@@ -69,7 +70,7 @@ fn follow(definitions: &Definitions, mut ordered: Ordered, log: &[Move]) -> Resu
     Ok((history, ordered))
 }
 
-pub fn run(table: &[u32], state: &[u32], log: &[u32], target: &mut [u32]) -> Answer {
+pub fn run(table: &[u32], state: &[u32], log: &[u32], tally: &mut Tally, target: &mut [u32]) -> Answer {
     let end = || {
         let (definitions, start, log) = read(table, state, log)?;
         if target.len() < STATE_TARGET {
@@ -78,7 +79,10 @@ pub fn run(table: &[u32], state: &[u32], log: &[u32], target: &mut [u32]) -> Ans
         follow(&definitions, start, &log)
     };
     match end() {
-        Ok((history, end)) => write(&end, history.iter().map(Made::members).sum(), target),
+        Ok((history, end)) => {
+            *tally = tally::tally(&history);
+            write(&end, history.iter().map(Made::members).sum(), target)
+        }
         Err(answer) => answer,
     }
 }

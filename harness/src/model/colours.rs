@@ -55,11 +55,7 @@ pub fn serial(definitions: &Definitions, mut ordered: Ordered, history: &[Made],
                     |name| ordered.order.iter().position(|other| other == name).expect("the same molecule") as u32;
                 let picks: Vec<u32> = names.iter().map(place_of).collect();
                 serial.push(Move::react(*rule as u32, &picks));
-                let again = ordered.fire(definitions, *rule, names.clone(), place).expect("fires again");
-                if let Made::Fired { fired, .. } = again {
-                    // A begin leaves a transaction without having been made in one.
-                    begun.extend(fired.left_in.filter(|_| fired.scopes.is_empty()));
-                }
+                begun.extend(ordered.fire(definitions, *rule, names.clone(), place).expect("fires again").begun());
             }
             Made::Ended { kind, .. } => {
                 // The smallest id that the begins of this block now got.

@@ -28,6 +28,14 @@ impl Made {
             Made::Ended { ended, .. } => ended.members.len() as u32,
         }
     }
+
+    /// The transaction that began, if one did: the move was made in none and left one.
+    pub fn begun(&self) -> Option<u32> {
+        match self {
+            Made::Fired { fired, .. } => fired.left_in.filter(|_| fired.scopes.is_empty()),
+            Made::Ended { .. } => None,
+        }
+    }
 }
 
 impl Ordered {

@@ -1,6 +1,6 @@
 /*
- * 01's cases (a) to (h) on the two-lot plant, the previews and lists of its moves, and a transaction with an
- * abort mark, through the header. Prints what fails, and how many.
+ * 01's cases (a) to (h) on the two-lot plant, the tallies of its runs, the previews and lists of its moves, and a
+ * transaction with an abort mark, through the header. Prints what fails, and how many.
  */
 #include "coordinator.h"
 
@@ -287,11 +287,57 @@ static size_t log_of(const mv *list, size_t count)
     return COORDINATOR_LOG_WORDS(count);
 }
 
-static coordinator_answer run(size_t log_len, size_t room)
+/* Four words in this order, and nothing between or behind them. */
+_Static_assert(offsetof(coordinator_tally, moves) == 0, "moves");
+_Static_assert(offsetof(coordinator_tally, begun) == 4, "begun");
+_Static_assert(offsetof(coordinator_tally, committed) == 8, "committed");
+_Static_assert(offsetof(coordinator_tally, aborted) == 12, "aborted");
+_Static_assert(sizeof(coordinator_tally) == 16, "a tally");
+
+/* Tallies in a row: runs get the middle one, and touch neither the words before nor those behind. */
+static coordinator_tally tallies[3];
+static coordinator_tally *const tally = &tallies[1];
+
+static const coordinator_tally untouched = {UNTOUCHED, UNTOUCHED, UNTOUCHED, UNTOUCHED};
+static const coordinator_tally none = {0, 0, 0, 0};
+
+static void hand_in(coordinator_tally before)
+{
+    tallies[0] = tallies[2] = untouched;
+    *tally = before;
+}
+
+static void expect_tally(const char *what, coordinator_tally expected)
+{
+    if (memcmp(tally, &expected, sizeof expected) != 0) {
+        printf("%s: tally %u %u %u %u, not %u %u %u %u\n", what, (unsigned)tally->moves, (unsigned)tally->begun,
+               (unsigned)tally->committed, (unsigned)tally->aborted, (unsigned)expected.moves, (unsigned)expected.begun,
+               (unsigned)expected.committed, (unsigned)expected.aborted);
+        failures++;
+    }
+    if (memcmp(&tallies[0], &untouched, sizeof untouched) != 0 ||
+        memcmp(&tallies[2], &untouched, sizeof untouched) != 0) {
+        printf("%s: a word beside the tally is touched\n", what);
+        failures++;
+    }
+}
+
+/* A run with the tally as the last one left it. */
+static coordinator_answer run_on(size_t log_len, size_t room)
 {
     clear();
-    return coordinator_run(table, LENGTH(table), start, LENGTH(start), log_words, log_len, target, room);
+    return coordinator_run(table, LENGTH(table), start, LENGTH(start), log_words, log_len, tally, target, room);
 }
+
+static coordinator_answer run(size_t log_len, size_t room)
+{
+    hand_in(untouched);
+    return run_on(log_len, room);
+}
+
+static const coordinator_tally tally_a = {6, 2, 2, 0};
+static const coordinator_tally tally_c = {5, 2, 0, 1};
+static const coordinator_tally tally_d = {6, 2, 0, 2};
 
 static void by_runs(void)
 {
@@ -299,12 +345,15 @@ static void by_runs(void)
     expect_members("(a)", run(log_of(case_a, LENGTH(case_a)), COORDINATOR_STATE_TARGET_WORDS), COORDINATOR_ACCEPTED,
                    LENGTH(end_a), 0, 0, 2);
     expect_target("(a)", end_a, LENGTH(end_a));
+    expect_tally("(a)", tally_a);
     expect_members("(c)", run(log_of(case_c, LENGTH(case_c)), COORDINATOR_STATE_TARGET_WORDS), COORDINATOR_ACCEPTED,
                    LENGTH(end_c), 0, 0, 1);
     expect_target("(c)", end_c, LENGTH(end_c));
+    expect_tally("(c)", tally_c);
     expect_members("(d)", run(log_of(case_d, LENGTH(case_d)), COORDINATOR_STATE_TARGET_WORDS), COORDINATOR_ACCEPTED,
                    LENGTH(end_d), 0, 0, 2);
     expect_target("(d)", end_d, LENGTH(end_d));
+    expect_tally("(d)", tally_d);
     for (at = 0; at < LENGTH(refused); at++) {
         mv list[LENGTH(case_a)];
         memcpy(list, case_a, sizeof case_a);
@@ -312,6 +361,7 @@ static void by_runs(void)
         expect(refused[at].name, run(log_of((const mv *)list, refused[at].moves + 1), COORDINATOR_STATE_TARGET_WORDS),
                COORDINATOR_MOVE_REFUSED, 0, (uint32_t)refused[at].moves, refused[at].number);
         expect_target(refused[at].name, NULL, 0);
+        expect_tally(refused[at].name, untouched);
     }
     {
         /* All of (a), its end included, and then a move that is refused. */
@@ -322,11 +372,53 @@ static void by_runs(void)
                run(log_of((const mv *)list, LENGTH(list)), COORDINATOR_STATE_TARGET_WORDS), COORDINATOR_MOVE_REFUSED, 0,
                LENGTH(case_a), COORDINATOR_NO_TRANSACTION);
         expect_target("a refused move behind an end", NULL, 0);
+        expect_tally("a refused move behind an end", untouched);
     }
     expect("a short log", run(log_of(case_a, LENGTH(case_a)) - 1, COORDINATOR_STATE_TARGET_WORDS),
            COORDINATOR_LOG_SIZES, 0, 0, 0);
+    expect_tally("a short log", untouched);
     expect("a short target", run(log_of(case_a, LENGTH(case_a)), COORDINATOR_STATE_TARGET_WORDS - 1),
            COORDINATOR_TARGET_TOO_SHORT, 0, 0, 0);
+    expect_tally("a short target", untouched);
+}
+
+/* One caller's tally through several runs: replaced by the accepted ones, left by the others. */
+static void by_tallies(void)
+{
+    hand_in(untouched);
+    run_on(log_of(case_d, LENGTH(case_d)), COORDINATOR_STATE_TARGET_WORDS);
+    expect_tally("(d) first", tally_d);
+    run_on(log_of(case_a, LENGTH(case_a)), COORDINATOR_STATE_TARGET_WORDS);
+    expect_tally("(a) after (d)", tally_a);
+    run_on(log_of(case_a, LENGTH(case_a)), COORDINATOR_STATE_TARGET_WORDS);
+    expect_tally("(a) after (a)", tally_a);
+    run_on(log_of(case_c, LENGTH(case_c)) - 1, COORDINATOR_STATE_TARGET_WORDS);
+    expect_tally("a short log after (a)", tally_a);
+    run_on(log_of(case_c, LENGTH(case_c)), COORDINATOR_STATE_TARGET_WORDS);
+    expect_tally("(c) after (a)", tally_c);
+    expect("(h)", run_on(log_of(NULL, 0), COORDINATOR_STATE_TARGET_WORDS), COORDINATOR_ACCEPTED, LENGTH(start), 0, 0);
+    expect_target("(h)", start, LENGTH(start));
+    expect_tally("(h) after (c)", none);
+    hand_in(untouched);
+    expect("no table", coordinator_run(NULL, 0, NULL, 0, NULL, 0, tally, NULL, 0), COORDINATOR_TABLE_SIZES, 0, 0, 0);
+    expect_tally("no table", untouched);
+    expect("no state", coordinator_run(table, LENGTH(table), NULL, 0, NULL, 0, tally, NULL, 0),
+           COORDINATOR_STATE_SIZES, 0, 0, 0);
+    expect_tally("no state", untouched);
+    {
+        /* Open at the start: two members in one transaction. They end, and none begins. */
+        static const uint32_t merged[COORDINATOR_STATE_WORDS(2)] = {2, 9, 4, 4, 0x03000008, 0x03000004};
+        static const uint32_t end[] = {0, 9};
+        static const coordinator_tally expected = {1, 0, 2, 0};
+        static const mv commit[] = {{COMMIT(4)}};
+        clear();
+        expect_members("two open at the start",
+                       coordinator_run(table, LENGTH(table), merged, LENGTH(merged), log_words, log_of(commit, 1),
+                                       tally, target, COORDINATOR_STATE_TARGET_WORDS),
+                       COORDINATOR_ACCEPTED, LENGTH(end), 0, 0, 2);
+        expect_target("two open at the start", end, LENGTH(end));
+        expect_tally("two open at the start", expected);
+    }
 }
 
 static coordinator_answer serialize(size_t log_len, size_t room)
@@ -348,12 +440,13 @@ static void by_serial_logs(void)
     expect("(d)", serialize(len, len), COORDINATOR_ACCEPTED, LENGTH(serial), 0, 0);
     expect_target("(d)", serial, LENGTH(serial));
     {
-        /* The serial log ends as many. */
+        /* The serial log ends as many, with the same tally. */
         static const uint32_t end[] = {2, 3, 0, 0, 0x00000009, 0x00000007};
         memcpy(log_words, serial, sizeof serial);
         expect_members("the serial log of (d)", run(LENGTH(serial), COORDINATOR_STATE_TARGET_WORDS),
                        COORDINATOR_ACCEPTED, LENGTH(end), 0, 0, 2);
         expect_target("the serial log of (d)", end, LENGTH(end));
+        expect_tally("the serial log of (d)", tally_d);
         log_of(case_d, LENGTH(case_d));
     }
     expect("a short target", serialize(len, len - 1), COORDINATOR_TARGET_TOO_SHORT, 0, 0, 0);
@@ -452,14 +545,16 @@ static void by_abort_mark(void)
     static const uint32_t end[] = {4, 3, 1, 1, 0, 1, 0x03000001, 0x01000007, 0x00000009, 0x00030007};
     static const mv list[] = {{2, 4, 6}, {ABORT(2)}};
     clear();
+    hand_in(untouched);
     expect("a merge with an abort mark",
            coordinator_move(table, LENGTH(table), stopped, LENGTH(stopped), list[0], COORDINATOR_MOVE_WORDS, target,
                             COORDINATOR_STATE_TARGET_WORDS),
            COORDINATOR_TRANSACTION_ABORTING, 0, 0, 0);
     expect("the same in a run",
            coordinator_run(table, LENGTH(table), stopped, LENGTH(stopped), log_words, log_of(list, LENGTH(list)),
-                           target, COORDINATOR_STATE_TARGET_WORDS),
+                           tally, target, COORDINATOR_STATE_TARGET_WORDS),
            COORDINATOR_MOVE_REFUSED, 0, 0, COORDINATOR_TRANSACTION_ABORTING);
+    expect_tally("the same in a run", untouched);
     expect_target("a merge with an abort mark", NULL, 0);
     expect_preview("a preview of that merge",
                    coordinator_preview(table, LENGTH(table), stopped, LENGTH(stopped), list[0], COORDINATOR_MOVE_WORDS),
@@ -488,6 +583,7 @@ int main(void)
     by_previews();
     by_odd_previews();
     by_runs();
+    by_tallies();
     by_serial_logs();
     by_lists();
     by_abort_mark();

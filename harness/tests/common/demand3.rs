@@ -2,6 +2,7 @@
 //! decoding of words with the implementations, and trusts that the log's moves are allowed.
 use std::collections::{BTreeMap, BTreeSet};
 
+use harness::answer::Tally;
 use harness::words::{act, kind, mode, role, Entry, Move, State, Table};
 
 /// (0, place at the start), or (place of the move in the first log + 1, place among products).
@@ -168,6 +169,16 @@ impl<'a> Demand3<'a> {
     pub fn ended(&self) -> Vec<u32> {
         let ends = (0..self.log.len()).filter(|&place| self.is_end(place));
         ends.map(|place| self.concerned[place].len() as u32).collect()
+    }
+
+    /// The tally of its run: a member is known by the place of its begin, and counted by its end.
+    pub fn tally(&self) -> Tally {
+        let ended = |kind: u32| {
+            let ends = (0..self.log.len()).filter(|&place| self.log[place].kind == kind);
+            ends.flat_map(|place| &self.concerned[place]).collect::<BTreeSet<_>>().len()
+        };
+        let begun = (0..self.log.len()).filter(|&place| !self.is_end(place) && self.concerned[place].contains(&place));
+        [self.log.len(), begun.count(), ended(act::COMMIT), ended(act::ABORT)].map(|count| count as u32)
     }
 
     /// The most entries that any state along the serial log holds. A move changes the number of

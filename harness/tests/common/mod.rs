@@ -9,7 +9,8 @@ use std::fs;
 use std::hint::black_box;
 use std::path::Path;
 
-use harness::answer::{order, Answer, OnMove, OnPage, OnTarget, Page, Preview};
+use harness::answer::{order, Answer, OnMove, OnPage, OnTally, OnTarget, Page, Preview, Tally};
+use harness::random::Random;
 use harness::two_lot;
 use harness::words::{act, kind, page_target, role, Atom, Entry, Move, State, Table};
 use harness::{in_c, library, model, plain, ROOT};
@@ -26,7 +27,7 @@ pub struct Calls {
 pub const MAKE_MOVE: Calls =
     Calls { all: [model::make_move, plain::make_move, library::make_move], in_c: in_c::make_move };
 pub const PREVIEW: [OnMove; 3] = [model::preview, plain::preview, library::preview];
-pub const RUN: Calls = Calls { all: [model::run, plain::run, library::run], in_c: in_c::run };
+pub const RUN: [OnTally; 3] = [model::run, plain::run, library::run];
 pub const SERIALIZE: Calls =
     Calls { all: [model::serialize, plain::serialize, library::serialize], in_c: in_c::serialize };
 pub const LIST_MOVES: [OnPage; 3] = [model::list_moves, plain::list_moves, library::list_moves];
@@ -153,8 +154,69 @@ pub fn make_move(table: &[u32], state: &[u32], mv: &[u32]) -> (Answer, Vec<u32>)
     on_target(MAKE_MOVE, [table, state, mv], 2_050)
 }
 
+/// A run whose caller hands in this tally: the one answer of all implementations, the words it counts, and the tally
+/// afterwards. Fails also if C gets another answer or tally, if a refusal changes the tally, or if an accepted run's is
+/// not that of the words.
+pub fn on_tally(lists: [&[u32]; 3], handed_in: Tally, room: usize) -> (Answer, Vec<u32>, Tally) {
+    let [table, state, log] = lists;
+    let call = |which: usize, target: &mut [u32]| {
+        let mut tally = handed_in;
+        let answer = RUN[which](table, state, log, &mut tally, target);
+        (answer, tally)
+    };
+    let input = || format!("tally {handed_in:x?}; {}", shown(&[("table", table), ("state", state), ("log", log)]));
+    let ((answer, tally), words) = on_room(&NAMES, call, |(answer, _)| answer, room, input);
+    let mut in_c_tally = handed_in;
+    let in_c = in_c::run(table, state, log, &mut in_c_tally, &mut vec![0; room]);
+    assert_eq!((in_c, in_c_tally), (answer.in_c(), tally), "in C for {}", input());
+    if answer.number() != 0 {
+        assert_eq!(tally, handed_in, "a refusal changes the tally, {}", input());
+    } else {
+        let (stated, found) = from_words(state, log, answer, &words, tally);
+        assert_eq!(stated, found, "{tally:?} for {}", input());
+    }
+    (answer, words, tally)
+}
+
+/// What an accepted run's tally states, and the same from words alone: the log's count, the ids given out, the members
+/// of the answer, the marks of the start and those begun beside the marks gone and those left, and whether anything was
+/// committed or aborted.
+fn from_words(state: &[u32], log: &[u32], answer: Answer, end: &[u32], tally: Tally) -> ([u32; 6], [u32; 6]) {
+    let [moves, begun, committed, aborted] = tally;
+    let marks = |state: &[u32]| mark_owners(state).count() as u32;
+    let ended = committed.wrapping_add(aborted);
+    let has = |kind: u32| log[1..=log[0] as usize].iter().any(|head| head >> 24 == kind);
+    let stated = [moves, begun, ended, marks(state).wrapping_add(begun), (committed > 0).into(), (aborted > 0).into()];
+    let balance = ended.wrapping_add(marks(end));
+    let found = [log[0], end[1] - state[1], answer.members(), balance, has(act::COMMIT).into(), has(act::ABORT).into()];
+    (stated, found)
+}
+
+/// A tally that no run left, another one for other input; often all its bits are set.
+pub fn garbage(lists: [&[u32]; 3], room: usize) -> Tally {
+    let mix = |seed: u64, &word: &u32| (seed ^ u64::from(word)).wrapping_mul(0x0100_0000_01B3);
+    let mut random = Random::new(lists.concat().iter().fold(room as u64, mix));
+    match random.below(3) {
+        0 => [u32::MAX; 4],
+        1 => [(); 4].map(|()| random.edge_word()),
+        _ => [(); 4].map(|()| random.word()),
+    }
+}
+
+/// A run with garbage for a tally, and a target of so many words.
+pub fn run_in(lists: [&[u32]; 3], room: usize) -> (Answer, Vec<u32>, Tally) {
+    on_tally(lists, garbage(lists, room), room)
+}
+
+/// .. with a target that is just long enough.
+pub fn tallied(table: &[u32], state: &[u32], log: &[u32]) -> (Answer, Vec<u32>, Tally) {
+    run_in([table, state, log], 2_050)
+}
+
+/// .. whose tally is of no matter.
 pub fn run(table: &[u32], state: &[u32], log: &[u32]) -> (Answer, Vec<u32>) {
-    on_target(RUN, [table, state, log], 2_050)
+    let (answer, words, _) = tallied(table, state, log);
+    (answer, words)
 }
 
 pub fn serialize(table: &[u32], state: &[u32], log: &[u32]) -> (Answer, Vec<u32>) {

@@ -22,18 +22,22 @@ run-log-requires c κs =
 -- the start's extent would fit as well, so that code which stores it fails on what it answers
 store-reached-requires : tie.Need-store-reached-requires
 store-reached-requires c κs =
-    let ran = c .before .before .before .before in
+    let ran = c .before .before .before .before .before .before .before in
     let w = ran .run-log .ensures .ran .workable in
+    let few = ran .run-log .ensures .few in
     let p = ran .before .before .before .before .before .before .before .before .before .before .before .before .before .before .before .before .pre in
     let loaded = ran .before .before .before .before .load .ensures .holds .fits in (
-      record { owners = w .arrays .owners; items = w .arrays .items; fits = omega (arith, w .bounds .fits, loaded) },
-      omega (arith, w .bounds .fits, loaded, p .room),
+      (
+        record { owners = w .arrays .owners; items = w .arrays .items; fits = omega (arith, w .bounds .fits, loaded) },
+        omega (arith, w .bounds .fits, loaded, p .room),
+      ),
+      omega (arith, few .committed, few .aborted),
     )
 
 returns : tie.Need-returns
 returns c =
-    let ran = c .before .before .before .before .before .before .before in
-    ran-to _ _ _ _ (ran .before .before .before .before .load .ensures) (ran .run-log .ensures) (c .before .before .store-reached .ensures _)
+    let ran = c .before .before .before .before .before .before .before .before .before .before in
+    ran-to _ _ _ _ _ (ran .before .before .before .before .load .ensures) (ran .run-log .ensures) (c .before .before .store-reached .ensures _)
 
 pub run-and-store-spec : {M : Type 1} → statement M
 run-and-store-spec =

@@ -3,9 +3,9 @@ use std::collections::BTreeMap;
 
 /// How often each thing was met, by what it is.
 #[derive(Debug, Default)]
-pub struct Tally(BTreeMap<&'static str, usize>);
+pub struct Coverage(BTreeMap<&'static str, usize>);
 
-impl Tally {
+impl Coverage {
     pub fn add(&mut self, met: impl IntoIterator<Item = (&'static str, bool)>) {
         for (what, holds) in met {
             *self.0.entry(what).or_default() += usize::from(holds);

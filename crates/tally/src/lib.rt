@@ -1,0 +1,46 @@
+// The tally of a run: what an accepted move changes in it, and its words for the caller.
+ghost use Prim.Native.Nat.{_≤_};
+ghost use mathlib.Core.Path.{_≡_};
+ghost use mathlib.Core.Bool.{cond};
+ghost use Rattle.semantics.specs.Tally.{tallyWords};
+ghost use Rattle.tally.specs.Counted.{counted as countedOf, movedOn, Room, MoveRoom};
+use semantics::Tally;
+use words::head::COMMIT;
+
+// One move more, which begins, commits and aborts so many members.
+fn counted(tally: Tally, begun: u32, committed: u32, aborted: u32) -> Tally
+    requires { ⌜ Room tally begun committed aborted ⌝ }
+    ensures { λ r. ⌜ r ≡ countedOf tally begun committed aborted ⌝ }
+{
+    Tally {
+        moves: tally.moves + 1,
+        begun: tally.begun + begun,
+        committed: tally.committed + committed,
+        aborted: tally.aborted + aborted,
+    }
+}
+
+fn when(holds: bool, n: u32) -> u32
+    ensures { λ r. ⌜ (r ≡ cond holds n 0) × (r ≤ n) ⌝ }
+{
+    if holds { n } else { 0 }
+}
+
+// The tally after an accepted move of this kind, which begins a member or ends so many. A reaction ends
+// none, so what is ended is a commit's or an abort's.
+pub fn tally_move(tally: Tally, kind: u32, begins: bool, members: u32) -> Tally
+    requires { ⌜ MoveRoom tally members ⌝ }
+    ensures { λ r. ⌜ r ≡ movedOn tally kind begins members ⌝ }
+{
+    let begun = when(begins, 1);
+    let committed = when(kind == COMMIT, members);
+    let aborted = when(kind != COMMIT, members);
+    counted(tally, begun, committed, aborted)
+}
+
+// The caller's four words, whatever they were.
+pub fn put_tally(tally: Tally, words: &mut [u32; 4])
+    ensures { λ _. ⌜ now (words .exit) ≡ tallyWords tally ⌝ }
+{
+    *words = [tally.moves, tally.begun, tally.committed, tally.aborted];
+}
