@@ -7,17 +7,32 @@ ghost use Rattle.tally.specs.Counted.{counted as countedOf, movedOn, Roo
 use semantics::Tally;
 use words::head::COMMIT;
 
-// One move more, which begins, commits and aborts so many members.
+// One move more, which begins, commits and aborts so many members, in place. Besides `moves` it touches
+// the figures that the move concerns, and no other.
+fn count(tally: &mut Tally, begun: u32, committed: u32, aborted: u32)
+    requires { ⌜ Room (now tally) begun committed aborted ⌝ }
+    ensures { λ _. ⌜ now (tally .exit) ≡ countedOf (now (tally .entry)) begun committed aborted ⌝ }
+{
+    tally.moves += 1;
+    if begun > 0 {
+        tally.begun += begun;
+    }
+    if committed > 0 {
+        tally.committed += committed;
+    }
+    if aborted > 0 {
+        tally.aborted += aborted;
+    }
+}
+
+// The same by value: its callers lend no tally.
 fn counted(tally: Tally, begun: u32, committed: u32, aborted: u32) -> Tally
     requires { ⌜ Room tally begun committed aborted ⌝ }
     ensures { λ r. ⌜ r ≡ countedOf tally begun committed aborted ⌝ }
 {
-    Tally {
-        moves: tally.moves + 1,
-        begun: tally.begun + begun,
-        committed: tally.committed + committed,
-        aborted: tally.aborted + aborted,
-    }
+    let mut changed = tally;
+    count(&mut changed, begun, committed, aborted);
+    changed
 }
 
 fn when(holds: bool, n: u32) -> u32
