@@ -1,8 +1,11 @@
--- `tally_move` meets its contract.
+-- `tally_move` meets its contract. What it returns stands first, so that a wrong tally that is handed on fails there and not on its room.
 use native.Mathlib.Omega.{arith}
 use borrow.Author.Needs.{needs}
 use Rattle.tally.proofs.tally_move.Statement.{statement}
 use Rattle.tally.proofs.tally_move.Tie as tie
+
+returns : tie.Need-returns
+returns c = rw (c .counted .ensures, c .before .when3 .ensures .0, c .before .before .when2 .ensures .0, c .before .before .before .when .ensures .0)
 
 counted-requires : tie.Need-counted-requires
 counted-requires c κs =
@@ -13,9 +16,6 @@ counted-requires c κs =
       committed = omega (arith, p .committed, c .before .when2 .ensures .1);
       aborted = omega (arith, p .aborted, c .when3 .ensures .1);
     }
-
-returns : tie.Need-returns
-returns c = rw (c .counted .ensures, c .before .when3 .ensures .0, c .before .before .when2 .ensures .0, c .before .before .before .when .ensures .0)
 
 pub tally-move-spec : {M : Type 1} → statement M
 tally-move-spec = tie.close (tie.spec (λ c κs. search needs) (λ c κs. search needs) (λ c κs. search needs) counted-requires returns)
