@@ -1,6 +1,7 @@
 /*
  * Log (a) of document 01's two-lot plant, case (b): its commit one move too early, which leaves the tally of
  * (a), and at the start the enabled moves and the previews of two moves, of which the second would be refused.
+ * Last the plant is left alone with the largest budget, and with one of four moves, whose log is then run.
  */
 #include "coordinator.h"
 
@@ -81,6 +82,22 @@ static void preview(const char *name, const uint32_t *mv)
     }
 }
 
+static void leave_alone(uint32_t budget, coordinator_tally *tally)
+{
+    static uint32_t target[COORDINATOR_LOG_WORDS(COORDINATOR_MAX_MOVES)];
+    const uint32_t *head = target + 1, *picks;
+    uint32_t at;
+    coordinator_unattended answer = coordinator_run_unattended(table, LENGTH(table), start, LENGTH(start), budget,
+                                                               target, LENGTH(target));
+    printf("budget %" PRIu32 ": %" PRIu32 " moves, %s\n", budget, answer.moves, answer.still ? "still" : "spent");
+    for (at = 0; at < answer.moves; at++) {
+        picks = head + answer.moves + 4 * at;
+        printf("move %" PRIu32 ": 0x%08" PRIx32 " %" PRIu32 " %" PRIu32 " %" PRIu32 " %" PRIu32 "\n", at, head[at],
+               picks[0], picks[1], picks[2], picks[3]);
+    }
+    run("its log", target, answer.words, tally);
+}
+
 int main(void)
 {
     coordinator_tally tally = {0, 0, 0, 0};
@@ -89,5 +106,7 @@ int main(void)
     list();
     preview("rule 0", begin);
     preview("commit 1", commit);
+    leave_alone(COORDINATOR_MAX_MOVES, &tally);
+    leave_alone(4, &tally);
     return 0;
 }

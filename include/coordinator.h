@@ -48,13 +48,14 @@ extern "C" {
 #define COORDINATOR_MAX_CONSUMES 4u      /* consumes (takes) of a rule, picks of a move */
 #define COORDINATOR_MAX_ENTRIES 1024u    /* of a state */
 #define COORDINATOR_MAX_NEXT 65536u      /* next id (ticket) of a state */
-#define COORDINATOR_MAX_MOVES 1024u      /* of a log */
+#define COORDINATOR_MAX_MOVES 1024u      /* of a log, and so of the budget of an unattended run */
 #define COORDINATOR_MAX_PAGE_MOVES 256u  /* of a page of the list of enabled moves, whatever is asked for */
 #define COORDINATOR_MOVE_WORDS 5u
 #define COORDINATOR_STATE_TARGET_WORDS 2050u /* of a target for a state, however small the state */
 #define COORDINATOR_STACK_BYTES 262144u
 
-/* Words of a list with these counts. A target for a serial log has those of its log. */
+/* Words of a list with these counts. A target for a serial log has those of its log, one for an unattended run
+ * those of a log with as many moves as its budget. */
 #define COORDINATOR_TABLE_WORDS(atoms) (5u + 2u * (atoms))
 #define COORDINATOR_STATE_WORDS(entries) (2u + 2u * (entries))
 #define COORDINATOR_LOG_WORDS(moves) (1u + 5u * (moves))
@@ -75,6 +76,7 @@ extern "C" {
 #define COORDINATOR_TARGET_TOO_SHORT 6u  /* target: below STATE_TARGET_WORDS, LOG_WORDS(k) or PAGE_TARGET_WORDS(count) */
 #define COORDINATOR_LOG_SIZES 13u        /* log: count over 1,024, or does not fit the length */
 #define COORDINATOR_BEGIN_EMITS 14u      /* a rule of the table begins a transaction and emits (serialize only) */
+#define COORDINATOR_BUDGET_TOO_LARGE 19u /* budget: over 1,024 (run_unattended only) */
 
 /* Numbers: the state does not allow the move or the log. */
 #define COORDINATOR_WRONG_PICK 7u        /* a picked entry is missing, picked twice, no message, or on the wrong port */
@@ -120,6 +122,13 @@ typedef struct coordinator_page {
     uint32_t words;  /* accepted: the words written, 5 for each move of the page; else 0 */
     uint64_t length; /* accepted: the moves of the whole list; else 0 */
 } coordinator_page;
+
+typedef struct coordinator_unattended {
+    uint32_t number; /* one of the numbers above */
+    uint32_t words;  /* accepted: the words written, COORDINATOR_LOG_WORDS(moves); else 0 */
+    uint32_t moves;  /* accepted: the moves made; else 0 */
+    uint32_t still;  /* accepted: 1 (still) if no move is enabled in the state reached, 0 (spent) if one is; else 0 */
+} coordinator_unattended;
 
 /* Whether a table is well formed.
  * Refusals: 1, 2. Stack: 1.0 KB. */
@@ -174,6 +183,18 @@ coordinator_page coordinator_list_moves(const uint32_t *table, size_t table_len,
                                         const uint32_t *state, size_t state_len,
                                         uint64_t first, uint32_t count,
                                         uint32_t *target, size_t target_len);
+
+/* The log of a run that nobody attends: the first move of the list of enabled moves is made, then the first of the
+ * list that this leaves, and so on, until no move is enabled (still) or as many are made as the budget has (spent, if
+ * one is enabled even then). The log alone is written. coordinator_run accepts it from the same state and gives the
+ * state reached and a tally; this call takes none. A larger budget gives the same moves, and perhaps more behind them.
+ * The target wants COORDINATOR_LOG_WORDS(budget) words, however few moves are made; the words behind the log stay as
+ * they were.
+ * Refusals: 1, 2, 3, 4, 19, 6. Stack: 47.7 KB. */
+coordinator_unattended coordinator_run_unattended(const uint32_t *table, size_t table_len,
+                                                  const uint32_t *state, size_t state_len,
+                                                  uint32_t budget,
+                                                  uint32_t *target, size_t target_len);
 
 #ifdef __cplusplus
 }

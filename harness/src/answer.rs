@@ -1,9 +1,9 @@
 //! What a public call answers: one type for the model, the plain code and the library.
-use crate::words::{page_target, STATE_TARGET};
+use crate::words::{log_target, page_target, MAX_MOVES, STATE_TARGET};
 
 #[derive(Clone, Copy, Debug, PartialEq, Eq)]
 pub enum Answer {
-    /// The words written by a serial log or a page; 0 for a check.
+    /// The words written by a serial log, a page or an unattended run; 0 for a check.
     Accepted(u32),
     /// A move or a run: the words written, and the member marks removed.
     Moved { words: u32, members: u32 },
@@ -155,6 +155,41 @@ pub fn preview_on_target(call: OnMove, table: &[u32], state: &[u32], mv: &[u32],
     }
 }
 
+/// What an unattended run answers: the words of its log, how many moves it made, and whether none is enabled after them
+/// (02: still; otherwise spent). A refusal has no moves and is not still.
+#[derive(Clone, Copy, Debug, PartialEq, Eq)]
+pub struct Unattended {
+    pub answer: Answer,
+    pub moves: u32,
+    pub still: bool,
+}
+
+impl Unattended {
+    pub fn refused(number: u32) -> Unattended {
+        Unattended { answer: Answer::Refused(number), moves: 0, still: false }
+    }
+
+    /// What C gets: number, words, moves and still.
+    pub fn in_c(self) -> [u32; 4] {
+        [self.answer.number(), self.answer.words(), self.moves, self.still.into()]
+    }
+}
+
+/// The unattended run on a table, a state, a budget and a target.
+pub type OnBudget = fn(&[u32], &[u32], u32, &mut [u32]) -> Unattended;
+
+/// The words of a target for an unattended run in the shape of the other calls.
+pub const UNATTENDED_TARGET: usize = log_target(MAX_MOVES) + 2;
+
+/// The unattended run in the shape of the other calls. Its figures go behind the longest log, so that a target has all
+/// that is answered.
+pub fn unattended_on_target(call: OnBudget, table: &[u32], state: &[u32], asked: &[u32], target: &mut [u32]) -> Answer {
+    let (log, behind) = target.split_at_mut(log_target(MAX_MOVES));
+    let Unattended { answer, moves, still } = call(table, state, asked[0], log);
+    behind[..2].copy_from_slice(&[moves, still.into()]);
+    answer
+}
+
 /// The order of faults for each call, by 01 and 02: the first one that an input has counts. 15 comes
 /// twice, for the log's start and its end.
 pub mod order {
@@ -165,5 +200,6 @@ pub mod order {
     pub const RUN: [u32; 7] = [1, 2, 3, 4, 13, 6, 16];
     pub const SERIALIZE: [u32; 11] = [1, 2, 3, 4, 13, 6, 14, 15, 16, 15, 17];
     pub const LIST_MOVES: [u32; 5] = [1, 2, 3, 4, 6];
+    pub const RUN_UNATTENDED: [u32; 6] = [1, 2, 3, 4, 19, 6];
     pub const PROGRAM: [u32; 5] = [1, 2, 3, 4, 13];
 }

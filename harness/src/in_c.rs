@@ -1,10 +1,15 @@
 //! The proved archive as C gets its answers, word by word: the safe crate has no place for figures beside a refusal,
-//! for members where no move is made, or for the tally that a caller hands in, so that it cannot show them.
+//! for members where no move is made, for the tally that a caller hands in, or for words of which it makes a yes or no,
+//! so that it cannot show them.
 use crate::answer::{Preview, Tally};
 
 /// Number, words, place, own and members; of a preview number, entries, next, id and members.
 #[repr(C)]
 struct Words([u32; 5]);
+
+/// Of an unattended run: number, words, moves and still.
+#[repr(C)]
+struct FourWords([u32; 4]);
 
 type In = *const u32;
 type Out = *mut u32;
@@ -18,6 +23,7 @@ extern "C" {
     fn coordinator_move(_: In, _: usize, _: In, _: usize, _: In, _: usize, _: Out, _: usize) -> Words;
     fn coordinator_run(_: In, _: usize, _: In, _: usize, _: In, _: usize, tally: Out, _: Out, _: usize) -> Words;
     fn coordinator_serialize(_: In, _: usize, _: In, _: usize, _: In, _: usize, _: Out, _: usize) -> Words;
+    fn coordinator_run_unattended(_: In, _: usize, _: In, _: usize, budget: u32, _: Out, _: usize) -> FourWords;
 }
 
 // SAFETY, of every call below: each slice is valid for its length, the target is borrowed for writing and so overlaps
@@ -68,4 +74,10 @@ pub fn run(table: &[u32], state: &[u32], log: &[u32], tally: &mut Tally, target:
 
 pub fn serialize(table: &[u32], state: &[u32], log: &[u32], target: &mut [u32]) -> [u32; 5] {
     on_target(coordinator_serialize, [table, state, log], target)
+}
+
+pub fn run_unattended(table: &[u32], state: &[u32], budget: u32, target: &mut [u32]) -> [u32; 4] {
+    let (table_len, state_len, target_len) = (table.len(), state.len(), target.len());
+    let [table, state] = [table, state].map(<[u32]>::as_ptr);
+    unsafe { coordinator_run_unattended(table, table_len, state, state_len, budget, target.as_mut_ptr(), target_len) }.0
 }

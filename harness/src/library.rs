@@ -1,7 +1,7 @@
 //! The proved archive, through the safe crate that buyers use.
 use coordinator::{Log, Move, Refusal, State, Table};
 
-use crate::answer::{Answer, Page, Preview, Tally};
+use crate::answer::{Answer, Page, Preview, Tally, Unattended};
 
 fn refused(refusal: Refusal) -> Answer {
     match refusal {
@@ -62,5 +62,14 @@ pub fn list_moves(table: &[u32], state: &[u32], first: u64, count: u32, target: 
     match coordinator::list_moves(Table::new(table), State::new(state), first, count, target) {
         Ok(page) => Page { answer: answer(Ok(page.words())), length: page.length() },
         Err(refusal) => Page { answer: refused(refusal), length: 0 },
+    }
+}
+
+pub fn run_unattended(table: &[u32], state: &[u32], budget: u32, target: &mut [u32]) -> Unattended {
+    match coordinator::run_unattended(Table::new(table), State::new(state), budget, target) {
+        Ok(coordinator::Unattended { log, moves, still, .. }) => {
+            Unattended { answer: answer(Ok(log.words())), moves, still }
+        }
+        Err(refusal) => Unattended { answer: refused(refusal), moves: 0, still: false },
     }
 }

@@ -13,5 +13,6 @@ pub mod ordered;
 pub mod preview;
 pub mod solution;
 pub mod tally;
+pub mod unattended;
 
 pub use calls::*;

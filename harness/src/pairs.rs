@@ -1,10 +1,12 @@
 //! Each call of the library beside its plain counterpart, in one shape: the checks ignore what they do not take.
-use crate::answer::{page_on_target, preview_on_target, run_on_target, OnTarget, RUN_TARGET};
+use crate::answer::{
+    page_on_target, preview_on_target, run_on_target, unattended_on_target, OnTarget, UNATTENDED_TARGET,
+};
 use crate::{library, plain};
 
-/// A target that is long enough for each call on this move, log or page.
-pub fn target(third: &[u32]) -> Vec<u32> {
-    vec![0; RUN_TARGET.max(third.len())]
+/// A target that is long enough for each call on any move, log, page or budget.
+pub fn target() -> Vec<u32> {
+    vec![0; UNATTENDED_TARGET]
 }
 
 #[derive(Clone, Copy)]
@@ -40,4 +42,9 @@ pub const LIST_MOVES: Pair = Pair {
     name: "list_moves",
     ours: |table, state, asked, target| page_on_target(library::list_moves, table, state, asked, target),
     rust: |table, state, asked, target| page_on_target(plain::list_moves, table, state, asked, target),
+};
+pub const RUN_UNATTENDED: Pair = Pair {
+    name: "run_unattended",
+    ours: |table, state, budget, target| unattended_on_target(library::run_unattended, table, state, budget, target),
+    rust: |table, state, budget, target| unattended_on_target(plain::run_unattended, table, state, budget, target),
 };

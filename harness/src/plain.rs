@@ -6,17 +6,19 @@ mod state;
 mod step;
 mod table;
 mod tally;
+mod unattended;
 mod verdict;
 
 use std::ops::Deref;
 
-use crate::answer::{Answer, Page, Preview, Tally};
-use crate::words::{page_target, MAX_ENTRIES, MAX_MOVES, STATE_TARGET};
+use crate::answer::{Answer, Page, Preview, Tally, Unattended};
+use crate::words::{log_target, page_target, MAX_ENTRIES, MAX_MOVES, STATE_TARGET};
 use list::List;
 use state::State;
 use step::Call;
 use table::Table;
 use tally::Running;
+use unattended::Counting;
 
 pub fn check_table(table: &[u32]) -> Answer {
     Answer::of_check(Table::read(table))
@@ -150,4 +152,29 @@ pub fn list_moves(table: &[u32], state: &[u32], first: u64, count: u32, target: 
         Ok(Page { answer: Answer::Accepted(words), length: list.length })
     };
     listed().unwrap_or_else(Page::refused)
+}
+
+pub fn run_unattended(table: &[u32], state: &[u32], budget: u32, target: &mut [u32]) -> Unattended {
+    unattended(table, state, budget, target, Counting::Anew)
+}
+
+/// The same with counts that follow the moves. For the benchmark, as what there is to gain.
+pub fn run_unattended_along(table: &[u32], state: &[u32], budget: u32, target: &mut [u32]) -> Unattended {
+    unattended(table, state, budget, target, Counting::Along)
+}
+
+fn unattended(table: &[u32], state: &[u32], budget: u32, target: &mut [u32], counting: Counting) -> Unattended {
+    let mut made = || {
+        let table = Table::read(table)?;
+        let state = State::read(&table, state)?;
+        let budget = Some(budget as usize).filter(|&budget| budget <= MAX_MOVES).ok_or(19u32)?;
+        let target = target.get_mut(..log_target(budget)).ok_or(6u32)?;
+        let unattended::Log { heads, picks, still } = unattended::log(&table, state, budget, counting);
+        let moves = heads.len();
+        target[0] = moves as u32;
+        target[1..1 + moves].copy_from_slice(&heads);
+        target[1 + moves..log_target(moves)].copy_from_slice(picks.as_flattened());
+        Ok(Unattended { answer: Answer::Accepted(log_target(moves) as u32), moves: moves as u32, still })
+    };
+    made().unwrap_or_else(Unattended::refused)
 }

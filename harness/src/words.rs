@@ -18,6 +18,11 @@ pub fn page_target(count: u32) -> usize {
     5 * (count as usize).min(MAX_PAGE_MOVES)
 }
 
+/// The words that a target must have for a log of so many moves, or for a budget of so many.
+pub const fn log_target(moves: usize) -> usize {
+    1 + 5 * moves
+}
+
 /// Roles of atoms.
 pub mod role {
     /// 01: take.

@@ -1,6 +1,7 @@
 //! The benchmark and the count on small sizes; nothing is timed here.
 use std::process::Command;
 
+use harness::generate::plants::PLANTS;
 use harness::program::{output, MODEL};
 
 // Catches a benchmark that no longer runs, leaves out a call, or whose inputs the library and the
@@ -10,7 +11,7 @@ fn the_benchmark_runs() {
     let run = Command::new(env!("CARGO_BIN_EXE_bench")).arg("--smoke").output().unwrap();
     let printed = String::from_utf8(run.stdout).unwrap();
     assert!(run.status.success(), "{printed}{}", String::from_utf8_lossy(&run.stderr));
-    for name in ["check_table", "check_state", "move", "preview", "run", "serialize", "list_moves"] {
+    for name in ["check_table", "check_state", "move", "preview", "run", "serialize", "list_moves", "run_unattended"] {
         assert!(printed.contains(&format!("| {name} ")), "{name} in\n{printed}");
     }
     assert!(printed.contains("| / move |"), "no preview beside its move in\n{printed}");
@@ -32,6 +33,9 @@ fn the_count_runs() {
         for kind in kinds {
             runs(&[call, kind, "16", "16"]);
         }
+    }
+    for plant in PLANTS {
+        runs(&["run_unattended", plant.name, "16", "16"]);
     }
 }
 

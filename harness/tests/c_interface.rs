@@ -162,7 +162,10 @@ fn header_and_crate_declare_the_same() {
     let tally = "Tally { moves: u32, begun: u32, committed: u32, aborted: u32 }";
     let run = "run(table: *const u32, table_len: usize, state: *const u32, state_len: usize, \
         log: *const u32, log_len: usize, tally: *mut Tally, target: *mut u32, target_len: usize) -> Answer";
-    for one in [answer, preview_answer, preview, tally, run] {
+    let unattended = "Unattended { number: u32, words: u32, moves: u32, still: u32 }";
+    let run_unattended = "run_unattended(table: *const u32, table_len: usize, state: *const u32, state_len: usize, \
+        budget: u32, target: *mut u32, target_len: usize) -> Unattended";
+    for one in [answer, preview_answer, preview, tally, run, unattended, run_unattended] {
         assert!(c.contains(one), "{one} is not in {c:#?}");
     }
     assert_eq!(c, rust);
@@ -185,7 +188,7 @@ fn upper(name: &str) -> String {
 // Catches an order of refusals in the header that is not 01's or 02's.
 #[test]
 fn the_header_gives_the_order_of_refusals() {
-    let calls: [(&str, &[u32]); 7] = [
+    let calls: [(&str, &[u32]); 8] = [
         ("check_table", &order::CHECK_TABLE),
         ("check_state", &order::CHECK_STATE),
         ("move", &order::MOVE),
@@ -193,6 +196,7 @@ fn the_header_gives_the_order_of_refusals() {
         ("run", &order::RUN),
         ("serialize", &order::SERIALIZE),
         ("list_moves", &order::LIST_MOVES),
+        ("run_unattended", &order::RUN_UNATTENDED),
     ];
     for (name, order) in calls {
         let comment = header_comment(name);
@@ -224,7 +228,7 @@ fn header_and_crate_agree() {
     for (name, value) in sizes {
         assert_eq!(constants.remove(name), Some(value as u64), "{name}");
     }
-    for number in (1..=18).filter(|&number| number != 16) {
+    for number in (1..=19).filter(|&number| number != 16) {
         let name = upper(&format!("{:?}", Refusal::from_number(number)));
         assert_eq!(constants.remove(&name), Some(u64::from(number)), "{name}");
     }

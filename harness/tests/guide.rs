@@ -14,9 +14,9 @@ use std::path::Path;
 use std::process::Command;
 
 use common::demand3::Demand3;
+use common::{after, serialize, shrinking, Alone, Asked, MAKE_MOVE};
 use common::{after_a, check_state, check_table, gives, make_move, mark_owners, on_tally, on_target, preview, run};
-use common::{serialize, shrinking, Asked, MAKE_MOVE};
-use harness::answer::{order, Answer, Preview};
+use harness::answer::{order, Answer, Preview, Unattended};
 use harness::markdown::{blocks, links, prose, rows, Block};
 use harness::two_lot::{self, case_a, case_c, case_d, lists_a, serial_d};
 use harness::words::{log_words, role, Atom, Entry, Move, State, Table};
@@ -147,6 +147,8 @@ fn generated() -> BTreeMap<String, String> {
         ("lists a".into(), lists()),
         ("page".into(), page()),
         ("previews".into(), previews()),
+        ("alone".into(), alone()),
+        ("budgets".into(), budgets()),
         ("members".into(), members()),
         ("tallies".into(), tallies()),
         ("run in C".into(), run_in_c()),
@@ -218,6 +220,35 @@ fn previews() -> String {
         apart::preview(case, moves, mv, figures)
     };
     apart::PREVIEWS_HEAD.to_string() + &accepted.chain(refused).map(line).collect::<String>()
+}
+
+/// The plant left alone at the start, with the largest budget; the run of its log is that of (a).
+fn alone() -> String {
+    let (table, start) = (two_lot::table(), two_lot::start());
+    let (Unattended { answer, moves, still }, words) = Alone::new(1_024).of(&table, &start);
+    assert_eq!(on_tally([&table, &start, &words], [7; 4], 2_050).2, two_lot::TALLY_A);
+    gives(run(&table, &start, &words), &two_lot::END_A);
+    let (number, written, still) = (answer.number(), answer.words(), u32::from(still));
+    format!("budget 1024: number {number}, words {written}, moves {moves}, still {still}\n") + &apart::log(&words, None)
+}
+
+/// The plant left alone in some states, with some budgets.
+fn budgets() -> String {
+    let start = [0, 1, 5, 6, 1_024, 1_025].map(|budget| ("at the start", two_lot::start(), budget));
+    let after_c = after(&case_c());
+    let others = [
+        ("after 4 of (a)", after_a(4), 1_024),
+        ("after (a)", after_a(6), 0),
+        ("after (a)", after_a(6), 1_024),
+        ("after (c)", after_c.clone(), 3),
+        ("after (c)", after_c, 4),
+    ];
+    let line = |(name, state, budget): (&str, Vec<u32>, u32)| {
+        let [number, words, moves, still] = Alone::new(budget).of(&two_lot::table(), &state).0.in_c();
+        format!("{name:<14}  {budget:>6} {number:>7} {words:>6} {moves:>6} {still:>6}\n")
+    };
+    let lines: String = start.into_iter().chain(others).map(line).collect();
+    String::from("state           budget  number  words  moves  still\n") + &lines
 }
 
 /// The members that end with each move of (a), with runs, and with a run that is refused after an end.
@@ -293,7 +324,7 @@ fn abort_mark() -> String {
 }
 
 fn orders() -> String {
-    let calls: [(&str, &[u32]); 8] = [
+    let calls: [(&str, &[u32]); 9] = [
         ("check_table", &order::CHECK_TABLE),
         ("check_state", &order::CHECK_STATE),
         ("move", &order::MOVE),
@@ -301,9 +332,10 @@ fn orders() -> String {
         ("run", &order::RUN),
         ("serialize", &order::SERIALIZE),
         ("list_moves", &order::LIST_MOVES),
+        ("run_unattended", &order::RUN_UNATTENDED),
         ("program", &order::PROGRAM),
     ];
-    calls.map(|(name, order)| format!("{name:<11}  {}\n", common::listed(order))).concat()
+    calls.map(|(name, order)| format!("{name:<14}  {}\n", common::listed(order))).concat()
 }
 
 /// A call of each number, made and answered so. They are on the two-lot plant but for 14 and 17.
@@ -355,6 +387,7 @@ fn refusals() -> String {
             "rule 2 with picks 4 6, where transaction 2 has an abort mark",
             moved(&two_lot::aborting(), two_lot::merge_with_aborting()),
         ),
+        ("run_unattended", "a budget of 1025", Alone::new(1_025).of(&table, &start).0.answer),
     ];
     let line = |(number, (call, what, answer)): (usize, (&str, &str, Answer))| {
         assert_eq!(answer.number() as usize, number, "{call}: {what}");
@@ -362,7 +395,7 @@ fn refusals() -> String {
             Answer::MoveRefused { place, own } => format!(": place {place}, own number {own}"),
             _ => String::new(),
         };
-        format!("{number:>2}  {call:<11}  {what}{more}\n")
+        format!("{number:>2}  {call:<14}  {what}{more}\n")
     };
     calls.into_iter().enumerate().map(line).collect()
 }
@@ -372,7 +405,7 @@ fn refusals() -> String {
 fn the_guide_has_every_number() {
     let (guide, header) = (file(GUIDE), file("include/coordinator.h"));
     let rows = rows(&prose(&guide), "| number | name | it means | look at |");
-    assert_eq!(rows.len(), 19);
+    assert_eq!(rows.len(), 20);
     for (number, row) in rows.iter().enumerate() {
         let name = row[1].trim_matches('`');
         assert_eq!(row[0], number.to_string());

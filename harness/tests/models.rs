@@ -11,13 +11,16 @@ use harness::generate::moves::open;
 use harness::generate::previews::{self, asked};
 use harness::generate::states::{messages, state};
 use harness::generate::tables::{table, Shape};
+use harness::generate::unattended::plant;
 use harness::model::colours;
 use harness::model::definitions::{Channel, Definition, Definitions, Output, Product, Term};
 use harness::model::ordered::{Made, Ordered};
 use harness::model::solution::{Message, Origin, Solution, Transaction};
 use harness::model::tally::{tally, Members};
 use harness::random::Random;
-use harness::words::{act, kind, log_words, page_target, role, Atom, Entry, Move, State, Table};
+use harness::words::{
+    act, kind, log_from_words, log_target, log_words, page_target, role, Atom, Entry, Move, State, Table, STATE_TARGET,
+};
 use harness::{model, plain};
 
 const C1: u32 = 0;
@@ -331,6 +334,36 @@ fn the_plain_code_lists_the_models_moves() {
         coverage.add(met(&mut random, &table, &state, &expected));
     }
     coverage.has_all(40);
+}
+
+// Catches a model that stops its list too early or too late, that tries moves on what it has tried before, or whose
+// state on the way is not that of the words: each move made alone is the first of the whole list of the state that the
+// plain code's single moves lead to.
+#[test]
+fn the_model_makes_the_first_of_its_lists() {
+    let mut random = Random::new(607);
+    let mut made = [0; 4];
+    for round in 0..3_000 {
+        let (table, start) = plant(&mut random, round);
+        let (table, mut state) = (table.words(), start.words());
+        let mut target = vec![0; log_target(12)];
+        let most = 20_000 / (20 + state.len() as u64);
+        let Some(alone) = model::run_unattended_within(most, &table, &state, 12, &mut target) else { continue };
+        let log = log_from_words(&target[..alone.answer.words() as usize]).unwrap();
+        for mv in &log {
+            let list = model::enabled_moves(&table, &state, u64::MAX).unwrap().expect("no limit");
+            assert_eq!(list.first(), Some(mv), "{log:?} of {table:x?} {start:?}");
+            made[mv.kind as usize] += 1;
+            let mut target = [0; STATE_TARGET];
+            let answer = plain::make_move(&table, &state, &mv.words(), &mut target);
+            state = target[..answer.words() as usize].to_vec();
+        }
+        let list = model::enabled_moves(&table, &state, u64::MAX).unwrap().expect("no limit");
+        assert_eq!((alone.still, alone.moves), (list.is_empty(), log.len() as u32));
+        assert!(alone.still || log.len() == 12);
+        made[3] += usize::from(alone.still);
+    }
+    assert!(made.iter().all(|&count| count > 200), "{made:?}");
 }
 
 /// The smallest id of a transaction that is not as it was, 0 if there is none.

@@ -5,19 +5,22 @@ use std::fs;
 use std::path::Path;
 use std::thread;
 
-use common::{header_comment, Asked};
-use harness::answer::{page_words, Answer, Page};
+use common::{header_comment, Alone, Asked};
+use harness::answer::{page_words, Answer, Page, Unattended};
+use harness::generate::plants::PLANTS;
 use harness::generate::workloads::{fours, global_log, members, merge_log, mixed, single_moves, spread, table};
 use harness::markdown::{prose, rows};
-use harness::pairs::{self, Pair, CHECK_STATE, CHECK_TABLE, LIST_MOVES, MAKE_MOVE, PREVIEW, RUN, SERIALIZE};
+use harness::pairs::{
+    self, Pair, CHECK_STATE, CHECK_TABLE, LIST_MOVES, MAKE_MOVE, PREVIEW, RUN, RUN_UNATTENDED, SERIALIZE,
+};
 use harness::random::Random;
-use harness::words::{log_words, State};
-use harness::{plain, stack, ROOT};
+use harness::words::{act, log_from_words, log_words, State, Table, STATE_TARGET};
+use harness::{library, plain, stack, ROOT};
 
 /// What README and the header promise to be enough.
 const STACK: usize = 256 << 10;
 
-/// A call and accepted input of full size: a table, a state, and a move, log or page.
+/// A call and accepted input of full size: a table, a state, and a move, log, page or budget.
 struct Call {
     pair: Pair,
     inputs: Vec<[Vec<u32>; 3]>,
@@ -35,7 +38,16 @@ fn pages(random: &mut Random) -> Vec<[Vec<u32>; 3]> {
     [(0, 0), (1, 300), (2, 300)].map(page).to_vec()
 }
 
-fn calls() -> [Call; 7] {
+/// The largest budget on each plant that never rests.
+fn budgets(random: &mut Random) -> Vec<[Vec<u32>; 3]> {
+    let plants = PLANTS.map(|plant| {
+        let (table, state) = (plant.make)(random, 64, 1_024);
+        [table.words(), state.words(), vec![1_024]]
+    });
+    plants.to_vec()
+}
+
+fn calls() -> [Call; 8] {
     let mut random = Random::new(802);
     let full = table(64, 512);
     let input = |state: State, third: Vec<u32>| [full.words(), state.words(), third];
@@ -52,6 +64,7 @@ fn calls() -> [Call; 7] {
         (RUN, logs.clone()),
         (SERIALIZE, logs),
         (LIST_MOVES, pages(&mut random)),
+        (RUN_UNATTENDED, budgets(&mut random)),
     ];
     calls.map(|(pair, inputs)| Call { pair, inputs })
 }
@@ -66,7 +79,7 @@ fn on_small_stack<T: Send>(call: impl FnOnce() -> T + Send) -> T {
 fn every_call_runs_in_256_kilobytes() {
     for Call { pair: Pair { name, ours, rust }, inputs } in calls() {
         for [table, state, third] in inputs {
-            let (mut expected, mut target) = (pairs::target(&third), pairs::target(&third));
+            let (mut expected, mut target) = (pairs::target(), pairs::target());
             let answer = rust(&table, &state, &third, &mut expected);
             assert_eq!(answer.number(), 0, "{name}");
             assert_eq!(on_small_stack(|| ours(&table, &state, &third, &mut target)), answer, "{name}");
@@ -84,7 +97,7 @@ fn the_stated_figures_are_the_measured_ones() {
     assert_eq!(rows.len(), calls().len());
     for (Call { pair: Pair { name, ours, .. }, inputs }, row) in calls().into_iter().zip(rows) {
         let used = |[table, state, third]: [Vec<u32>; 3]| {
-            let mut target = pairs::target(&third);
+            let mut target = pairs::target();
             stack::used(|| {
                 ours(&table, &state, &third, &mut target);
             })
@@ -135,6 +148,50 @@ fn lists_are_long() {
             let page = Asked::new(0, 256).of_long(&table.words(), &state.words()).0;
             assert_eq!(page, Page { answer: Answer::Accepted(1_280), length: page.length });
             assert_eq!((table.atoms(), state.entries.len()), (512, n));
+        }
+    }
+}
+
+/// What the moves of a log are made by, each once: rules, and the two ends.
+fn made_by(table: &Table, log: &[harness::words::Move]) -> Vec<String> {
+    let mut made: Vec<String> = log
+        .iter()
+        .map(|mv| match mv.kind {
+            act::REACT => format!("rule {} from the end", table.rules.len() as u32 - mv.number),
+            act::COMMIT => "commit".into(),
+            _ => "abort".into(),
+        })
+        .collect();
+    made.sort();
+    made.dedup();
+    made
+}
+
+// Catches plants for the benchmark that come to rest, that the implementations leave alone differently, whose entries
+// do not stay about as many, or that do not make the moves that they are named for.
+#[test]
+fn plants_never_rest() {
+    let mut random = Random::new(807);
+    for plant in PLANTS {
+        for (rules, n) in [(7, 16), (64, 16), (7, 128), (64, 128), (7, 1_024), (64, 1_024)] {
+            let (table, state) = (plant.make)(&mut random, rules, n);
+            let (words, start) = (table.words(), state.words());
+            let (alone, log_words_made) = Alone::new(1_024).of_long(&words, &start);
+            assert_eq!(alone, Unattended { answer: Answer::Accepted(5_121), moves: 1_024, still: false });
+            let log = log_from_words(&log_words_made).unwrap();
+            for moves in (0..=1_024).step_by(64).chain(1..9) {
+                let mut target = [0; STATE_TARGET];
+                library::run(&words, &start, &log_words(&log[..moves]), &mut [0; 4], &mut target);
+                let entries = target[0] as usize;
+                assert!((n / 2..=n).contains(&entries), "{} with {rules} of {n}: {entries}", plant.name);
+            }
+            let made = made_by(&table, &log);
+            let wanted = match plant.name {
+                "merges" => 3,
+                "commits" | "aborts" => 2,
+                _ => 7.min(n / 4),
+            };
+            assert!(made.len() >= wanted, "{} with {rules} of {n}: {made:?}", plant.name);
         }
     }
 }

@@ -75,6 +75,27 @@ impl Page {
     }
 }
 
+/// Number 0: accepted, with the words written, the moves made, and whether none is enabled after them; else all are 0.
+#[repr(C)]
+pub struct Unattended {
+    number: u32,
+    words: u32,
+    moves: u32,
+    still: u32,
+}
+
+impl Unattended {
+    /// The words written, the moves made, and whether none is enabled after them, or why the call was refused.
+    pub fn result(self) -> Result<(usize, u32, bool), Refusal> {
+        let Unattended { number, words, moves, still } = self;
+        debug_assert!(number == 0 || (words, moves, still) == (0, 0, 0), "a refusal has figures");
+        match number {
+            0 => Ok((words as usize, moves, still != 0)),
+            number => Err(Refusal::from_number(number)),
+        }
+    }
+}
+
 /// A move and a serialize have one shape: table, state, move or log, target.
 type OnTarget = unsafe extern "C" fn(
     table: *const u32,
@@ -88,7 +109,7 @@ type OnTarget = unsafe extern "C" fn(
 ) -> Answer;
 
 mod c {
-    use super::{Answer, Page, PreviewAnswer, Tally};
+    use super::{Answer, Page, PreviewAnswer, Tally, Unattended};
 
     extern "C" {
         pub fn coordinator_check_table(table: *const u32, table_len: usize) -> Answer;
@@ -147,6 +168,15 @@ mod c {
             target: *mut u32,
             target_len: usize,
         ) -> Page;
+        pub fn coordinator_run_unattended(
+            table: *const u32,
+            table_len: usize,
+            state: *const u32,
+            state_len: usize,
+            budget: u32,
+            target: *mut u32,
+            target_len: usize,
+        ) -> Unattended;
     }
 }
 
@@ -213,6 +243,20 @@ pub fn list_moves(table: &[u32], state: &[u32], first: u64, count: u32, target: 
             state.len(),
             first,
             count,
+            target.as_mut_ptr(),
+            target.len(),
+        )
+    }
+}
+
+pub fn run_unattended(table: &[u32], state: &[u32], budget: u32, target: &mut [u32]) -> Unattended {
+    unsafe {
+        c::coordinator_run_unattended(
+            table.as_ptr(),
+            table.len(),
+            state.as_ptr(),
+            state.len(),
+            budget,
             target.as_mut_ptr(),
             target.len(),
         )

@@ -6,7 +6,8 @@
 //! handed, and answers a [`Refusal`] with the number of document 01 or 02. [`TableBuilder`],
 //! [`StateBuilder`], [`LogBuilder`] and [`react`], [`commit`], [`abort`] write the words.
 //! [`enabled_moves`] goes through the moves that can be made, [`preview`] tells what one would do, and
-//! [`make_move`] makes it; [`run`] makes a whole log and gives a [`Tally`] of it.
+//! [`make_move`] makes it; [`run`] makes a whole log and gives a [`Tally`] of it; [`run_unattended`] chooses the
+//! moves itself and gives their log.
 //!
 //! No call allocates, keeps anything, or panics. A refused call leaves its target as it was; an
 //! accepted one leaves it as it was beyond the words that it gives back. Each call runs in a
@@ -45,6 +46,7 @@ mod ran;
 mod refusal;
 mod state;
 mod table;
+mod unattended;
 
 pub use log::{abort, commit, react, Log, LogBuilder, Move};
 pub use moved::Moved;
@@ -54,6 +56,7 @@ pub use ran::{Ran, Tally};
 pub use refusal::Refusal;
 pub use state::{Entry, Item, State, StateBuilder};
 pub use table::{Atom, Table, TableBuilder, Value};
+pub use unattended::{run_unattended, Unattended};
 
 /// Ports of a table, of all three classes together.
 pub const MAX_PORTS: usize = 256;
@@ -69,7 +72,7 @@ pub const MAX_CONSUMES: usize = 4;
 pub const MAX_ENTRIES: usize = 1024;
 /// The next id of a state; a transaction's id is below it.
 pub const MAX_NEXT: u32 = 65_536;
-/// Moves of a log.
+/// Moves of a log, and so of the budget of an unattended run.
 pub const MAX_MOVES: usize = 1024;
 /// The words of a move.
 pub const MOVE_WORDS: usize = 1 + MAX_CONSUMES;
@@ -79,7 +82,7 @@ pub const STATE_TARGET_WORDS: usize = 2 + 2 * MAX_ENTRIES;
 /// Moves of a page of the list of enabled moves, whatever the count.
 pub const MAX_PAGE_MOVES: usize = 256;
 
-/// The words that a target for the serial log of `moves` moves must have.
+/// The words that a target for the serial log of `moves` moves must have, or for an unattended run with this budget.
 pub const fn log_target_words(moves: usize) -> usize {
     1 + MOVE_WORDS * moves
 }

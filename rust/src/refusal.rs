@@ -16,8 +16,8 @@ pub enum Refusal {
     StateContents,
     /// 5: the move's length is not 5, its kind, rule or id is not valid, or a spare pick is not 0.
     MoveForm,
-    /// 6: the target is too short: a state wants 2,050 words, a serial log of k moves 1 + 5k, a page of
-    /// k moves 5k.
+    /// 6: the target is too short: a state wants 2,050 words, a serial log of k moves or a budget of k 1 + 5k, a page
+    /// of k moves 5k.
     TargetTooShort,
     /// 7: a picked entry is missing, picked twice, no message, or on the wrong port.
     WrongPick,
@@ -48,13 +48,15 @@ pub enum Refusal {
     SerialTooManyEntries,
     /// 18: the transaction of a picked message has an abort mark, so that it may only be aborted.
     TransactionAborting,
+    /// 19: the budget of an unattended run is over 1,024.
+    BudgetTooLarge,
     /// A number that this crate does not know: the archive is newer.
     Unknown(u32),
 }
 
 /// The refusals that are a number alone, each with what it means.
 #[rustfmt::skip]
-const MEANINGS: [(u32, Refusal, &str); 17] = [
+const MEANINGS: [(u32, Refusal, &str); 18] = [
     (1, Refusal::TableSizes, "a size of the table is over its limit or does not fit its length"),
     (2, Refusal::TableContents, "a rule number or an atom of the table is wrong"),
     (3, Refusal::StateSizes, "the state's count or next id is not valid, or its length does not fit"),
@@ -62,7 +64,8 @@ const MEANINGS: [(u32, Refusal, &str); 17] = [
     (5, Refusal::MoveForm,
         "the move's length is not 5, its kind, rule or id is not valid, or a spare pick is not 0"),
     (6, Refusal::TargetTooShort,
-        "the target is too short: a state wants 2,050 words, a serial log of k moves 1 + 5k, a page of k moves 5k"),
+        "the target is too short: a state wants 2,050 words, a serial log of k moves or a budget of k 1 + 5k, \
+         a page of k moves 5k"),
     (7, Refusal::WrongPick, "a picked entry is missing, picked twice, no message, or on the wrong port"),
     (8, Refusal::WrongOwner, "the rule may not consume from the owners of the picked messages"),
     (9, Refusal::NoTransaction, "no transaction is open under this id"),
@@ -76,6 +79,7 @@ const MEANINGS: [(u32, Refusal, &str); 17] = [
     (17, Refusal::SerialTooManyEntries, "a state along the serial log would have more than 1,024 entries"),
     (18, Refusal::TransactionAborting,
         "the transaction of a picked message has an abort mark, so that it may only be aborted"),
+    (19, Refusal::BudgetTooLarge, "the budget of an unattended run is over 1,024"),
 ];
 
 impl Refusal {

@@ -70,7 +70,7 @@ fn refusals_have_their_numbers() {
     let refusal = Refusal::MoveRefused { place: 4, own: 10 };
     assert_eq!((refusal.number(), refusal.own()), (16, Some(Refusal::EndNotAllowed)));
     assert!(refusal.to_string().starts_with("refused with 16: move 4 of the log is refused with 10: "), "{refusal}");
-    for unknown in [0, 16, 19, u32::MAX] {
+    for unknown in [0, 16, 20, u32::MAX] {
         assert_eq!(Refusal::from_number(unknown), Refusal::Unknown(unknown));
     }
 }
@@ -277,6 +277,60 @@ fn the_transaction_of_a_preview() {
     assert_eq!(previewed(&table(), &merged.words(), &commit(5)), Err(Refusal::NoTransaction));
     let aborting = merged.entry(3, Item::Compensation { port: 0, value: 7 }).entry(3, Item::AbortMark).words();
     assert_eq!(previewed(&table(), &aborting, &abort(3)), Ok([1, 9, 3, 2]));
+}
+
+/// The log, how many moves it has, and whether it leaves none enabled; or why there is none.
+fn alone(state: &[u32], budget: u32) -> Result<(Vec<u32>, u32, bool), Refusal> {
+    let mut target = vec![u32::MAX; log_target_words(budget as usize)];
+    let alone = run_unattended(Table::new(&table()), State::new(state), budget, &mut target)?;
+    let (log, moves, still) = (alone.log.words().to_vec(), alone.moves, alone.still);
+    assert!(target[log.len()..].iter().all(|&word| word == u32::MAX));
+    Ok((log, moves, still))
+}
+
+// Catches an unattended run whose figures are swapped or lost on the way: it makes log (a), as far as its budget goes,
+// and from the start and the end of (c) what is left to do there.
+#[test]
+fn the_plant_runs_alone() {
+    let a = case_a();
+    for budget in 0..=8 {
+        let made = a.len().min(budget);
+        assert_eq!(alone(&start(), budget as u32), Ok((log(&a[..made]), made as u32, budget >= a.len())), "{budget}");
+    }
+    assert_eq!(alone(&start(), MAX_MOVES as u32), Ok((log(&a), 6, true)));
+    assert_eq!(alone(&after(6), 3), Ok((vec![0], 0, true)));
+    assert_eq!(alone(&after(6), 0), Ok((vec![0], 0, true)));
+    // Transaction 2 has been aborted, transaction 1 offers a merge: message 9 begins again.
+    let c = [4, 3, 1, 1, 0, 1, 0x0300_0001, 0x0100_0007, 0x0000_0009, 0x0003_0007];
+    let again = [react(0, &[2]), react(1, &[4]), react(2, &[2, 5]), commit(1)];
+    assert_eq!(alone(&c, 9), Ok((log(&again), 4, true)));
+}
+
+// Catches a refusal that is not handed on, a target that is asked for too much or too little, and a target that is
+// written though its run is refused.
+#[test]
+fn refused_unattended_runs() {
+    let (table, start) = (table(), start());
+    let mut target = [7; log_target_words(6)];
+    let mut refused = |table: &[u32], state: &[u32], budget: u32, room: usize| {
+        run_unattended(Table::new(table), State::new(state), budget, &mut target[..room]).err()
+    };
+    let mut wrong = table.clone();
+    wrong[28] = 0x6000_0000;
+    assert_eq!(refused(&[], &[], u32::MAX, 0), Some(Refusal::TableSizes));
+    assert_eq!(refused(&wrong, &[], u32::MAX, 0), Some(Refusal::TableContents));
+    assert_eq!(refused(&table, &[], u32::MAX, 0), Some(Refusal::StateSizes));
+    assert_eq!(refused(&table, &[1, 1, 1, 7], u32::MAX, 0), Some(Refusal::StateContents));
+    assert_eq!(refused(&table, &start, MAX_MOVES as u32 + 1, 0), Some(Refusal::BudgetTooLarge));
+    assert_eq!(refused(&table, &start, MAX_MOVES as u32, 31), Some(Refusal::TargetTooShort));
+    assert_eq!(refused(&table, &start, 6, 30), Some(Refusal::TargetTooShort));
+    assert_eq!(refused(&table, &start, 0, 0), Some(Refusal::TargetTooShort));
+    assert_eq!(target, [7; 31]);
+    let alone = run_unattended(Table::new(&table), State::new(&start), 6, &mut target).unwrap();
+    // The log is handed on as it is.
+    let mut end = [0; STATE_TARGET_WORDS];
+    let ran = run(Table::new(&table), State::new(&start), alone.log, &mut end).unwrap();
+    assert_eq!((ran.state.words(), ran.tally.moves, ran.members), (&after(6)[..], alone.moves, 2));
 }
 
 // Catches a page whose moves or length are lost on the way, and a target that is asked for too much.

@@ -1,13 +1,16 @@
 // The numbers of documents 01 and 02, as code.
 ghost use mathlib.Core.Path.{_≡_};
-ghost use Rattle.semantics.specs.Answers.{number, answerOf, pageAnswer, previewAnswer};
+ghost use Rattle.lists.specs.Lists.{oneIf};
+ghost use Rattle.semantics.specs.Answers.{number, answerOf, pageAnswer, previewAnswer, aloneAnswer};
 use semantics::Answer;
+use semantics::LeftAlone;
 use semantics::Listed;
 use semantics::Outcome;
 use semantics::Page;
 use semantics::Preview;
 use semantics::Previewed;
 use semantics::Refusal;
+use semantics::Unattended;
 
 pub fn number_of(refusal: Refusal) -> u32
     ensures { λ r. ⌜ r ≡ number refusal ⌝ }
@@ -30,6 +33,7 @@ pub fn number_of(refusal: Refusal) -> u32
         Refusal::TransactionOpen => 15,
         Refusal::SerialTooManyEntries => 17,
         Refusal::TransactionAborting => 18,
+        Refusal::BudgetTooLarge => 19,
     }
 }
 
@@ -101,5 +105,24 @@ pub fn preview_of(previewed: Previewed) -> Preview
             members: foreseen.members,
         },
         Previewed::Rejected(refusal) => no_figures(number_of(refusal)),
+    }
+}
+
+fn one_if(b: bool) -> u32
+    ensures { λ r. ⌜ r ≡ oneIf b ⌝ }
+{
+    if b { 1 } else { 0 }
+}
+
+pub fn unattended_of(left: LeftAlone) -> Unattended
+    ensures { λ r. ⌜ r ≡ aloneAnswer left ⌝ }
+{
+    let outcome = left.outcome;
+    let answer = answer_of(outcome);
+    Unattended {
+        number: answer.number,
+        words: answer.words,
+        moves: left.moves,
+        still: one_if(left.still),
     }
 }

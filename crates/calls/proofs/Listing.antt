@@ -21,7 +21,7 @@ use Rattle.wellformed.specs.Verdicts.{FaultAt, first-fault, no-fault}
 use Rattle.choices.specs.declared.Part.{Part}
 use Rattle.choices.specs.Parts.{PartAs}
 use Rattle.calls.specs.Lists.{allOpen, pageWords, ListComesTo}
-use Rattle.calls.proofs.Results.{too-short, long-enough}
+use Rattle.wellformed.specs.Results.{too-short, long-enough}
 
 -- a page written from the target's beginning
 module _ (ms : List Move) (first count : ℕ) (before : List ℕ) (room : 5 * count ≤ length before) where

@@ -26,7 +26,8 @@ use Rattle.step.specs.declared.make.Made.{Made}
 use Rattle.step.specs.Make.{MadeAs}
 use Rattle.calls.specs.Results.{ComesTo}
 use Rattle.calls.specs.Moves.{moveMade}
-use Rattle.calls.proofs.Results.{fault-gives, passed-gives, too-short, long-enough}
+use Rattle.wellformed.specs.Results.{too-short, long-enough}
+use Rattle.calls.proofs.Results.{fault-gives, passed-gives}
 
 -- the move made on the loaded state
 module _ (t S w before : List ℕ) {m : Made} {s s′ : State}

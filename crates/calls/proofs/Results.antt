@@ -1,17 +1,15 @@
 -- What a call with a target answers and leaves: its first fault, or what it comes to where there is none.
-use Prim.Native.Nat.{ℕ, _≤_, _<_}
+use Prim.Native.Nat.{ℕ}
 use mathlib.Core.Bool.{true, false}
 use mathlib.Core.List.{List, [], _∷_}
 use mathlib.Core.Logic.{inl, inr}
 use mathlib.Core.Path.{_≡_, refl, ap}
-use lib.ListN.{length}
-use borrow.Author.Tests.{le-leb, lt-leb}
 use Rattle.semantics.specs.Move.{unless, firstFault}
 use Rattle.semantics.specs.Log.{logSizesOk}
 use Rattle.semantics.specs.State.{stateWords}
-use Rattle.semantics.specs.Answers.{answerOf, outcomeOf, targetAfter, Result, leave, unlessDenied, stateVerdict, logVerdict, hasWords}
+use Rattle.semantics.specs.Answers.{answerOf, outcomeOf, targetAfter, Result, leave, unlessDenied, stateVerdict, logVerdict}
 use Rattle.semantics.specs.declared.Refusal.{Refusal}
-use Rattle.semantics.specs.declared.Refusal.the-variants.{LogSizes, TargetTooShort}
+use Rattle.semantics.specs.declared.Refusal.the-variants.{LogSizes}
 use Rattle.semantics.specs.declared.Verdict.{Verdict}
 use Rattle.semantics.specs.declared.Verdict.the-variants.{Allowed, Denied}
 use Rattle.semantics.specs.declared.Outcome.{Outcome}
@@ -39,12 +37,6 @@ pub stored-to : {s : State} {before after : List ℕ} {n : ℕ} → Stored s bef
 stored-to k members = record { outcome = rw (k .words); target = k .target }
 
 -- ---- single tests
-
-pub too-short : (n : ℕ) (target : List ℕ) → length target < n → hasWords n target ≡ Denied TargetTooShort
-too-short n target h = unless-false TargetTooShort (lt-leb n (length target) h)
-
-pub long-enough : (n : ℕ) (target : List ℕ) → n ≤ length target → hasWords n target ≡ Allowed
-long-enough n target h = unless-intro TargetTooShort (le-leb n (length target) h)
 
 module _ (t s l : List ℕ) where
   abbrev tests : List Verdict

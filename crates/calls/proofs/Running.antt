@@ -25,7 +25,8 @@ use Rattle.run.specs.Runs.{ranBy}
 use Rattle.run.specs.Tallies.{TalliedAs}
 use Rattle.run.specs.Whole.{ran-whole}
 use Rattle.calls.specs.Logs.{runMade, RunsTo}
-use Rattle.calls.proofs.Results.{fault-gives, passed-gives, too-short, long-enough, log-denied, log-missized, log-allowed}
+use Rattle.wellformed.specs.Results.{too-short, long-enough}
+use Rattle.calls.proofs.Results.{fault-gives, passed-gives, log-denied, log-missized, log-allowed}
 
 -- the run from the loaded state
 module _ (t S l before words : List ℕ) {r : Tallied} {s s′ : State}

@@ -18,7 +18,8 @@ use Rattle.semantics.specs.declared.Outcome.{Outcome}
 use Rattle.semantics.specs.declared.Outcome.the-variants.{Refused}
 use Rattle.wellformed.specs.Verdicts.{unless-intro, unless-false, FaultAt}
 use Rattle.serial.specs.Serialized.{afterRun, SerializedAs}
-use Rattle.calls.proofs.Results.{fault-gives, passed-gives, too-short, long-enough, log-denied, log-missized, log-allowed}
+use Rattle.wellformed.specs.Results.{too-short, long-enough}
+use Rattle.calls.proofs.Results.{fault-gives, passed-gives, log-denied, log-missized, log-allowed}
 
 -- what `serialize` says
 abbrev pub SerialAs : List ℕ → List ℕ → List ℕ → List ℕ → List ℕ → Outcome → Type 0

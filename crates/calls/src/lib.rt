@@ -14,3 +14,4 @@ pub use moves::make_move;
 pub use pages::list_moves;
 pub use previews::preview;
 pub use serials::serialize;
+pub use unattended::run_unattended;

@@ -9,7 +9,9 @@ pub struct Part {
     pub written: usize,
 }
 
+pub use find::next_with;
 pub use page::fill;
+pub use page::is_picked;
 pub use page::put;
 pub use ways::less;
 pub use ways::widths;

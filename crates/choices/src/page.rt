@@ -14,7 +14,7 @@ ghost use Rattle.choices.specs.Words.{choiceWords};
 use crate::find::next_with;
 
 // Whether x is one of the first i picks. Without a loop, since i is small.
-fn is_picked(picks: [u32; 4], i: usize, x: u32) -> bool
+pub fn is_picked(picks: [u32; 4], i: usize, x: u32) -> bool
     requires { ⌜ i ≤ 4 ⌝ }
     ensures { λ r. ⌜ r ≡ isIn x (take i picks) ⌝ }
 {

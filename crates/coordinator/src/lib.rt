@@ -1,12 +1,14 @@
 // The public calls for C and Rust: the archive of this crate is the one that buyers link.
 ghost use mathlib.Core.Path.{_≡_};
-ghost use Rattle.semantics.specs.Answers.{checkTable, checkState, makeMove, makeMoveTarget, previewMove, listMoves, listMovesTarget, runLog, runLogTarget, runLogTally, serialize, serializeTarget};
+ghost use Rattle.semantics.specs.Answers.{checkTable, checkState, makeMove, makeMoveTarget, previewMove, listMoves, listMovesTarget, runLog, runLogTarget, runLogTally, serialize, serializeTarget, runUnattended, runUnattendedTarget};
 use answers::answer_of;
 use answers::page_of;
 use answers::preview_of;
+use answers::unattended_of;
 use semantics::Answer;
 use semantics::Page;
 use semantics::Preview;
+use semantics::Unattended;
 
 #[no_mangle]
 pub extern "C" fn coordinator_check_table(table: &[u32]) -> Answer
@@ -87,4 +89,17 @@ pub extern "C" fn coordinator_serialize<'a>(
     ensures contents { λ _. ⌜ now (target .exit) ≡ serializeTarget (now (table .entry)) (now (state .entry)) (now (log .entry)) (now (target .entry)) ⌝ }
 {
     answer_of(calls::serialize(table, state, log, target))
+}
+
+#[no_mangle]
+pub extern "C" fn coordinator_run_unattended<'a>(
+    table: &'a [u32],
+    state: &'a [u32],
+    budget: u32,
+    target: &mut [u32],
+) -> Unattended
+    ensures answer { λ r. ⌜ r ≡ runUnattended (now (table .entry)) (now (state .entry)) budget (now (target .entry)) ⌝ }
+    ensures contents { λ _. ⌜ now (target .exit) ≡ runUnattendedTarget (now (table .entry)) (now (state .entry)) budget (now (target .entry)) ⌝ }
+{
+    unattended_of(calls::run_unattended(table, state, budget, target))
 }

@@ -10,11 +10,11 @@ use Rattle.lists.specs.Lists.{upFrom, each, tuples}
 use Rattle.lists.specs.Members.{Among, among-left, among-right, among-append, among-map, map-among}
 use Rattle.lists.specs.UpFrom.{up-among}
 use Rattle.lists.specs.TupleMembers.{among-each, each-among, among-up, among-tuples, tuples-among}
-use Rattle.semantics.specs.Table.{Table, tableOf, ruleAt, consumed}
+use Rattle.semantics.specs.Table.{Table, sizesOf, tableOf, ruleAt, consumed}
 use Rattle.semantics.specs.State.{State, stateOf}
 use Rattle.semantics.specs.Move.{Move, react, commit, abort, isOpen, mayCommit, mayAbort, endFaults, firstFault, allowed}
 use Rattle.semantics.specs.Enabled.{reactionsOf, candidates}
-use Rattle.semantics.specs.Answers.{stateVerdict}
+use Rattle.semantics.specs.Answers.{tableVerdict, stateVerdict}
 use Rattle.semantics.specs.declared.Refusal.the-variants.{NoTransaction}
 use Rattle.semantics.specs.declared.Verdict.the-variants.{Allowed}
 use Rattle.wellformed.specs.Verdicts.{unless-allowed, passed-each}
@@ -25,7 +25,7 @@ use Rattle.wellformed.specs.Entries.{Sound}
 use Rattle.wellformed.specs.MoveWords.{Holdable, open-id}
 use Rattle.wellformed.specs.Picks.{react-given, pick-lt, picks-length}
 use Rattle.wellformed.specs.Preservation.{RuleKnown}
-use Rattle.wellformed.specs.Held.{stateOf-held}
+use Rattle.wellformed.specs.Held.{Held, stateOf-held}
 
 -- a rule of the table with a place for each of its consumes, or an id that has been given out
 abbrev pub Candidate : Table → State → Move → Type 0
@@ -91,16 +91,16 @@ pub record FromWords (t : Table) (s : State) : Type 0 where
   pub sound : Sound (t .sizes) s
   pub few-entries : length (s .entries) ≤ 1024
 
+pub from-held : (t : List ℕ) → tableVerdict t ≡ Allowed → (s : State) → Held (sizesOf t) s → FromWords (tableOf t) s
+from-held t table s held = record {
+  right = table-right t table;
+  few-rules = rw (length-rules t) (well-formed t table .sizes .rules);
+  sound = rw (sizes-tableOf t) (held .sound);
+  few-entries = held .few;
+}
+
 pub from-words : (t s : List ℕ) → stateVerdict t s ≡ Allowed → FromWords (tableOf t) (stateOf s)
-from-words t s h =
-    let (table, _, _) = state-given s t h in
-    let held = stateOf-held t s h in
-    record {
-      right = table-right t table;
-      few-rules = rw (length-rules t) (well-formed t table .sizes .rules);
-      sound = rw (sizes-tableOf t) (held .sound);
-      few-entries = held .few;
-    }
+from-words t s h = from-held t (state-given s t h .0) (stateOf s) (stateOf-held t s h)
 
 module _ {t : Table} {s : State} (words : FromWords t s) where
   -- words can hold a candidate

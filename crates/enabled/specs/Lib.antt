@@ -5,3 +5,6 @@ pub mod Length
 pub mod Keys
 pub mod Reactions
 pub mod Ends
+pub mod ByRules
+pub mod Alone
+pub mod PublicAlone

@@ -21,18 +21,17 @@ use Rattle.lists.specs.Beside.{allBeside, beside-same}
 use Rattle.lists.specs.Choosing.{groupBase, choicesFrom, choicesByGroup}
 use Rattle.lists.specs.KeyedTuples.{tuples-same, haveKeys, keep-keys, haveGroup, keep-group}
 use Rattle.semantics.specs.Table.{Table, Rule, sizesOf, portCount, classOf, tableOf, ruleAt, hasRole, consumed}
-use Rattle.semantics.specs.State.{Entry, State, isMessage, owned, stateOf}
+use Rattle.semantics.specs.State.{Entry, State, isMessage, owned}
 use Rattle.semantics.specs.Move.{unless, both, firstFault, react, isZero, nothing, entryAt, picked, onPorts, picksOk, ownersAt, ownersFit, takesPart, hasId}
 use Rattle.semantics.specs.Move.{reacted, allowed, applied, moveVerdict}
 use Rattle.semantics.specs.Enabled.{reactionsOf, isAllowed}
-use Rattle.semantics.specs.Answers.{tableVerdict, stateVerdict}
+use Rattle.semantics.specs.Answers.{tableVerdict}
 use Rattle.semantics.specs.declared.Sizes.{Sizes}
 use Rattle.semantics.specs.declared.Refusal.the-variants.{WrongPick, WrongOwner, NoMoreIds, TooManyEntries, TransactionAborting}
 use Rattle.semantics.specs.declared.Verdict.the-variants.{Allowed}
 use Rattle.wellformed.specs.Tables.{well-formed}
-use Rattle.wellformed.specs.States.{state-given}
 use Rattle.wellformed.specs.Rules.{RuleRight, rules-right}
-use Rattle.wellformed.specs.Entries.{EntryRight, StateRight, state-right}
+use Rattle.wellformed.specs.Entries.{EntryRight, StateRight}
 use Rattle.wellformed.specs.Picks.{ReactGiven, left-length, picks-length}
 use Rattle.wellformed.specs.Length.{length-reacted}
 use Rattle.enabled.specs.Keys.{takeable, takeableOn, Keyed, plain-key, local-key, group-key}
@@ -253,15 +252,12 @@ module _ {z : Sizes} {S : State} {ks : List ℕ} (few : portCount z ≤ 256) (st
 
 -- ---- the open reactions by a rule
 
-pub reactions-open : (t s : List ℕ) → stateVerdict t s ≡ Allowed → (r : ℕ) → r < sizesOf t .rules → (ceiling : ℕ) {ks : List ℕ}
-    → Keyed (sizesOf t) (takesPart (stateOf s)) (stateOf s .entries) ks
-    → keep (λ m. isAllowed (moveVerdict ceiling (tableOf t) (stateOf s) m)) (reactionsOf (tableOf t) (length (stateOf s .entries)) r)
-    ≡ map (react r)
-    (cond (hasId (ruleAt (tableOf t) r) (stateOf s) && hasRoom ceiling (ruleAt (tableOf t) r) (stateOf s)) (choicesOf (ruleAt (tableOf t) r) ks) [])
-reactions-open t s ok r l ceiling {ks} keyed =
-    let (table, _, entries) = state-given s t ok in
+pub reactions-open : (t : List ℕ) → tableVerdict t ≡ Allowed → (S : State) → StateRight (sizesOf t) S → (r : ℕ) → r < sizesOf t .rules → (ceiling : ℕ)
+    {ks : List ℕ} → Keyed (sizesOf t) (takesPart S) (S .entries) ks
+    → keep (λ m. isAllowed (moveVerdict ceiling (tableOf t) S m)) (reactionsOf (tableOf t) (length (S .entries)) r)
+    ≡ map (react r) (cond (hasId (ruleAt (tableOf t) r) S && hasRoom ceiling (ruleAt (tableOf t) r) S) (choicesOf (ruleAt (tableOf t) r) ks) [])
+reactions-open t table S right r l ceiling {ks} keyed =
     let T = tableOf t in
-    let S = stateOf s in
     let R = ruleAt T r in
     let all-picks = tuples (length (S .entries)) (length (consumed R)) in
     let may = hasId R S && hasRoom ceiling R S in
@@ -271,4 +267,4 @@ reactions-open t s ok r l ceiling {ks} keyed =
     (λ ps h. verdict-is ceiling T S r ps)
     ∙ keep-cond (picksFit R S) may all-picks
     ∙ ap (λ (l : List (List ℕ)). cond may l [])
-    (choices-are (well-formed t table .sizes .ports) (state-right (sizesOf t) S entries) keyed (R .class) (consumed R) (consumed-ports t table r l)))
+    (choices-are (well-formed t table .sizes .ports) right keyed (R .class) (consumed R) (consumed-ports t table r l)))

@@ -16,7 +16,8 @@ use Rattle.lists.specs.Choosing.{choicesIn, choicesByGroup}
 use Rattle.lists.specs.Tuples.{from-end, from-pass, from-here}
 use Rattle.choices.specs.Widths.{widthsOf}
 use Rattle.groups.specs.Groups.{CountedFor, leftIn, waysIn}
-use Rattle.groups.proofs.Within.{groupsFrom, restOf, in-group, groups-start-of, first-left}
+use Rattle.groups.specs.Left.{first-left}
+use Rattle.groups.proofs.Within.{groupsFrom, restOf, in-group, groups-start-of}
 
 -- f of each number below n, added up
 abbrev pub sumUp : (ℕ → ℕ) → ℕ → ℕ

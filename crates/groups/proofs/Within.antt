@@ -8,7 +8,7 @@ use lib.Dec.{eqb}
 use lib.ListN.{length, getD, take, drop, length-map}
 use Rattle.lists.specs.Choices.{and-intro}
 use Rattle.lists.specs.Tests.{same-test}
-use Rattle.lists.specs.Keys.{timesIn, times-le}
+use Rattle.lists.specs.Keys.{timesIn}
 use Rattle.lists.specs.Choosing.{choicesFrom, groupBase, choicesIn, choicesByGroup}
 use Rattle.lists.specs.Mapped.{map-take}
 use Rattle.lists.specs.Tuples.{eachFrom, from-start}
@@ -16,7 +16,8 @@ use Rattle.lists.specs.Pages.{Paged, paged-map}
 use Rattle.lists.specs.Ways.{Used, used-none, used-next, choices-ways}
 use Rattle.choices.specs.Widths.{widthsOf, Widths, widths-are}
 use Rattle.choices.specs.Words.{choiceWords}
-use Rattle.groups.specs.Groups.{Sized, Grouped, CountedFor, onFirst, leftIn}
+use Rattle.groups.specs.Groups.{CountedFor, leftIn}
+use Rattle.groups.specs.Left.{second-left, third-left, fourth-left}
 
 -- ---- numbers that are all shifted
 
@@ -42,47 +43,6 @@ getD-shift : (b : ℕ) (xs : List ℕ) (j : ℕ) → j < length xs → getD (shi
 getD-shift b [] j h = absurd (omega arith)
 getD-shift b (x ∷ xs) zero h = refl
 getD-shift b (x ∷ xs) (suc j) h = getD-shift b xs j (omega arith)
-
--- ---- the numbers of one group, taken out of its word
-
-module _ {ks : List ℕ} {a b c d : ℕ} {counts : List ℕ} (h : Grouped ks a b c d counts) where
-  times-few : (u : ℕ) → timesIn u ks ≤ 1024
-  times-few u = omega (arith, times-le u ks, h .few)
-
-  module _ (g : ℕ) (low : g < 1024) where
-    abbrev x : ℕ
-    x = timesIn (g * 512 + b) ks
-
-    abbrev y : ℕ
-    y = timesIn (g * 512 + c) ks
-
-    abbrev z : ℕ
-    z = timesIn (g * 512 + d) ks
-
-    few-each : (x ≤ 1024) × (y ≤ 1024) × (z ≤ 1024) × (timesIn (g * 512 + a) ks ≤ 1024)
-    few-each = (times-few (g * 512 + b), times-few (g * 512 + c), times-few (g * 512 + d), times-few (g * 512 + a))
-
-    pub first-left : onFirst counts g ≡ timesIn (g * 512 + a) ks
-    first-left = omega (arith, h .each g low, few-each)
-
-    second-left : getD counts g 0 % 1048576 ≡ x
-    second-left = omega (arith, h .each g low, few-each)
-
-    third-left : getD counts g 0 / 1048576 % 1048576 ≡ y
-    third-left = omega (arith, h .each g low, few-each)
-
-    fourth-left : getD counts g 0 / 1099511627776 % 4096 ≡ z
-    fourth-left = omega (arith, h .each g low, few-each)
-
-    left-few : (j : ℕ) → getD (leftIn counts g) j 0 ≤ 1024
-    left-few zero = omega arith
-    left-few (suc zero) = rw second-left (times-few (g * 512 + b))
-    left-few (suc (suc zero)) = rw third-left (times-few (g * 512 + c))
-    left-few (suc (suc (suc zero))) = rw fourth-left (times-few (g * 512 + d))
-    left-few (suc (suc (suc (suc j)))) = omega arith
-
-  pub grouped-sized : Sized counts
-  grouped-sized = record { size = h .size; few = left-few; firsts = λ g l. rw (first-left g l) (times-few (g * 512 + a)) }
 
 -- ---- one first place
 

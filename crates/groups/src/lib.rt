@@ -5,3 +5,5 @@ mod pages;
 pub use counts::count_groups;
 pub use pages::group_page;
 pub use pages::group_total;
+pub use pages::shifted;
+pub use pages::widths_in;

@@ -27,7 +27,7 @@ fn group_widths<'a>(takes: [u32; 4], k: usize, counts: &'a [u64; 1024], g: usize
 }
 
 // The ways below a first pick with this key: those of its group.
-fn widths_in<'a>(takes: [u32; 4], k: usize, counts: &'a [u64; 1024], key: u32) -> [u64; 4]
+pub fn widths_in<'a>(takes: [u32; 4], k: usize, counts: &'a [u64; 1024], key: u32) -> [u64; 4]
     requires { ⌜ Sized (now counts) × (key < 524288) ⌝ }
     ensures { λ r. ⌜ r ≡ widthsOf takes (leftIn (now (counts .entry)) (key / 512)) k ⌝ }
 {
@@ -66,8 +66,8 @@ pub fn group_total<'a>(
     total
 }
 
-fn shifted(takes: [u32; 4], base: u32) -> [u32; 4]
-    requires { ⌜ (base ≤ 524288) × ((j : ℕ) → getD takes j 0 < 65536) ⌝ }
+pub fn shifted(takes: [u32; 4], base: u32) -> [u32; 4]
+    requires { ⌜ (base ≤ 65536 * 512) × ((j : ℕ) → getD takes j 0 < 65536) ⌝ }
     ensures { λ r. ⌜ r ≡ map (λ u. u + base) takes ⌝ }
 {
     [

@@ -29,7 +29,8 @@ use Rattle.choices.specs.declared.Part.{Part}
 use Rattle.choices.specs.Parts.{PartAs, part-same}
 use Rattle.groups.specs.Groups.{KeysBelow}
 use Rattle.eligible.specs.KeyColumn.{outside, KeyColumn, keyed-column}
-use Rattle.listing.specs.Listing.{reactionsBy, endsBy}
+use Rattle.rule_moves.specs.Takes.{reactionsBy}
+use Rattle.listing.specs.Listing.{endsBy}
 use Rattle.listing.proofs.Open.{enabled-parts, local-place, global-outside, outside-part}
 
 module _ (t s os ws gs : List ℕ) (at : Extent) (ok : stateVerdict t s ≡ Allowed) (loaded : HoldsIn (held os ws gs at) (stateOf s)) where

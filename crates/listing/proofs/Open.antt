@@ -1,36 +1,33 @@
 -- The list of open moves is what the code goes through, and what it asks of an accepted state.
-use Prim.Native.Nat.{ℕ, _-_, _≤_, _<_}
+use Prim.Native.Nat.{ℕ, _≤_, _<_}
 use mathlib.Core.Bool.{Bool, true, false, _&&_, not}
-use mathlib.Core.List.{List, _++_, map, append-assoc}
+use mathlib.Core.List.{List, _++_}
 use mathlib.Core.Path.{_≡_, refl, sym, ap, _∙_, fun-ext}
 use native.Mathlib.Omega.{arith}
 use borrow.Author.Tests.{eqb-true, eq-eqb, lt-ltb}
 use lib.Dec.{eqb}
-use lib.ListN.{length, take}
-use Rattle.lists.specs.Lists.{any, keep, upFrom, each}
+use lib.ListN.{length}
+use Rattle.lists.specs.Lists.{any}
 use Rattle.lists.specs.Choices.{by-bool, clash, is-false, and-left, and-right}
 use Rattle.lists.specs.Members.{Among, any-some, any-intro}
-use Rattle.lists.specs.Parts.{keep-append}
 use Rattle.lists.specs.Ascending.{PlaceIn}
-use Rattle.lists.specs.Tuples.{keep-each, each-up}
-use Rattle.semantics.specs.Table.{sizesOf, tableOf, ruleAt, classOf}
+use Rattle.semantics.specs.Table.{sizesOf, tableOf, classOf}
 use Rattle.semantics.specs.State.{Entry, State, isAbortMark, owned, stateOf}
-use Rattle.semantics.specs.Move.{Move, commit, abort, isZero, takesPart, moveVerdict}
-use Rattle.semantics.specs.Enabled.{reactionsOf, isAllowed, enabled}
+use Rattle.semantics.specs.Move.{Move, isZero, takesPart}
 use Rattle.semantics.specs.Answers.{stateVerdict, enabledIn}
 use Rattle.semantics.specs.declared.Verdict.the-variants.{Allowed}
-use Rattle.wellformed.specs.Tables.{sizes-tableOf, length-rules}
+use Rattle.wellformed.specs.Tables.{sizes-tableOf}
 use Rattle.wellformed.specs.States.{state-given}
 use Rattle.wellformed.specs.Entries.{StateRight, state-right}
 use Rattle.enabled.specs.Keys.{Keyed, takeable, isLocal}
-use Rattle.enabled.specs.Reactions.{reactions-open}
+use Rattle.enabled.specs.ByRules.{enabled-by-rules}
 use Rattle.idset.specs.IdSet.{has}
 use Rattle.transactions.specs.Sets.{TransactionSets, abort-marked}
 use Rattle.transactions.specs.Ids.{IdsBelow, ids-place}
-use Rattle.ends.specs.Listed.{agrees, commits-kept, aborts-kept}
-use Rattle.rule_moves.specs.Takes.{movesBy}
+use Rattle.ends.specs.Listed.{commits-kept, aborts-kept}
 use Rattle.eligible.specs.KeyColumn.{outside}
-use Rattle.listing.specs.Listing.{reactionsBy, endsBy}
+use Rattle.rule_moves.specs.Takes.{reactionsBy}
+use Rattle.listing.specs.Listing.{endsBy}
 
 module _ (t s : List ℕ) (ok : stateVerdict t s ≡ Allowed) where
   abbrev S : State
@@ -39,42 +36,22 @@ module _ (t s : List ℕ) (ok : stateVerdict t s ≡ Allowed) where
   abbrev n : ℕ
   n = length (S .entries)
 
-  module _ (ceiling : ℕ) (room : n ≤ ceiling) {present blocked aborting ids : List ℕ} {m : ℕ}
-      (sets : TransactionSets (sizesOf t .globals) (S .entries) present blocked aborting) (listed : IdsBelow (S .next) (has present) ids m)
-      {ks : List ℕ} (keyed : Keyed (sizesOf t) (takesPart S) (S .entries) ks) where
-    abbrev open? : Move → Bool
-    open? m = isAllowed (moveVerdict ceiling (tableOf t) S m)
-
-    abbrev end : (ℕ → Move) → List Move
-    end f = map f (upFrom 1 (S .next - 1))
-
-    globals : sizesOf t .globals ≡ tableOf t .sizes .globals
-    globals = ap (λ z. z .globals) (sym (sizes-tableOf t))
-
-    abbrev all : List Move
-    all = each (reactionsOf (tableOf t) n) (upFrom 0 (length (tableOf t .rules)))
-
-    by-rules : keep open? all ≡ reactionsBy ceiling t n (S .next) ks
-    by-rules =
-        keep-each open? (reactionsOf (tableOf t) n) (upFrom 0 (length (tableOf t .rules)))
-        ∙ ap (λ (k : ℕ). each (λ r. keep open? (reactionsOf (tableOf t) n r)) (upFrom 0 k)) (length-rules t)
-        ∙ each-up (λ r. keep open? (reactionsOf (tableOf t) n r)) (λ r. movesBy ceiling (ruleAt (tableOf t) r) r n (S .next) ks) 0 (sizesOf t .rules)
-        (λ r l. reactions-open t s ok r (omega arith) ceiling keyed)
-
-    pub enabled-parts : enabledIn ceiling t s ≡ reactionsBy ceiling t n (S .next) ks ++ endsBy ids m blocked aborting
-    unfolding enabled
-    enabled-parts =
-        keep-append open? (all ++ end commit) (end abort)
-        ∙ ap (λ (l : List Move). l ++ keep open? (end abort)) (keep-append open? all (end commit))
-        ∙ ap (λ (l : List Move). (l ++ keep open? (end commit)) ++ keep open? (end abort)) by-rules
-        ∙ rw (commits-kept ceiling (tableOf t) S room globals sets listed, aborts-kept ceiling (tableOf t) S room globals sets listed)
-        (append-assoc (reactionsBy ceiling t n (S .next) ks) (map commit (keep (agrees false blocked) (take m ids)))
-        (map abort (keep (agrees true aborting) (take m ids))))
-
-  -- what is on a local port belongs to a transaction, whose id has been given out
   right : StateRight (sizesOf t) S
   right = state-right (sizesOf t) S (state-given s t ok .2)
 
+  module _ (ceiling : ℕ) (room : n ≤ ceiling) {present blocked aborting ids : List ℕ} {m : ℕ}
+      (sets : TransactionSets (sizesOf t .globals) (S .entries) present blocked aborting) (listed : IdsBelow (S .next) (has present) ids m)
+      {ks : List ℕ} (keyed : Keyed (sizesOf t) (takesPart S) (S .entries) ks) where
+    globals : sizesOf t .globals ≡ tableOf t .sizes .globals
+    globals = ap (λ z. z .globals) (sym (sizes-tableOf t))
+
+    pub enabled-parts : enabledIn ceiling t s ≡ reactionsBy ceiling t n (S .next) ks ++ endsBy ids m blocked aborting
+    enabled-parts =
+        enabled-by-rules t (state-given s t ok .0) S right ceiling keyed
+        ∙ ap (λ (l : List Move). reactionsBy ceiling t n (S .next) ks ++ l)
+        (rw (commits-kept ceiling (tableOf t) S room globals sets listed, aborts-kept ceiling (tableOf t) S room globals sets listed))
+
+  -- what is on a local port belongs to a transaction, whose id has been given out
   local-owner : (part : ℕ → Bool) (e : Entry) → Among e (S .entries) → isLocal (sizesOf t) part e ≡ true → (1 ≤ e .owner) × (e .owner < S .next)
   local-owner part e a l =
       let class = and-right (takeable (sizesOf t) part e) (eqb (classOf (sizesOf t) (e .port)) 1) l in

@@ -1,13 +1,12 @@
 -- What the loop over the rules and the whole list use.
-use Prim.Native.Nat.{ℕ, _+_, _*_, _<_}
-use mathlib.Core.Path.{_≡_, sym, ap, subst}
+use Prim.Native.Nat.{ℕ, _+_, _*_}
+use mathlib.Core.Path.{_≡_, ap, subst}
 use mathlib.Core.List.{List, _++_}
 use native.Mathlib.Nat.{zero-add}
 use native.Mathlib.Omega.{arith}
 use lib.ListN.{length, length-append}
-use Rattle.lists.specs.Each.{All}
 use Rattle.lists.specs.Pages.{Paged}
-use Rattle.semantics.specs.Table.{Rule, consumed}
+use Rattle.semantics.specs.Table.{Rule}
 use Rattle.semantics.specs.Move.{Move}
 use Rattle.semantics.specs.Enabled.{moveWords}
 use Rattle.rules.specs.declared.decode.Rule as rules
@@ -23,9 +22,6 @@ more-length all rest a b n p h e q = omega (arith, h, ap length e, length-append
 
 -- what is said of a decoded rule is said of the rule
 module _ {x : rules.Rule} {R : Rule} (d : Decodes x R) where
-  pub small-ports : All (λ p. p < 256) (consumed R) → All (λ p. p < 256) (consumed (ruleIn x))
-  small-ports h = subst (λ R. All (λ p. p < 256) (consumed R)) (sym (rule-in x R d)) h
-
   pub part-of-rule : (ceiling r n next : ℕ) (ks : List ℕ) {first count at : ℕ} {before after : List ℕ} {p : Part}
       → PartAs moveWords (movesBy ceiling (ruleIn x) r n next ks) first count at before after p
       → PartAs moveWords (movesBy ceiling R r n next ks) first count at before after p

@@ -10,7 +10,7 @@ ghost use Rattle.table.specs.Index.{Starts};
 ghost use Rattle.choices.specs.Parts.{PartAs};
 ghost use Rattle.groups.specs.Groups.{KeysBelow};
 ghost use Rattle.eligible.specs.Ports.{PortCounts};
-ghost use Rattle.listing.specs.Listing.{reactionsBy};
+ghost use Rattle.rule_moves.specs.Takes.{reactionsBy};
 use choices::Part;
 use choices::less;
 use rule_moves::moves_by;

@@ -45,3 +45,5 @@ pub mod Pairwise
 pub mod Choosing
 pub mod Pages
 pub mod Ways
+pub mod FirstChoice
+pub mod Lowest

@@ -69,6 +69,14 @@ keep-onward p v r n l h none =
     let f : suc v + (r - suc v) ≡ r = omega arith in
     rw e (ap (keepIf (p v) v) (keep-past p (suc v) (r - suc v) (n - r) (λ x k m. none x k (omega arith)) ∙ rw f))
 
+-- the first of those below n of which p holds
+pub keep-first : (p : ℕ → Bool) (i v n : ℕ) → i ≤ v → v < n → ((x : ℕ) → i ≤ x → x < v → p x ≡ false) → p v ≡ true
+    → keep p (upFrom i (n - i)) ≡ v ∷ keep p (upFrom (suc v) (n - suc v))
+keep-first p i v n l h none here =
+    let e : n - i ≡ v - i + suc (n - suc v) = omega arith in
+    let f : i + (v - i) ≡ v = omega arith in
+    rw e (keep-past p i (v - i) (suc (n - suc v)) (λ x a b. none x a (omega arith)) ∙ rw (f, here))
+
 -- a number is at most once among them
 up-once : (m i n : ℕ) → countIf (eqb m) (upFrom i n) ≤ 1
 up-once m i zero = omega arith

@@ -4,19 +4,16 @@ use mathlib.Core.Path.{_≡_, refl, ap, _∙_, fun-ext, subst}
 use mathlib.Core.Bool.{Bool, true, false, cond}
 use mathlib.Core.List.{List, [], _∷_, _++_, map}
 use native.Mathlib.Omega.{arith}
-use borrow.Author.Tests.{ltb-true, eq-eqb, ne-eqb}
+use borrow.Author.Tests.{ltb-true}
 use lib.Dec.{ltb}
 use lib.ListN.{length, getD, take, set, replicate, length-take}
 use lib.Seq.{sets, getD-take}
 use Rattle.lists.specs.Each.{All, All-getD}
 use Rattle.lists.specs.Choices.{by-bool}
 use Rattle.lists.specs.Pages.{paged-none}
-use Rattle.lists.specs.Choosing.{choicesFrom, choicesByGroup}
 use Rattle.semantics.specs.Words.{headWord}
-use Rattle.semantics.specs.Table.{Rule, consumed}
 use Rattle.semantics.specs.Move.{react}
 use Rattle.semantics.specs.Enabled.{moveWords}
-use Rattle.enabled.specs.Reactions.{choicesOf}
 use Rattle.choices.specs.declared.Part.{Part}
 use Rattle.choices.specs.Words.{choiceWords}
 use Rattle.choices.specs.Parts.{PartAs, part-map}
@@ -95,11 +92,3 @@ front-small ports h k all = small
     small (suc (suc zero)) = at 2 (omega arith)
     small (suc (suc (suc zero))) = at 3 (omega arith)
     small (suc (suc (suc (suc j)))) = omega arith
-
--- ---- the choices, by the rule's class
-
-pub grouped-choices : (R : Rule) (ks : List ℕ) {ts : List ℕ} → R .class ≡ 1 → ts ≡ consumed R → choicesByGroup ks ts ≡ choicesOf R ks
-grouped-choices R ks c e = rw (e, eq-eqb (R .class) 1 c)
-
-pub plain-choices : (R : Rule) (ks : List ℕ) {ts : List ℕ} → (R .class ≡ 1 → ⊥) → ts ≡ consumed R → choicesFrom ks [] ts ≡ choicesOf R ks
-plain-choices R ks c e = rw (e, ne-eqb (R .class) 1 c)

@@ -3,4 +3,6 @@ mod grouped;
 mod plain;
 mod rule;
 
+pub use rule::is_open;
 pub use rule::moves_by;
+pub use rule::takes_of;

@@ -11,7 +11,7 @@ ghost use Rattle.reaction.specs.Decoded.{ruleIn};
 ghost use Rattle.choices.specs.Parts.{PartAs};
 ghost use Rattle.groups.specs.Groups.{KeysBelow};
 ghost use Rattle.eligible.specs.Ports.{PortCounts};
-ghost use Rattle.rule_moves.specs.Takes.{frontOf, hasRoomFor, movesBy};
+ghost use Rattle.rule_moves.specs.Takes.{SmallPorts, frontOf, hasRoomFor, movesBy};
 use crate::grouped::grouped_moves;
 use crate::plain::plain_moves;
 use choices::Part;
@@ -37,7 +37,16 @@ fn front_of(ports: [u16; 4], k: usize) -> [u32; 4]
     [a, b, c, d]
 }
 
-fn is_open(rule: Rule, at: Extent, ceiling: usize) -> bool
+// The ports of a rule's consumes in order, and port 0 behind them.
+pub fn takes_of(rule: Rule) -> [u32; 4]
+    requires { ⌜ Decodes rule (ruleIn rule) × All (λ p. p < 256) (consumed (ruleIn rule)) ⌝ }
+    ensures { λ r. ⌜ (take (rule .consumes) r ≡ consumed (ruleIn rule)) × SmallPorts r ⌝ }
+{
+    front_of(consume_ports(rule), rule.consumes)
+}
+
+// Whether ids and room are left for a rule.
+pub fn is_open(rule: Rule, at: Extent, ceiling: usize) -> bool
     requires { ⌜ Decodes rule (ruleIn rule) × (at .len ≤ 1024) × (ceiling ≤ 1024) ⌝ }
     ensures { λ r. ⌜ r ≡ hasRoomFor ceiling (ruleIn rule) (at .len) (at .next) ⌝ }
 {
@@ -75,7 +84,7 @@ pub fn moves_by<'a>(
     }
     let n = at.len;
     let k = rule.consumes;
-    let takes = front_of(consume_ports(rule), k);
+    let takes = takes_of(rule);
     if rule.class == 1 {
         return grouped_moves(keys, n, takes, k, r, first, count, target, place);
     }

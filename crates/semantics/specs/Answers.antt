@@ -1,23 +1,24 @@
 -- The numbers of 01 and 02, and each public call's answer and target contents as a function of the words handed in.
 use Prim.Native.Nat.{ℕ, _+_, _*_}
-use mathlib.Core.Bool.{Bool, not}
+use mathlib.Core.Bool.{Bool, false, not}
 use mathlib.Core.List.{List, [], _∷_, map}
 use lib.Dec.{leb}
 use lib.ListN.{length}
-use Rattle.lists.specs.Lists.{over, each}
+use Rattle.lists.specs.Lists.{over, each, oneIf}
 use Rattle.semantics.specs.Table.{sizesOf, tableSizesOk, tableContentsOk, tableOf}
 use Rattle.semantics.specs.State.{State, maxEntries, stateSizesOk, entriesOk, stateOf, stateWords}
 use Rattle.semantics.specs.Move.{unless, firstFault, Move, moveOk, moveOf, Stepped, to, refused, stepWords}
-use Rattle.semantics.specs.Log.{moveCount, movesOf, logSizesOk, logWords, Ran, completed, stopped, run}
+use Rattle.semantics.specs.Log.{maxMoves, moveCount, movesOf, logSizesOk, logWords, Ran, completed, stopped, run}
 use Rattle.semantics.specs.Members.{membersEnded, membersAlong}
 use Rattle.semantics.specs.Serial.{beginsEmit, anyOpen, serial, serialFits}
 use Rattle.semantics.specs.Tally.{noMoves, tallyAlong, tallyWords}
 use Rattle.semantics.specs.Enabled.{enabled, moveWords, pageCount, pageOf}
 use Rattle.semantics.specs.Preview.{previewed}
+use Rattle.semantics.specs.Unattended.{movesAlone, reachedAlone, isStill}
 use Rattle.semantics.specs.declared.Refusal.{Refusal}
 use Rattle.semantics.specs.declared.Refusal.the-variants.{TableSizes, TableContents, StateSizes, StateContents, MoveForm, TargetTooShort}
 use Rattle.semantics.specs.declared.Refusal.the-variants.{WrongPick, WrongOwner, NoTransaction, EndNotAllowed, NoMoreIds, TooManyEntries}
-use Rattle.semantics.specs.declared.Refusal.the-variants.{LogSizes, BeginEmits, TransactionOpen, SerialTooManyEntries, TransactionAborting}
+use Rattle.semantics.specs.declared.Refusal.the-variants.{LogSizes, BeginEmits, TransactionOpen, SerialTooManyEntries, TransactionAborting, BudgetTooLarge}
 use Rattle.semantics.specs.declared.Verdict.{Verdict}
 use Rattle.semantics.specs.declared.Verdict.the-variants.{Allowed, Denied}
 use Rattle.semantics.specs.declared.Outcome.{Outcome}
@@ -29,9 +30,11 @@ use Rattle.semantics.specs.declared.Listed.{Listed}
 use Rattle.semantics.specs.declared.Preview.{Preview}
 use Rattle.semantics.specs.declared.Previewed.{Previewed}
 use Rattle.semantics.specs.declared.Previewed.the-variants.{Accepted, Rejected}
+use Rattle.semantics.specs.declared.LeftAlone.{LeftAlone}
+use Rattle.semantics.specs.declared.Unattended.{Unattended}
 use Rattle.semantics.specs.declared.Sizes.{Sizes}
 
--- ---- the numbers of 01, and 18 of 02 (M-105)
+-- ---- the numbers of 01, and 18 and 19 of 02 (M-105, M-130)
 
 abbrev pub number : Refusal → ℕ
 -- what is handed in is at fault
@@ -43,6 +46,7 @@ number MoveForm = 5
 number TargetTooShort = 6
 number LogSizes = 13
 number BeginEmits = 14
+number BudgetTooLarge = 19
 -- the state does not allow it
 number WrongPick = 7
 number WrongOwner = 8
@@ -291,3 +295,54 @@ previewAnswer (Rejected r) = record { number = number r; entries = 0; next = 0; 
 
 unfoldable pub previewMove : List ℕ → List ℕ → List ℕ → Preview
 previewMove t s m = previewAnswer (previewResult lineCeiling t s m)
+
+-- ---- the unattended run (02, M-130)
+
+-- 1, 2, 3, 4, 19, 6: a log has no more moves than 1,024, and the target must hold one of the whole budget, however many moves are made
+abbrev pub aloneFaults : List ℕ → List ℕ → ℕ → List ℕ → List Verdict
+aloneFaults t s budget target =
+    stateVerdict t s
+    ∷ unless (leb budget maxMoves) BudgetTooLarge
+    ∷ hasWords (1 + 5 * budget) target
+    ∷ []
+
+unfoldable pub aloneVerdict : List ℕ → List ℕ → ℕ → List ℕ → Verdict
+aloneVerdict t s budget target = firstFault (aloneFaults t s budget target)
+
+-- the moves made on a state in words, and the state that they reach
+abbrev pub aloneMoves : ℕ → List ℕ → List ℕ → ℕ → List Move
+aloneMoves ceiling t s budget = movesAlone ceiling (tableOf t) 0 budget (stateOf s)
+
+abbrev pub aloneReached : ℕ → List ℕ → List ℕ → ℕ → State
+aloneReached ceiling t s budget = reachedAlone ceiling (tableOf t) 0 budget (stateOf s)
+
+-- their log, with as many heads as moves were made
+unfoldable pub aloneResult : ℕ → List ℕ → List ℕ → ℕ → List ℕ → Result
+aloneResult ceiling t s budget target = unlessDenied (aloneVerdict t s budget target) (write (logWords (aloneMoves ceiling t s budget)))
+
+-- beside it their number, 0 where the run is refused, ..
+unfoldable pub aloneCount : ℕ → List ℕ → List ℕ → ℕ → List ℕ → ℕ
+aloneCount ceiling t s budget target = unlessDeniedZero (aloneVerdict t s budget target) (length (aloneMoves ceiling t s budget))
+
+-- .. and whether nothing is open in the state reached; of a refused run that is not said
+abbrev pub unlessDeniedFalse : Verdict → Bool → Bool
+unlessDeniedFalse Allowed b = b
+unlessDeniedFalse (Denied r) b = false
+
+unfoldable pub aloneStill : ℕ → List ℕ → List ℕ → ℕ → List ℕ → Bool
+aloneStill ceiling t s budget target =
+    unlessDeniedFalse (aloneVerdict t s budget target) (isStill ceiling (tableOf t) (aloneReached ceiling t s budget))
+
+-- what C gets
+abbrev pub aloneAnswer : LeftAlone → Unattended
+aloneAnswer l = record { number = answerOf (l .outcome) .number; words = answerOf (l .outcome) .words; moves = l .moves; still = oneIf (l .still) }
+
+unfoldable pub runUnattended : List ℕ → List ℕ → ℕ → List ℕ → Unattended
+runUnattended t s budget target = aloneAnswer (record {
+  outcome = outcomeOf (aloneResult lineCeiling t s budget target);
+  moves = aloneCount lineCeiling t s budget target;
+  still = aloneStill lineCeiling t s budget target;
+})
+
+unfoldable pub runUnattendedTarget : List ℕ → List ℕ → ℕ → List ℕ → List ℕ
+runUnattendedTarget t s budget target = targetAfter (aloneResult lineCeiling t s budget target) target

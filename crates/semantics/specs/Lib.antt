@@ -8,6 +8,7 @@ pub mod Serial
 pub mod Tally
 pub mod Enabled
 pub mod Preview
+pub mod Unattended
 pub mod Answers
 pub mod Cases
 pub mod OddCases
@@ -16,5 +17,6 @@ pub mod ListCases
 pub mod PreviewCases
 pub mod MemberCases
 pub mod TallyCases
+pub mod AloneCases
 pub mod Program
 pub mod ProgramCases

@@ -19,6 +19,7 @@ pub enum Refusal {
     TransactionOpen,
     SerialTooManyEntries,
     TransactionAborting,
+    BudgetTooLarge,
 }
 
 // What a single test says.
@@ -96,6 +97,23 @@ pub struct Preview {
     pub next: u32,
     pub id: u32,
     pub members: u32,
+}
+
+// What an unattended run says (02, M-130): words of its log written, or why not, how many moves it made,
+// and whether none is open where it ended. Else its budget is spent.
+pub struct LeftAlone {
+    pub outcome: Outcome,
+    pub moves: u32,
+    pub still: bool,
+}
+
+// The same in numbers, for C: still is 1, spent 0.
+#[repr(C)]
+pub struct Unattended {
+    pub number: u32,
+    pub words: u32,
+    pub moves: u32,
+    pub still: u32,
 }
 
 // 01's G, L, M, R and A: how many global, local and merge ports (plant, batch, joining ports), rules

@@ -24,7 +24,7 @@ use Rattle.wellformed.specs.Rules.{TableRight}
 use Rattle.wellformed.specs.Preservation.{RuleKnown}
 use Rattle.serializability.specs.Statement.{Accepted, movesIn, Serializable}
 use Rattle.cells.specs.Start.{Start}
-use Rattle.serializability.specs.LogWords.{moves-count}
+use Rattle.wellformed.specs.LogWords.{moves-count}
 use Rattle.serializability.specs.RunWords.{run-accepted}
 use Rattle.serializability.specs.Demand3 as Demand3
 use Rattle.serializability.specs.Demand3.{demand3}

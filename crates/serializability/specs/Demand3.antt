@@ -26,7 +26,7 @@ use Rattle.wellformed.specs.Conserved.{marks}
 use Rattle.serializability.specs.Statement.{Accepted, Serial, movesIn, roomAlong, Demand3}
 use Rattle.cells.specs.Start.{Numbered, Start}
 use Rattle.serializability.specs.Decoded.{sound-runs, serial-known, serial-decoded}
-use Rattle.serializability.specs.LogWords.{log-length, log-ok, moves-back, moves-count, count-1024}
+use Rattle.wellformed.specs.LogWords.{log-length, log-ok, moves-back, moves-count, count-1024}
 use Rattle.serializability.specs.RunWords.{run-accepted, accepted-run, all-holdable}
 use Rattle.serializability.specs.SameSum.{begins-same, closed-marks, sum-begins, held-back}
 

@@ -12,7 +12,6 @@ pub mod SameMoves
 pub mod States
 pub mod InnerMoves
 pub mod Decoded
-pub mod LogWords
 pub mod RunWords
 pub mod SameSum
 pub mod Demand3

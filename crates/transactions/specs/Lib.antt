@@ -1,2 +1,3 @@
 pub mod Ids
 pub mod Sets
+pub mod Gathered

@@ -16,6 +16,10 @@ use Rattle.idset.specs.IdSet.{has, Inserted, InsertedIf}
 abbrev pub blocks : ℕ → Entry → Bool
 blocks globals e = isAbortMark e || isMessage e && not (ltb (e .port) globals)
 
+-- the abort mark of a transaction
+abbrev pub stops : Entry → Bool
+stops e = ltb 0 (e .owner) && isAbortMark e
+
 -- the sets after the entry e: its owner is present, and in each of the other two if e gives the reason
 pub record EnteredIn (globals : ℕ) (e : Entry) (present blocked aborting present' blocked' aborting' : List ℕ) : Type 0 where
   pub owning : Inserted (e .owner) present present'

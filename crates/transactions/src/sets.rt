@@ -12,7 +12,7 @@ use idset::WORDS;
 use words::item;
 
 // An abort mark, or a message on a port of the transaction's own: its transaction cannot be committed.
-fn blocks(item: u32, globals: u32) -> bool
+pub fn blocks(item: u32, globals: u32) -> bool
     ensures { λ r. ⌜ ((owner origin : ℕ) → r ≡ blocks globals (entryFrom owner item origin)) ⌝ }
 {
     let kind = item::kind_of(item);

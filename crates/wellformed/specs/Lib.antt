@@ -4,6 +4,7 @@ pub mod States
 pub mod Rules
 pub mod Entries
 pub mod MoveWords
+pub mod LogWords
 pub mod Picks
 pub mod Products
 pub mod Reaction

@@ -8,7 +8,7 @@ use lib.ListN.{length, length-map}
 use borrow.Author.Tests.{le-leb, leb-true}
 use Rattle.semantics.specs.Table.{Table, sizesOf, tableOf}
 use Rattle.semantics.specs.State.{State, stateOf, stateWords}
-use Rattle.semantics.specs.Move.{unless, both, moveOk, moveOf, applied, Stepped, to, refused, steppedBy, step, within, stepWords, moveVerdict}
+use Rattle.semantics.specs.Move.{unless, both, Move, moveOk, moveOf, applied, Stepped, to, refused, steppedBy, step, within, stepWords, moveVerdict}
 use Rattle.semantics.specs.Log.{movesOf, logSizesOk, Ran, completed, stopped, onward, run}
 use Rattle.semantics.specs.Members.{membersEnded, addMembers, membersAlong}
 use Rattle.semantics.specs.Answers.{tableVerdict, stateVerdict, Result, write, leave, refuse, refuseMove, unlessDenied, hasWords, steppedResult, moveResult}
@@ -62,23 +62,27 @@ moveResult-step ceiling T S m target h l =
     go k true x = refl
     go k false x = refl
 
--- the words that a step leaves do not depend on origins, nor do its members
+-- whether a move is made does not depend on origins, ..
+pub verdict-same : (ceiling : ℕ) (t : Table) (s s′ : State) (m : Move) → bareState s ≡ bareState s′ → moveVerdict ceiling t s m ≡ moveVerdict ceiling t s′ m
+unfolding moveVerdict
+verdict-same ceiling t s s′ m h = rw (allowed-same s s′ h t m, fewer)
+  where
+    fewer : length (applied t 0 s m .entries) ≡ length (applied t 0 s′ m .entries)
+    fewer = sym (length-map (applied t 0 s m .entries) bare)
+        ∙ ap (λ (x : State). length (x .entries)) (applied-same s s′ h t 0 0 m)
+        ∙ length-map (applied t 0 s′ m .entries) bare
+
+-- .. nor do the words that a step leaves, and its members
 pub steppedResult-same : (ceiling : ℕ) (t : Table) (i j : ℕ) (s s′ : State) (m : List ℕ) → bareState s ≡ bareState s′
     → steppedResult (membersEnded s (moveOf t m)) (stepWords ceiling t i s m) ≡ steppedResult (membersEnded s′ (moveOf t m)) (stepWords ceiling t j s′ m)
-unfolding moveVerdict
 steppedResult-same ceiling t i j s s′ m h =
     ap (steppedResult (membersEnded s (moveOf t m))) (stepWords-verdict ceiling t i s m)
-    ∙ rw (allowed-same s s′ h t (moveOf t m), fewer, members-alike s s′ h (moveOf t m))
+    ∙ rw (verdict-same ceiling t s s′ (moveOf t m) h, members-alike s s′ h (moveOf t m))
     (go (membersEnded s′ (moveOf t m)) (moveOk t m) (moveVerdict ceiling t s′ (moveOf t m)))
     ∙ sym (ap (steppedResult (membersEnded s′ (moveOf t m))) (stepWords-verdict ceiling t j s′ m))
   where
     left : bareState (applied t i s (moveOf t m)) ≡ bareState (applied t j s′ (moveOf t m))
     left = applied-same s s′ h t i j (moveOf t m)
-
-    fewer : length (applied t 0 s (moveOf t m) .entries) ≡ length (applied t 0 s′ (moveOf t m) .entries)
-    fewer = sym (length-map (applied t 0 s (moveOf t m) .entries) bare)
-        ∙ ap (λ (x : State). length (x .entries)) (applied-same s s′ h t 0 0 (moveOf t m))
-        ∙ length-map (applied t 0 s′ (moveOf t m) .entries) bare
 
     go : (k : ℕ) (b : Bool) (v : Verdict)
         → steppedResult k (cond b (steppedBy v (applied t i s (moveOf t m))) (refused MoveForm)) ≡ steppedResult k

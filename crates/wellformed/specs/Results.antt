@@ -1,17 +1,19 @@
 -- What a call comes to, told from its answer: words written, or the number of a refusal.
-use Prim.Native.Nat.{ℕ, _≤_}
+use Prim.Native.Nat.{ℕ, _≤_, _<_}
 use mathlib.Core.List.{List}
 use mathlib.Core.Path.{_≡_, refl}
 use native.Mathlib.Omega.{arith}
+use borrow.Author.Tests.{le-leb, lt-leb}
 use lib.ListN.{length, take, drop}
 use lib.Seq.{take-append-seam}
-use Rattle.semantics.specs.Answers.{number, answerOf, Result, write, leave, refuse, refuseMove, outcomeOf, targetAfter, unlessDenied}
+use Rattle.semantics.specs.Answers.{number, answerOf, Result, write, leave, refuse, refuseMove, outcomeOf, targetAfter, unlessDenied, hasWords}
 use Rattle.semantics.specs.declared.Refusal.{Refusal}
 use Rattle.semantics.specs.declared.Refusal.the-variants.{TableSizes, TableContents, StateSizes, StateContents, MoveForm, TargetTooShort, WrongPick}
 use Rattle.semantics.specs.declared.Refusal.the-variants.{WrongOwner, NoTransaction, EndNotAllowed, NoMoreIds, TooManyEntries, LogSizes, BeginEmits}
-use Rattle.semantics.specs.declared.Refusal.the-variants.{TransactionOpen, SerialTooManyEntries, TransactionAborting}
+use Rattle.semantics.specs.declared.Refusal.the-variants.{TransactionOpen, SerialTooManyEntries, TransactionAborting, BudgetTooLarge}
 use Rattle.semantics.specs.declared.Verdict.{Verdict}
 use Rattle.semantics.specs.declared.Verdict.the-variants.{Allowed, Denied}
+use Rattle.wellformed.specs.Verdicts.{unless-intro, unless-false}
 
 pub refuse≢leave : {r : Refusal} {ws : List ℕ} {k : ℕ} → refuse r ≡ leave ws k → ⊥
 refuse≢leave h = let z : _≡_ {A = ℕ} 0 1 = cc in omega arith
@@ -45,6 +47,7 @@ number-own BeginEmits = omega arith
 number-own TransactionOpen = omega arith
 number-own SerialTooManyEntries = omega arith
 number-own TransactionAborting = omega arith
+number-own BudgetTooLarge = omega arith
 
 -- an accepted call that makes moves, and so writes nothing but the state that they leave
 pub leave-accepted : (v : Verdict) (x : Result) → ((ws : List ℕ) → x ≡ write ws → ⊥) → answerOf (outcomeOf (unlessDenied v x)) .number ≡ 0
@@ -64,3 +67,10 @@ move-refused (refuseMove i r) h = (i, r, refl)
 -- the words that an accepted move or run wrote stand at the target's beginning, as many as its answer says
 pub written : (x : Result) (target ws : List ℕ) {k : ℕ} → x ≡ leave ws k → take (answerOf (outcomeOf x) .words) (targetAfter x target) ≡ ws
 written x target ws h = rw h (take-append-seam ws (drop (length ws) target))
+
+-- 6, of a target of any length
+pub too-short : (n : ℕ) (target : List ℕ) → length target < n → hasWords n target ≡ Denied TargetTooShort
+too-short n target h = unless-false TargetTooShort (lt-leb n (length target) h)
+
+pub long-enough : (n : ℕ) (target : List ℕ) → n ≤ length target → hasWords n target ≡ Allowed
+long-enough n target h = unless-intro TargetTooShort (le-leb n (length target) h)

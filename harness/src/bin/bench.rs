@@ -6,26 +6,33 @@ use std::env::args;
 use std::hint::black_box;
 use std::time::Instant;
 
-use harness::answer::{page_words, preview_on_target, OnTarget};
+use harness::answer::{page_words, preview_on_target, unattended_on_target, OnTarget};
+use harness::generate::plants::PLANTS;
 use harness::generate::workloads::{
     fours, global_log, members, merge_log, messages, mixed, single_moves, spread, table,
 };
-use harness::pairs::{self, Pair, CHECK_STATE, CHECK_TABLE, LIST_MOVES, MAKE_MOVE, PREVIEW, RUN, SERIALIZE};
+use harness::pairs::{
+    self, Pair, CHECK_STATE, CHECK_TABLE, LIST_MOVES, MAKE_MOVE, PREVIEW, RUN, RUN_UNATTENDED, SERIALIZE,
+};
 use harness::plain;
 use harness::random::Random;
 use harness::stack;
 use harness::words::{log_words, Move, State, Table};
 
 /// So many logs are taken in turn: the times of one log again and again do not grow steadily with its moves. For the
-/// list so many states.
+/// list and the unattended run so many states.
 const TURNS: usize = 16;
 
-/// A state, and the move, log or page that goes with it; none for a check.
+/// A state, and the move, log, page or budget that goes with it; none for a check.
 type Input = (State, Vec<u32>);
 
 /// Plain Rust's preview on a state's words in place.
 const IN_PLACE: OnTarget =
     |table, state, mv, target| preview_on_target(plain::preview_in_place, table, state, mv, target);
+
+/// Plain Rust's unattended run with counts that follow the moves.
+const ALONG: OnTarget =
+    |table, state, budget, target| unattended_on_target(plain::run_unattended_along, table, state, budget, target);
 
 /// How long to measure.
 #[derive(Clone, Copy)]
@@ -68,6 +75,8 @@ struct Bench {
     ratios: Vec<(&'static str, Vec<f64>)>,
     /// Our times of a preview beside those of other calls, by input.
     beside: Vec<(String, [Times; 2])>,
+    /// Our times of an unattended run beside plain Rust whose counts follow the moves, by input.
+    along: Vec<(String, Times)>,
     /// The deepest stack of each call.
     stack: Vec<(&'static str, usize)>,
 }
@@ -117,6 +126,7 @@ impl Bench {
             growth: Vec::new(),
             ratios: Vec::new(),
             beside: Vec::new(),
+            along: Vec::new(),
             stack: Vec::new(),
         }
     }
@@ -142,7 +152,7 @@ impl Bench {
             words => format!("{:.0}", times.ours / self.copy_time(words)),
         };
         println!(
-            "| {:<11} | {what:<46} | {:>5.2} | {:>10.3} | {:>10.3} | {copies:>7} |",
+            "| {:<14} | {what:<46} | {:>5.2} | {:>10.3} | {:>10.3} | {copies:>7} |",
             pair.name,
             times.ratio(),
             times.ours / 1e3,
@@ -152,7 +162,7 @@ impl Bench {
             Some((_, ratios)) => ratios.push(times.ratio()),
             None => self.ratios.push((pair.name, vec![times.ratio()])),
         }
-        let mut target = words.target();
+        let mut target = pairs::target();
         let used = stack::used(|| {
             (pair.ours)(&words.table, state, third, &mut target);
         });
@@ -173,15 +183,9 @@ impl<'a> Words<'a> {
         Words { table: table.words(), inputs }
     }
 
-    /// A target that is long enough for each input.
-    fn target(&self) -> Vec<u32> {
-        let longest = self.inputs.iter().max_by_key(|(_, third)| third.len());
-        pairs::target(longest.expect("an input").1)
-    }
-
     /// Both accept each input with the same answer and target.
     fn agree(&self, pair: &Pair, what: &str) {
-        let (mut ours, mut rust) = (self.target(), self.target());
+        let (mut ours, mut rust) = (pairs::target(), pairs::target());
         for (state, third) in &self.inputs {
             let answer = (pair.ours)(&self.table, state, third, &mut ours);
             assert_eq!(answer, (pair.rust)(&self.table, state, third, &mut rust), "{} {what}", pair.name);
@@ -192,7 +196,7 @@ impl<'a> Words<'a> {
     /// The call on one input after the other.
     fn in_turn(&self, call: OnTarget) -> impl FnMut() + use<'_, 'a> {
         let mut turns = self.inputs.iter().cycle();
-        let mut target = self.target();
+        let mut target = pairs::target();
         move || {
             let (state, third) = turns.next().unwrap();
             black_box(call(black_box(&self.table), black_box(state), black_box(third), black_box(&mut target)));
@@ -347,6 +351,28 @@ impl Bench {
     }
 }
 
+/// The largest budget on plants that never rest.
+impl Bench {
+    fn run_unattended(&mut self) {
+        let mut random = Random::new(806);
+        let budget = *self.moves.last().expect("a number of moves") as u32;
+        for plant in PLANTS {
+            for rules in [7, 64] {
+                let mut line = Growth::new(format!("run_unattended, {}, {rules} rules", plant.name));
+                for &n in self.entries {
+                    let made: Vec<(Table, State)> = (0..TURNS).map(|_| (plant.make)(&mut random, rules, n)).collect();
+                    let inputs: Vec<Input> = made.iter().map(|(_, state)| (state.clone(), vec![budget])).collect();
+                    let what = format!("{rules} rules, {n} entries, {}", plant.name);
+                    line.push(n, self.row(&RUN_UNATTENDED, &what, &made[0].0, &inputs));
+                    let words = Words::new(&made[0].0, &inputs);
+                    self.along.push((what, words.times(self.effort, RUN_UNATTENDED.ours, ALONG)));
+                }
+                self.growth.push(line);
+            }
+        }
+    }
+}
+
 type Measure = fn(&mut Bench);
 
 const CALLS: &[(&str, Measure)] = &[
@@ -357,6 +383,7 @@ const CALLS: &[(&str, Measure)] = &[
     (RUN.name, |bench| bench.logs(&RUN)),
     (SERIALIZE.name, |bench| bench.logs(&SERIALIZE)),
     (LIST_MOVES.name, Bench::list_moves),
+    (RUN_UNATTENDED.name, Bench::run_unattended),
 ];
 
 /// What is printed behind the rows.
@@ -382,6 +409,19 @@ impl Bench {
         }
     }
 
+    fn along(&self) {
+        if self.along.is_empty() {
+            return;
+        }
+        println!("\nOur unattended run beside plain Rust whose counts follow the moves:\n");
+        println!("| {:<35} | ratio | ours in µs | Rust in µs |", "input");
+        println!("|{:-<37}|-------|------------|------------|", "");
+        for (what, times) in &self.along {
+            let (ratio, ours, rust) = (times.ratio(), times.ours / 1e3, times.rust / 1e3);
+            println!("| {what:<35} | {ratio:>5.2} | {ours:>10.3} | {rust:>10.3} |");
+        }
+    }
+
     fn copies(&mut self) {
         println!("\nOne memcpy of the state's words:\n");
         for &n in self.entries {
@@ -391,12 +431,12 @@ impl Bench {
 
     fn worst(&mut self) {
         println!("\nThe worst and the median ratio and the deepest stack of each call:\n");
-        println!("| {:<11} | worst | median | stack in bytes |", "call");
-        println!("|{:-<13}|-------|--------|----------------|", "");
+        println!("| {:<14} | worst | median | stack in bytes |", "call");
+        println!("|{:-<16}|-------|--------|----------------|", "");
         for ((name, ratios), (_, stack)) in self.ratios.iter_mut().zip(&self.stack) {
             ratios.sort_by(f64::total_cmp);
             let (worst, median) = (ratios[ratios.len() - 1], ratios[ratios.len() / 2]);
-            println!("| {name:<11} | {worst:>5.2} | {median:>6.2} | {stack:>14} |");
+            println!("| {name:<14} | {worst:>5.2} | {median:>6.2} | {stack:>14} |");
         }
     }
 }
@@ -409,10 +449,11 @@ fn main() {
         "Ratio: ours / plain Rust, best of {} interleaved rounds, same inputs, same answers.",
         bench.effort.rounds
     );
-    println!("A row of `run` or `serialize` takes {TURNS} logs in turn, one of `list_moves` so many states.");
+    println!("A row of `run` or `serialize` takes {TURNS} logs in turn, one of `list_moves` or `run_unattended`");
+    println!("so many states.");
     println!("Copies: ours / one memcpy of the state's words.\n");
-    println!("| {:<11} | {:<46} | ratio | ours in µs | Rust in µs |  copies |", "call", "input");
-    println!("|{:-<13}|{:-<48}|-------|------------|------------|---------|", "", "");
+    println!("| {:<14} | {:<46} | ratio | ours in µs | Rust in µs |  copies |", "call", "input");
+    println!("|{:-<16}|{:-<48}|-------|------------|------------|---------|", "", "");
     for (name, measure) in CALLS {
         if chosen.is_empty() || chosen.iter().any(|chosen| chosen == name) {
             measure(&mut bench);
@@ -421,6 +462,7 @@ fn main() {
 
     bench.growth();
     bench.beside();
+    bench.along();
     bench.copies();
     bench.worst();
 }

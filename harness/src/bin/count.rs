@@ -1,20 +1,21 @@
-//! One log, one move, or a page of one list, ten times through a call and ten times through its plain
-//! counterpart: run it under `valgrind --tool=callgrind` to count the instructions of both. Or the bytes of an
+//! One log, one move, a page of one list, or one plant left alone, ten times through a call and ten times through its
+//! plain counterpart: run it under `valgrind --tool=callgrind` to count the instructions of both. Or the bytes of an
 //! input, to count those of the program.
 use std::env::args;
 use std::hint::black_box;
 use std::io::{stdout, Write};
 
 use harness::answer::page_words;
+use harness::generate::plants::plant;
 use harness::generate::workloads::{fours, global_log, merge_log, single_moves, spread, table};
-use harness::pairs::{self, Pair, LIST_MOVES, MAKE_MOVE, PREVIEW, RUN, SERIALIZE};
+use harness::pairs::{self, Pair, LIST_MOVES, MAKE_MOVE, PREVIEW, RUN, RUN_UNATTENDED, SERIALIZE};
 use harness::random::Random;
 use harness::words::log_words;
 use harness::{plain, program};
 
 const CALLS: usize = 10;
 
-/// Table, state, and log, move or page.
+/// Table, state, and log, move, page or budget.
 type Input = [Vec<u32>; 3];
 
 /// The log of a run, of this kind.
@@ -43,6 +44,12 @@ fn page(kind: &str, entries: usize, moves: usize) -> Input {
     [table, state, page_words(middle, moves as u32)]
 }
 
+/// A plant of this kind with 64 rules, left alone with this budget.
+fn alone(kind: &str, entries: usize, moves: usize) -> Input {
+    let (table, state) = (plant(kind).make)(&mut Random::new(806), 64, entries);
+    [table.words(), state.words(), vec![moves as u32]]
+}
+
 /// The program's input: a log of this kind, or a global one whose first move is refused, so that the program
 /// loads and checks it and makes no move.
 fn input(kind: &str, entries: usize, moves: usize) -> Vec<u8> {
@@ -62,7 +69,8 @@ fn measured(call: &str, kind: &str, entries: usize, moves: usize) -> (Pair, Inpu
         "run" => (RUN, log(kind, entries, moves)),
         "serialize" => (SERIALIZE, log(kind, entries, moves)),
         "list_moves" => (LIST_MOVES, page(kind, entries, moves)),
-        other => panic!("{other} is no call that takes a move or a log or lists moves"),
+        "run_unattended" => (RUN_UNATTENDED, alone(kind, entries, moves)),
+        other => panic!("{other} is no call that takes a move, a log or a budget, or lists moves"),
     }
 }
 
@@ -74,7 +82,8 @@ fn main() {
         [call, kind, entries, moves] => (call, kind, entries, moves),
         _ => panic!(
             "usage: count move|preview global|begin|local|merge|commit|abort ENTRIES, run|serialize merges|global \
-             ENTRIES MOVES, list_moves local|global ENTRIES MOVES, or input merges|global|refused ENTRIES MOVES"
+             ENTRIES MOVES, list_moves local|global ENTRIES MOVES, run_unattended \
+             global|local|stopped|pairs|merges|commits|aborts ENTRIES MOVES, or input merges|global|refused ENTRIES MOVES"
         ),
     };
     let (entries, moves) = (entries.parse().unwrap(), moves.parse().unwrap());
@@ -82,7 +91,7 @@ fn main() {
         return stdout().write_all(&input(kind, entries, moves)).unwrap();
     }
     let (pair, [table, state, third]) = measured(call, kind, entries, moves);
-    let mut target = pairs::target(&third);
+    let mut target = pairs::target();
     for call in [pair.ours, pair.rust] {
         for _ in 0..CALLS {
             let answer = black_box(call)(&table, &state, &third, &mut target);

@@ -4,9 +4,10 @@ use super::definitions::{Definitions, Product};
 use super::list::Tried;
 use super::ordered::{Made, Ordered};
 use super::tally;
-use crate::answer::{Answer, Page, Preview, Tally};
+use super::unattended::{alone, Alone};
+use crate::answer::{Answer, Page, Preview, Tally, Unattended};
 use crate::words::{
-    log_from_words, log_words, page_target, Move, MAX_ENTRIES, MAX_MOVES, MAX_PAGE_MOVES, STATE_TARGET,
+    log_from_words, log_target, log_words, page_target, Move, MAX_ENTRIES, MAX_MOVES, MAX_PAGE_MOVES, STATE_TARGET,
 };
 
 pub fn check_table(table: &[u32]) -> Answer {
@@ -141,4 +142,35 @@ pub fn list_moves(table: &[u32], state: &[u32], first: u64, count: u32, target: 
         }
         Err(number) => Page::refused(number),
     }
+}
+
+pub fn run_unattended(table: &[u32], state: &[u32], budget: u32, target: &mut [u32]) -> Unattended {
+    run_unattended_within(u64::MAX, table, state, budget, target).expect("no limit on what is tried")
+}
+
+/// The same, or `None` if a state on the way has more than `most` reactions to try.
+pub fn run_unattended_within(
+    most: u64,
+    table: &[u32],
+    state: &[u32],
+    budget: u32,
+    target: &mut [u32],
+) -> Option<Unattended> {
+    let checked = || {
+        let definitions = Definitions::read(table)?;
+        let ordered = Ordered::read(&definitions, state)?;
+        if budget as usize > MAX_MOVES {
+            return Err(19);
+        }
+        if target.len() < log_target(budget as usize) {
+            return Err(6);
+        }
+        Ok((definitions, ordered))
+    };
+    let (definitions, start) = match checked() {
+        Ok(checked) => checked,
+        Err(number) => return Some(Unattended::refused(number)),
+    };
+    let Alone { log, still } = alone(&definitions, start, budget as usize, most)?;
+    Some(Unattended { answer: Answer::write(&log_words(&log), target), moves: log.len() as u32, still })
 }

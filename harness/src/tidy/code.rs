@@ -4,10 +4,10 @@ use super::{File, Finding, Part, Tree};
 const MOST_LINES: usize = 40;
 const MOST_COLUMNS: usize = 160;
 
-/// The two passes of the serial log and the function that lends them their arrays, and the functions of the list of
-/// open moves that hand a page on. `rt fmt` gives each argument of such a call a line, and the prover lends no struct
-/// of references, so they stay long.
-const LENDING: [(&str, &str); 9] = [
+/// The two passes of the serial log and the function that lends them their arrays, the functions of the list of open
+/// moves that hand a page on, and the moves of an unattended run. `rt fmt` gives each argument of such a call a line, and
+/// the prover lends no struct of references, so they stay long.
+const LENDING: [(&str, &str); 10] = [
     ("crates/choices/src/page.rt", "fill"),
     ("crates/groups/src/pages.rt", "group_page"),
     ("crates/listing/src/list.rt", "listed"),
@@ -17,6 +17,7 @@ const LENDING: [(&str, &str); 9] = [
     ("crates/recording/src/record.rt", "record"),
     ("crates/replay/src/lib.rt", "replay"),
     ("crates/serial/src/lib.rt", "serialized"),
+    ("crates/unattended/src/walk.rt", "walk"),
 ];
 
 /// Functions with too many lines, from `fn` to the closing brace.

@@ -1,6 +1,6 @@
 /*
- * 01's cases (a) to (h) on the two-lot plant, the tallies of its runs, the previews and lists of its moves, and a
- * transaction with an abort mark, through the header. Prints what fails, and how many.
+ * 01's cases (a) to (h) on the two-lot plant, the tallies of its runs, the previews and lists of its moves, a
+ * transaction with an abort mark, and the plant left alone, through the header. Prints what fails, and how many.
  */
 #include "coordinator.h"
 
@@ -576,6 +576,105 @@ static void by_abort_mark(void)
     expect_target("the abort", end, LENGTH(end));
 }
 
+/* Four words in this order, and nothing between or behind them. */
+_Static_assert(offsetof(coordinator_unattended, number) == 0, "number");
+_Static_assert(offsetof(coordinator_unattended, words) == 4, "words");
+_Static_assert(offsetof(coordinator_unattended, moves) == 8, "moves");
+_Static_assert(offsetof(coordinator_unattended, still) == 12, "still");
+_Static_assert(sizeof(coordinator_unattended) == 16, "an unattended run's answer");
+
+static void expect_alone(const char *what, coordinator_unattended got, uint32_t number, uint32_t words, uint32_t made,
+                         uint32_t still)
+{
+    if (got.number != number || got.words != words || got.moves != made || got.still != still) {
+        printf("%s: %u %u %u %u, not %u %u %u %u\n", what, (unsigned)got.number, (unsigned)got.words,
+               (unsigned)got.moves, (unsigned)got.still, (unsigned)number, (unsigned)words, (unsigned)made,
+               (unsigned)still);
+        failures++;
+    }
+}
+
+/* The plant left alone after some moves of (a). */
+static coordinator_unattended alone(size_t after, uint32_t budget, size_t room)
+{
+    uint32_t state[COORDINATOR_STATE_TARGET_WORDS];
+    size_t len = moves("before the plant is left alone", case_a, after, state);
+    clear();
+    return coordinator_run_unattended(table, LENGTH(table), state, len, budget, target, room);
+}
+
+/* It makes log (a), as far as the budget goes. */
+static void by_budgets(void)
+{
+    const size_t room = COORDINATOR_LOG_WORDS(COORDINATOR_MAX_MOVES);
+    uint32_t budget, made, words;
+    size_t after;
+    for (after = 0; after <= LENGTH(case_a); after++) {
+        const uint32_t left = (uint32_t)(LENGTH(case_a) - after);
+        for (budget = 0; budget <= LENGTH(case_a) + 1; budget++) {
+            made = budget < left ? budget : left;
+            words = (uint32_t)log_of(case_a + after, made);
+            expect_alone("alone", alone(after, budget, COORDINATOR_LOG_WORDS(budget)), COORDINATOR_ACCEPTED, words,
+                         made, budget >= left);
+            expect_target("alone", log_words, words);
+            expect_alone("alone, a longer target", alone(after, budget, room), COORDINATOR_ACCEPTED, words, made,
+                         budget >= left);
+            expect_target("alone, a longer target", log_words, words);
+            expect_alone("alone, a short target", alone(after, budget, COORDINATOR_LOG_WORDS(budget) - 1),
+                         COORDINATOR_TARGET_TOO_SHORT, 0, 0, 0);
+            expect_target("alone, a short target", NULL, 0);
+        }
+    }
+    words = (uint32_t)log_of(case_a, LENGTH(case_a));
+    expect_alone("the largest budget", alone(0, COORDINATOR_MAX_MOVES, room), COORDINATOR_ACCEPTED, words, 6, 1);
+    expect_target("the largest budget", log_words, words);
+    /* What was written is a log as it stands. */
+    memcpy(log_words, target, words * sizeof *target);
+    expect_members("its log", run(words, COORDINATOR_STATE_TARGET_WORDS), COORDINATOR_ACCEPTED, LENGTH(end_a), 0, 0, 2);
+    expect_target("its log", end_a, LENGTH(end_a));
+    expect_tally("its log", tally_a);
+    expect_alone("the largest budget, a short target", alone(0, COORDINATOR_MAX_MOVES, room - 1),
+                 COORDINATOR_TARGET_TOO_SHORT, 0, 0, 0);
+    expect_alone("one move too many", alone(0, COORDINATOR_MAX_MOVES + 1, LENGTH(target)), COORDINATOR_BUDGET_TOO_LARGE,
+                 0, 0, 0);
+    expect_alone("one move too many, no target", alone(0, COORDINATOR_MAX_MOVES + 1, 0), COORDINATOR_BUDGET_TOO_LARGE,
+                 0, 0, 0);
+    expect_alone("no budget is larger", alone(0, UINT32_MAX, LENGTH(target)), COORDINATOR_BUDGET_TOO_LARGE, 0, 0, 0);
+    expect_target("a budget too large", NULL, 0);
+}
+
+/* Budgets where other lists are at fault, and a plant that never rests. */
+static void by_odd_budgets(void)
+{
+    static const uint32_t wrong[COORDINATOR_STATE_WORDS(1)] = {1, 2, 1, 7};
+    /* Two rules that pass one message to and fro. */
+    static const uint32_t turning[COORDINATOR_TABLE_WORDS(4)] = {
+        2, 0, 0, 2, 4, 0, 0, 1, 1, 0x00000000, 0x11010000, 0x00010000, 0x11000000,
+    };
+    static const uint32_t one[COORDINATOR_STATE_WORDS(1)] = {1, COORDINATOR_MAX_NEXT, 0, 7};
+    static uint32_t turns[COORDINATOR_LOG_WORDS(COORDINATOR_MAX_MOVES)];
+    uint32_t at;
+    expect_alone("no table", coordinator_run_unattended(NULL, 0, NULL, 0, UINT32_MAX, NULL, 0), COORDINATOR_TABLE_SIZES,
+                 0, 0, 0);
+    expect_alone("no state", coordinator_run_unattended(table, LENGTH(table), NULL, 0, UINT32_MAX, NULL, 0),
+                 COORDINATOR_STATE_SIZES, 0, 0, 0);
+    expect_alone("a wrong state",
+                 coordinator_run_unattended(table, LENGTH(table), wrong, LENGTH(wrong), UINT32_MAX, NULL, 0),
+                 COORDINATOR_STATE_CONTENTS, 0, 0, 0);
+    expect_alone("no target", coordinator_run_unattended(table, LENGTH(table), start, LENGTH(start), 0, NULL, 0),
+                 COORDINATOR_TARGET_TOO_SHORT, 0, 0, 0);
+    turns[0] = COORDINATOR_MAX_MOVES;
+    for (at = 0; at < COORDINATOR_MAX_MOVES; at++) {
+        turns[1 + at] = at % 2;
+    }
+    clear();
+    expect_alone("for ever",
+                 coordinator_run_unattended(turning, LENGTH(turning), one, LENGTH(one), COORDINATOR_MAX_MOVES, target,
+                                            LENGTH(turns)),
+                 COORDINATOR_ACCEPTED, LENGTH(turns), COORDINATOR_MAX_MOVES, 0);
+    expect_target("for ever", turns, LENGTH(turns));
+}
+
 int main(void)
 {
     checks();
@@ -587,6 +686,8 @@ int main(void)
     by_serial_logs();
     by_lists();
     by_abort_mark();
+    by_budgets();
+    by_odd_budgets();
     printf("%u failed\n", failures);
     return failures != 0;
 }

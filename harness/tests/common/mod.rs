@@ -9,10 +9,11 @@ use std::fs;
 use std::hint::black_box;
 use std::path::Path;
 
-use harness::answer::{order, Answer, OnMove, OnPage, OnTally, OnTarget, Page, Preview, Tally};
+use harness::answer::{order, Answer, OnMove, OnPage, OnTally, OnTarget, Page, Preview, Tally, Unattended};
 use harness::random::Random;
 use harness::two_lot;
-use harness::words::{act, kind, page_target, role, Atom, Entry, Move, State, Table};
+use harness::words::{act, kind, log_target, page_target, role, Atom, Entry, Move, State, Table};
+use harness::words::{MAX_MOVES, STATE_TARGET};
 use harness::{in_c, library, model, plain, ROOT};
 
 const NAMES: [&str; 3] = ["model", "plain", "library"];
@@ -147,6 +148,84 @@ impl Asked {
         let (page, words) = on_room(&NAMES[from..], call, |page| page.answer, room, input);
         assert!(page.answer.number() == 0 || page.length == 0, "a refused list has a length: {}", input());
         (page, words)
+    }
+}
+
+/// An unattended run: a budget, and the words of the target.
+#[derive(Clone, Copy, Debug)]
+pub struct Alone {
+    pub budget: u32,
+    pub room: usize,
+}
+
+/// Reactions that the model tries in a state at most, where it need not answer.
+const TRIED: u64 = 20_000;
+
+impl Alone {
+    /// A target that is just long enough.
+    pub fn new(budget: u32) -> Alone {
+        Alone { budget, room: log_target((budget as usize).min(MAX_MOVES)) }
+    }
+
+    /// Of all implementations; the model goes through the list of every state on the way.
+    pub fn of(self, table: &[u32], state: &[u32]) -> (Unattended, Vec<u32>) {
+        self.of_some(0, table, state)
+    }
+
+    /// Of the plain code and the library, for lists that are too long for the model.
+    pub fn of_long(self, table: &[u32], state: &[u32]) -> (Unattended, Vec<u32>) {
+        self.of_some(1, table, state)
+    }
+
+    /// Of all of them where that takes the model few tries, otherwise without it; and whether it was asked.
+    pub fn of_any(self, table: &[u32], state: &[u32]) -> (Unattended, Vec<u32>, bool) {
+        let (alone, words) = self.of_long(table, state);
+        // A try costs more where there is more to copy.
+        let most = TRIED / (20 + state.len() as u64);
+        let mut target = vec![0; self.room];
+        let tried = model::run_unattended_within(most, table, state, self.budget, &mut target);
+        target.truncate(words.len());
+        let input = || format!("{self:?}; {}", shown(&[("table", table), ("state", state)]));
+        assert!(tried.is_none_or(|tried| (tried, &target) == (alone, &words)), "{tried:?} {target:x?} for {}", input());
+        (alone, words, tried.is_some())
+    }
+
+    fn of_some(self, from: usize, table: &[u32], state: &[u32]) -> (Unattended, Vec<u32>) {
+        let Alone { budget, room } = self;
+        let calls = [model::run_unattended, plain::run_unattended, library::run_unattended];
+        let call = |which: usize, target: &mut [u32]| calls[from + which](table, state, budget, target);
+        let input = || format!("{self:?}; {}", shown(&[("table", table), ("state", state)]));
+        let (alone, words) = on_room(&NAMES[from..], call, |alone| alone.answer, room, input);
+        let mut target = vec![0; room];
+        assert_eq!(plain::run_unattended_along(table, state, budget, &mut target), alone, "along for {}", input());
+        assert!(target[..words.len()] == words, "along {target:x?}, not {words:x?} for {}", input());
+        // Words on both sides of the target, which is all that may be written to.
+        let mut memory = vec![0x5A5A_5A5A; room + 16];
+        let in_c = in_c::run_unattended(table, state, budget, &mut memory[8..8 + room]);
+        assert_eq!(in_c, alone.in_c(), "in C for {}", input());
+        let (written, behind) = memory[8..].split_at(words.len());
+        let beside = memory[..8].iter().chain(behind).all(|&word| word == 0x5A5A_5A5A);
+        assert!(written == words && beside, "in C {memory:x?}, not {words:x?} for {}", input());
+        if alone.answer.number() == 0 {
+            assert_eq!(self.reached(table, state, &words), alone, "by its log {words:x?} for {}", input());
+        } else {
+            assert_eq!(alone, Unattended::refused(alone.answer.number()), "{}", input());
+        }
+        (alone, words)
+    }
+
+    /// What an accepted answer has to be, from its log alone: a run accepts the log, and the list of the state that it
+    /// leaves is empty, or the budget used up.
+    fn reached(self, table: &[u32], state: &[u32], log: &[u32]) -> Unattended {
+        let mut end = [0; STATE_TARGET];
+        let ran = library::run(table, state, log, &mut [0; 4], &mut end);
+        assert_eq!(ran.number(), 0, "{ran:?}");
+        let end = &end[..ran.words() as usize];
+        let still = library::list_moves(table, end, 0, 0, &mut []).length == 0;
+        assert!(still || log[0] == self.budget, "a budget of {} is not used up after {}", self.budget, log[0]);
+        let words = log_target(log[0] as usize) as u32;
+        assert!(log[0] <= self.budget && words == log.len() as u32);
+        Unattended { answer: Answer::Accepted(words), moves: log[0], still }
     }
 }
 

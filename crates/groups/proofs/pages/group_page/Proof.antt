@@ -14,7 +14,8 @@ use Rattle.lists.specs.Pages.{Paging, paging-start, paging-pass, paging-skip, p
 use Rattle.choices.specs.Words.{choiceWords, five-words}
 use Rattle.choices.specs.Widths.{widthsOf}
 use Rattle.groups.specs.Groups.{leftIn}
-use Rattle.groups.proofs.Within.{groupsFrom, restOf, noPicks, groups-start-of, grouped-sized, InGroup, in-group}
+use Rattle.groups.specs.Left.{grouped-sized}
+use Rattle.groups.proofs.Within.{groupsFrom, restOf, noPicks, groups-start-of, InGroup, in-group}
 use borrow.Author.Needs.{needs}
 use Rattle.groups.proofs.pages.group_page.Statement.{statement}
 use Rattle.groups.proofs.pages.group_page.Tie as tie

@@ -6,7 +6,7 @@ use native.Mathlib.Omega.{arith}
 use lib.ListN.{length, take}
 use lib.Seq.{length-take-le, getD-take}
 use Rattle.groups.specs.Groups.{waysIn}
-use Rattle.groups.proofs.Within.{grouped-sized}
+use Rattle.groups.specs.Left.{grouped-sized}
 use Rattle.groups.proofs.BySums.{sumUp, choices-by-sums}
 use borrow.Author.Needs.{needs}
 use Rattle.groups.proofs.pages.group_total.Statement.{statement}

@@ -13,9 +13,8 @@ use Rattle.wellformed.specs.Tables.{well-formed}
 use Rattle.wellformed.specs.MoveWords.{moveWords-length}
 use Rattle.enabled.specs.Reactions.{consumed-below}
 use Rattle.reaction.specs.Decoded.{decodes-itself}
-use Rattle.rule_moves.specs.Takes.{movesBy}
-use Rattle.listing.specs.Listing.{reactionsBy}
-use Rattle.listing.proofs.Whole.{more-length, small-ports, part-of-rule, from-zero}
+use Rattle.rule_moves.specs.Takes.{small-ports, movesBy, reactionsBy}
+use Rattle.listing.proofs.Whole.{more-length, part-of-rule, from-zero}
 use borrow.Author.Needs.{needs}
 use Rattle.listing.proofs.reactions.reactions.Statement.{statement}
 use Rattle.listing.proofs.reactions.reactions.Tie as tie

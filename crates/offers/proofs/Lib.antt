@@ -1,0 +1,4 @@
+pub mod KeyCase
+pub mod KeyRows
+pub mod Parts
+pub mod KeyTally
