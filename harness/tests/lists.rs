@@ -3,13 +3,11 @@ mod common;
 
 use std::collections::BTreeSet;
 
-use common::{after_a, Asked};
+use common::{after_a, ask_faulty, noisy, Asked};
 use harness::answer::{order, Answer, Page};
 use harness::generate::coverage::Coverage;
 use harness::generate::lists::{listed, met};
-use harness::generate::state_faults::StateFault;
 use harness::generate::states::state;
-use harness::generate::table_faults::TableFault;
 use harness::generate::tables::{table, Shape};
 use harness::generate::workloads::{fours, spread};
 use harness::random::Random;
@@ -342,16 +340,8 @@ fn damaged_tables_and_states() {
     for round in 0..6_000 {
         let (table, state) = listed(&mut random, round);
         let asked = Asked::new(random.word64() >> random.below(64), random.pick(&[0, 1, 256]));
-        let (table_fault, state_fault) = (random.pick(TableFault::ALL), random.pick(StateFault::ALL));
-        let bad_state = state_fault.plant(&mut random, &table, &state);
-        if let Some(bad_state) = &bad_state {
-            refused(asked.of(&table.words(), bad_state), state_fault.number());
-            planted[state_fault.number() as usize] += 1;
-        }
-        if let Some(bad_table) = table_fault.plant(&mut random, &table) {
-            refused(asked.of(&bad_table, &bad_state.unwrap_or(state.words())), table_fault.number());
-            planted[table_fault.number() as usize] += 1;
-        }
+        let ask = |table: &[u32], state: &[u32], number| refused(asked.of(table, state), number);
+        ask_faulty(&mut random, &table, &state, &mut planted, ask);
     }
     assert!(planted[1..].iter().all(|&count| count > 400), "{planted:?}");
 }
@@ -362,16 +352,7 @@ fn noise_gets_one_answer() {
     let mut random = Random::new(905);
     let mut numbers = [0; 7];
     for _ in 0..20_000 {
-        let mut parts = [two_lot::table(), after_a(random.index(7))];
-        let part = random.index(2);
-        let length = random.pick(&[0, 1, 4, 5, 6, 12, 29, 200]);
-        match random.below(4) {
-            0 => parts[part] = (0..length).map(|_| random.edge_word()).collect(),
-            _ => {
-                let at = random.index(parts[part].len());
-                parts[part][at] = random.edge_word();
-            }
-        }
+        let parts = noisy(&mut random);
         let room = random.pick(&[0, 1, 5, 1_279, 1_280, 1_281]);
         let asked = Asked { first: random.word64() >> random.below(64), count: random.edge_word(), room };
         numbers[asked.of(&parts[0], &parts[1]).0.answer.number() as usize] += 1;

@@ -2,12 +2,10 @@
 //! is held to its own log: a run accepts it, and the list of the state that this leaves says whether it is still.
 mod common;
 
-use common::{after, after_a, Alone};
+use common::{after, after_a, ask_faulty, noisy, Alone};
 use harness::answer::{order, Answer, Unattended};
 use harness::generate::coverage::Coverage;
 use harness::generate::plants::PLANTS;
-use harness::generate::state_faults::StateFault;
-use harness::generate::table_faults::TableFault;
 use harness::generate::unattended::{plant, Step};
 use harness::generate::workloads::{fours, spread};
 use harness::library;
@@ -219,16 +217,8 @@ fn damaged_tables_and_states() {
         let budget = random.pick(&[0, 1, 5, 1_024, 1_025, u32::MAX]);
         let room = random.pick(&[0, 1, 26, 5_121]);
         let alone = Alone { budget, room };
-        let (table_fault, state_fault) = (random.pick(TableFault::ALL), random.pick(StateFault::ALL));
-        let bad_state = state_fault.plant(&mut random, &table, &state);
-        if let Some(bad_state) = &bad_state {
-            refused(alone.of(&table.words(), bad_state), state_fault.number());
-            planted[state_fault.number() as usize] += 1;
-        }
-        if let Some(bad_table) = table_fault.plant(&mut random, &table) {
-            refused(alone.of(&bad_table, &bad_state.unwrap_or(state.words())), table_fault.number());
-            planted[table_fault.number() as usize] += 1;
-        }
+        let ask = |table: &[u32], state: &[u32], number| refused(alone.of(table, state), number);
+        ask_faulty(&mut random, &table, &state, &mut planted, ask);
     }
     assert!(planted[1..].iter().all(|&count| count > 400), "{planted:?}");
 }
@@ -239,17 +229,7 @@ fn noise_gets_one_answer() {
     let mut random = Random::new(1_002);
     let mut numbers = [0; 20];
     for _ in 0..20_000 {
-        let mut parts = [two_lot::table(), after_a(random.index(7))];
-        let part = random.index(2);
-        let length = random.pick(&[0, 1, 4, 5, 6, 12, 29, 200]);
-        match random.below(4) {
-            0 => parts[part] = (0..length).map(|_| random.edge_word()).collect(),
-            1 => {}
-            _ => {
-                let at = random.index(parts[part].len());
-                parts[part][at] = random.edge_word();
-            }
-        }
+        let parts = noisy(&mut random);
         let (budget, room) = (random.edge_word(), random.pick(&[0, 1, 6, 26, 31, 5_120, 5_121, 5_122]));
         numbers[Alone { budget, room }.of(&parts[0], &parts[1]).0.answer.number() as usize] += 1;
     }

@@ -10,6 +10,8 @@ use std::hint::black_box;
 use std::path::Path;
 
 use harness::answer::{order, Answer, OnMove, OnPage, OnTally, OnTarget, Page, Preview, Tally, Unattended};
+use harness::generate::state_faults::StateFault;
+use harness::generate::table_faults::TableFault;
 use harness::random::Random;
 use harness::two_lot;
 use harness::words::{act, kind, log_target, page_target, role, Atom, Entry, Move, State, Table};
@@ -360,6 +362,43 @@ pub fn after(moves: &[Move]) -> Vec<u32> {
 /// .. after so many moves of (a).
 pub fn after_a(moves: usize) -> Vec<u32> {
     after(&two_lot::case_a()[..moves])
+}
+
+/// A state with a fault, and a table with one whatever the state is like: each is asked about with the number that it must
+/// be refused with, and counted by it.
+pub fn ask_faulty(
+    random: &mut Random,
+    table: &Table,
+    state: &State,
+    planted: &mut [u32; 5],
+    ask: impl Fn(&[u32], &[u32], u32),
+) {
+    let (table_fault, state_fault) = (random.pick(TableFault::ALL), random.pick(StateFault::ALL));
+    let bad_state = state_fault.plant(random, table, state);
+    if let Some(bad_state) = &bad_state {
+        ask(&table.words(), bad_state, state_fault.number());
+        planted[state_fault.number() as usize] += 1;
+    }
+    if let Some(bad_table) = table_fault.plant(random, table) {
+        ask(&bad_table, &bad_state.unwrap_or(state.words()), table_fault.number());
+        planted[table_fault.number() as usize] += 1;
+    }
+}
+
+/// The two-lot plant's table and a state of (a); one of them may be noise, or have a word of it.
+pub fn noisy(random: &mut Random) -> [Vec<u32>; 2] {
+    let mut parts = [two_lot::table(), after_a(random.index(7))];
+    let part = random.index(2);
+    let length = random.pick(&[0, 1, 4, 5, 6, 12, 29, 200]);
+    match random.below(4) {
+        0 => parts[part] = (0..length).map(|_| random.edge_word()).collect(),
+        1 => {}
+        _ => {
+            let at = random.index(parts[part].len());
+            parts[part][at] = random.edge_word();
+        }
+    }
+    parts
 }
 
 /// A begin with an abort mark inside, a local rule, merge rules of one to four consumes, and a global rule.
