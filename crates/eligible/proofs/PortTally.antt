@@ -29,36 +29,36 @@ tally-start ks counts h z = record {
 pub tally-done : {ks : List ℕ} {i : ℕ} {counts : List ℕ} → PortTally ks i counts → length ks ≤ i → PortCounts ks counts
 tally-done {ks} {i} h l = rw (take-all i ks l) at (h .counted)
 
--- one key more, counted at its slot
-pub tally-next : {ks : List ℕ} {i : ℕ} {counts : List ℕ} → PortTally ks i counts → i < length ks → {key slot : ℕ} → getD ks i 0 ≡ key
-    → slot ≡ min key 511 → PortTally ks (i + 1) (set counts slot (getD counts slot 0 + 1))
-tally-next {ks} {i} {counts} h low {key} {slot} is e = record {
+-- one key more, counted at its bin
+pub tally-next : {ks : List ℕ} {i : ℕ} {counts : List ℕ} → PortTally ks i counts → i < length ks → {key bin : ℕ} → getD ks i 0 ≡ key
+    → bin ≡ min key 511 → PortTally ks (i + 1) (set counts bin (getD counts bin 0 + 1))
+tally-next {ks} {i} {counts} h low {key} {bin} is e = record {
   within = omega arith;
   few = few;
-  counted = record { size = length-set counts slot _ ∙ h .counted .size; each = each };
+  counted = record { size = length-set counts bin _ ∙ h .counted .size; each = each };
 }
   where
-    inside : slot < length counts
+    inside : bin < length counts
     inside = omega (arith, h .counted .size, min-le-right key 511)
 
-    few : (t : ℕ) → getD (set counts slot (getD counts slot 0 + 1)) t 0 ≤ i + 1
-    few t = by-bool (eqb t slot)
-        (λ q. rw (eqb-true t slot q, getD-set-same counts slot (getD counts slot 0 + 1) 0 inside) (omega (arith, h .few slot)))
-        (λ q. rw (getD-set-other counts slot t (getD counts slot 0 + 1) 0 (eqb-false t slot q)) (omega (arith, h .few t)))
+    few : (t : ℕ) → getD (set counts bin (getD counts bin 0 + 1)) t 0 ≤ i + 1
+    few t = by-bool (eqb t bin)
+        (λ q. rw (eqb-true t bin q, getD-set-same counts bin (getD counts bin 0 + 1) 0 inside) (omega (arith, h .few bin)))
+        (λ q. rw (getD-set-other counts bin t (getD counts bin 0 + 1) 0 (eqb-false t bin q)) (omega (arith, h .few t)))
 
-    each : (t : ℕ) → t < 511 → getD (set counts slot (getD counts slot 0 + 1)) t 0 ≡ timesIn t (take (i + 1) ks)
-    each t l = by-bool (eqb t slot) here other
+    each : (t : ℕ) → t < 511 → getD (set counts bin (getD counts bin 0 + 1)) t 0 ≡ timesIn t (take (i + 1) ks)
+    each t l = by-bool (eqb t bin) here other
       where
-        here : eqb t slot ≡ true → getD (set counts slot (getD counts slot 0 + 1)) t 0 ≡ timesIn t (take (i + 1) ks)
+        here : eqb t bin ≡ true → getD (set counts bin (getD counts bin 0 + 1)) t 0 ≡ timesIn t (take (i + 1) ks)
         here q =
-            let r = eqb-true t slot q in
+            let r = eqb-true t bin q in
             let k : getD ks i 0 ≡ t = omega arith in
             let in′ : t < length counts = omega (arith, h .counted .size) in
-            let s : getD (set counts slot (getD counts slot 0 + 1)) t 0 ≡ getD counts t 0 + 1 = rw (← r) (getD-set-same counts t (getD counts t 0 + 1) 0 in′) in
+            let s : getD (set counts bin (getD counts bin 0 + 1)) t 0 ≡ getD counts t 0 + 1 = rw (← r) (getD-set-same counts t (getD counts t 0 + 1) 0 in′) in
             omega (arith, s, h .counted .each t l, times-same t i ks low k)
 
-        other : eqb t slot ≡ false → getD (set counts slot (getD counts slot 0 + 1)) t 0 ≡ timesIn t (take (i + 1) ks)
+        other : eqb t bin ≡ false → getD (set counts bin (getD counts bin 0 + 1)) t 0 ≡ timesIn t (take (i + 1) ks)
         other q =
-            let n = eqb-false t slot q in
-            getD-set-other counts slot t (getD counts slot 0 + 1) 0 n
+            let n = eqb-false t bin q in
+            getD-set-other counts bin t (getD counts bin 0 + 1) 0 n
             ∙ h .counted .each t l ∙ sym (times-other t i ks low (λ r. n (omega arith)))

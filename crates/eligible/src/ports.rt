@@ -5,7 +5,7 @@ ghost use lib.ListN.{length, getD, take};
 ghost use Rattle.eligible.specs.Ports.{PortCounts};
 
 // Keys on a local port, which have a group, are all counted at the last place, which is no port.
-fn slot_of(key: u32) -> usize
+fn bin_of(key: u32) -> usize
     ensures { λ r. ⌜ r ≡ min key 511 ⌝ }
 {
     if key <= 511 { key as usize } else { 511 }
@@ -18,8 +18,8 @@ pub fn count_ports(keys: &[u32; 1024], n: usize, counts: &mut [u16; 512])
 {
     let mut i = 0;
     while i < n {
-        let slot = slot_of(keys[i]);
-        counts[slot] += 1;
+        let bin = bin_of(keys[i]);
+        counts[bin] += 1;
         i += 1;
     }
 }

@@ -27,14 +27,14 @@ here : (c : tie.In-loop Inv μ) → getD (take (c .before .before .args .n) (c .
     ≡ getD (c .before .before .args .keys .now) (c .before .loop .i) 0
 here c = getD-take (c .before .before .args .n) (c .before .before .args .keys .now) (c .before .loop .i) 0 (c .loop-test .taken)
 
-slot-below : (c : tie.After-slot-of Inv μ) → c .slot-of .result < 512
-slot-below c = omega (arith, c .slot-of .ensures)
+bin-below : (c : tie.After-bin-of Inv μ) → c .bin-of .result < 512
+bin-below c = omega (arith, c .bin-of .ensures)
 
 loop-again : tie.Need-loop-again Inv μ
 loop-again c =
     let turn = c .before .before .before in
     let l = turn .before .loop in
-    (l .inv .0, l .inv .1, tally-next (l .inv .2) (inside turn) (here turn) (c .before .slot-of .ensures))
+    (l .inv .0, l .inv .1, tally-next (l .inv .2) (inside turn) (here turn) (c .before .bin-of .ensures))
 
 returns : tie.Need-returns Inv μ
 returns c =
@@ -52,10 +52,10 @@ count-ports-spec =
     (λ c. omega (arith, few c))
     (λ c. omega (arith, few c, c .before .loop .inv .1))
     (λ c κs. search needs)
-    (λ c. omega (arith, slot-below c))
-    (λ c. omega (arith, slot-below c, c .before .before .before .loop .inv .2 .counted .size))
-    (λ c. omega (arith, c .before .before .before .before .loop .inv .2 .few (c .before .slot-of .result), few (c .before .before .before)))
-    (λ c. omega (arith, slot-below (c .before), c .before .before .before .before .loop .inv .2 .counted .size))
+    (λ c. omega (arith, bin-below c))
+    (λ c. omega (arith, bin-below c, c .before .before .before .loop .inv .2 .counted .size))
+    (λ c. omega (arith, c .before .before .before .before .loop .inv .2 .few (c .before .bin-of .result), few (c .before .before .before)))
+    (λ c. omega (arith, bin-below (c .before), c .before .before .before .before .loop .inv .2 .counted .size))
     (λ c. omega (arith, few (c .before .before .before)))
     (λ c. omega (arith, c .before .before .before .loop-test .taken))
     loop-again
