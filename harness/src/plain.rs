@@ -158,7 +158,7 @@ pub fn run_unattended(table: &[u32], state: &[u32], budget: u32, target: &mut [u
     unattended(table, state, budget, target, Counting::Anew)
 }
 
-/// The same with counts that follow the moves. For the benchmark, as what there is to gain.
+/// The same with counts that follow the moves, as the library's do. For the benchmark, as what is nearest to it.
 pub fn run_unattended_along(table: &[u32], state: &[u32], budget: u32, target: &mut [u32]) -> Unattended {
     unattended(table, state, budget, target, Counting::Along)
 }

@@ -241,6 +241,16 @@ fn noise_gets_one_answer() {
     refused(Alone::new(5).of(&two_lot::table(), &long), 3);
 }
 
+/// A state of these entries as it is, with the most entries that are few to the library (64: every candidate is tried,
+/// and every transaction), and with more: messages in the plant are added behind the others, on port 0. No rule takes
+/// from there, so every log is that of the state as it is.
+fn filled(next: u32, entries: &[Entry]) -> [Vec<u32>; 5] {
+    [entries.len(), 64, 65, 66, 200].map(|n| {
+        let filler = vec![Entry::message(0, 0, 9); n - entries.len()];
+        State { next, entries: [entries, &filler].concat() }.words()
+    })
+}
+
 /// A rule that takes from these ports and makes one message on this one.
 fn for_one(ports: &[u32], port: u32) -> Vec<Atom> {
     let takes = ports.iter().map(|&port| Atom::consume(port));
@@ -261,8 +271,9 @@ fn local_rules_want_all_in_one_transaction() {
             let left = (0..takes.len()).filter(|&take| take != lack);
             entries.extend(left.map(|take| Entry::message(id, takes[take], 5)));
         }
-        let start = State { next: 10, entries: entries.clone() };
-        gives(Alone::new(3).of(&table, &start.words()), &[], true);
+        for state in filled(10, &entries) {
+            gives(Alone::new(3).of(&table, &state), &[], true);
+        }
         // Transaction 3 has all, behind the others and in another order.
         let behind = entries.len() as u32;
         entries.push(Entry::member_mark(3, 3));
@@ -272,9 +283,10 @@ fn local_rules_want_all_in_one_transaction() {
             let fits = |place: &u32| entries[*place as usize] == Entry::message(3, *take, 6) && !picks.contains(place);
             picks.push((behind..entries.len() as u32).find(fits).unwrap());
         }
-        let state = State { next: 10, entries }.words();
-        gives(Alone::new(3).of(&table, &state), &[Move::react(0, &picks)], true);
-        gives(Alone::new(0).of(&table, &state), &[], false);
+        for state in filled(10, &entries) {
+            gives(Alone::new(3).of(&table, &state), &[Move::react(0, &picks)], true);
+            gives(Alone::new(0).of(&table, &state), &[], false);
+        }
     }
 }
 
@@ -341,6 +353,32 @@ fn ends_by_id_behind_reactions() {
     let all_marked =
         State { next: 9, entries: [marks(&[5, 2, 7]), [7, 5, 2].map(Entry::abort_mark).to_vec()].concat() };
     gives(Alone::new(9).of(&table, &all_marked.words()), &aborts(&[2, 5, 7]), true);
+}
+
+// Catches a commit that is missed behind a lower transaction with a message inside or an abort mark, or is made of such
+// a one, and an abort that is missed behind them: four transactions, each of them free, blocked, stopped or both.
+#[test]
+fn ends_behind_blocked_and_stopped() {
+    let table = Table { global: 1, local: 1, merge: 0, rules: vec![] }.words();
+    // By id, and with entries in another order; two ids share a remainder by 1,024.
+    let ids = [3, 64, 1_027, 65_535];
+    for fates in digits(4, 4) {
+        let (blocked, stopped) = (|place: usize| fates[place] & 1 == 1, |place: usize| fates[place] & 2 == 2);
+        let mut entries = Vec::new();
+        for place in [2, 0, 3, 1] {
+            let id = ids[place];
+            // A message for the plant does not block.
+            entries.extend([Entry::member_mark(id, id), Entry::message(id, 0, 5), Entry::compensation(id, 0, 6)]);
+            entries.extend(blocked(place).then(|| Entry::message(id, 1, 5)));
+            entries.extend(stopped(place).then(|| Entry::abort_mark(id)));
+        }
+        let free = (0..4).filter(|&place| !blocked(place) && !stopped(place)).map(|place| Move::commit(ids[place]));
+        let aborts = (0..4).filter(|&place| stopped(place)).map(|place| Move::abort(ids[place]));
+        let log: Vec<Move> = free.chain(aborts).collect();
+        for state in filled(MAX_NEXT, &entries) {
+            gives(Alone::new(9).of(&table, &state), &log, true);
+        }
+    }
 }
 
 // Catches an end that is made where a begin is enabled, or not made where none is: each abort gives back a message that
@@ -445,6 +483,61 @@ fn stopped_transactions_take_no_part() {
     gives(Alone::new(9).of(&table, &State { next: 2, entries: entries.to_vec() }.words()), &log, true);
 }
 
+// Catches an abort mark that a move of the run leaves and the next step does not know of, and one that stops or hides
+// what others have: a rule of each class that leaves one, and the same rule without it, after which all is taken.
+#[test]
+fn rules_that_stop_their_transaction() {
+    let owned = |id: u32, ports: &[u32]| {
+        let messages = ports.iter().map(|&port| Entry::message(id, port, 5));
+        [Entry::member_mark(id, id)].into_iter().chain(messages).collect::<Vec<_>>()
+    };
+    let body = |port: u32| Atom::constant(role::BODY, port, 5);
+    // The first rule, the log on n entries where it leaves a mark, and the number of reactions where it leaves none.
+    type Case = (Vec<Atom>, Vec<Entry>, fn(u32) -> Vec<Move>, usize);
+    let cases: [Case; 3] = [
+        // Both bodies on port 3 stand before what transaction 1 then makes there.
+        (
+            vec![Atom::consume(1), Atom::BEGIN, body(3), body(4)],
+            [owned(1, &[2]), vec![Entry::message(0, 1, 5); 2]].concat(),
+            |n| {
+                let made = [Move::react(0, &[2]), Move::react(0, &[2]), Move::react(3, &[1]), Move::react(1, &[n + 5])];
+                [&made[..], &[Move::commit(1), Move::abort(4), Move::abort(5)]].concat()
+            },
+            8,
+        ),
+        (
+            for_one(&[2], 3),
+            [owned(1, &[3, 2, 4]), owned(2, &[3])].concat(),
+            |_| vec![Move::react(0, &[2]), Move::react(1, &[4]), Move::commit(2), Move::abort(1)],
+            5,
+        ),
+        // One message on port 4 is stopped, and transaction 3 has one: too few for the first rule.
+        (
+            for_one(&[4, 4], 3),
+            [owned(2, &[3, 4]), owned(1, &[4, 3, 4]), owned(3, &[3, 4])].concat(),
+            |_| {
+                let made = [Move::react(0, &[2, 4]), Move::react(1, &[6]), Move::react(2, &[6])];
+                [&made[..], &[Move::commit(3), Move::abort(1)]].concat()
+            },
+            7,
+        ),
+    ];
+    for (rule, entries, log, unstopped) in cases {
+        let others = [for_one(&[3], 0), for_one(&[4], 0), for_one(&[2], 3)];
+        let table = |first: &[Atom]| {
+            let rules = [&[first.to_vec()][..], &others].concat();
+            Table { global: 2, local: 2, merge: 1, rules }.words()
+        };
+        let (stops, goes_on) = (table(&[&rule[..], &[Atom::ABORT]].concat()), table(&rule));
+        for state in filled(4, &entries) {
+            gives(Alone::new(20).of(&stops, &state), &log(state[0]), true);
+            let (_, words) = Alone::new(20).of(&goes_on, &state);
+            let reactions = log_from_words(&words).unwrap().iter().filter(|mv| mv.kind == act::REACT).count();
+            assert_eq!(reactions, unstopped);
+        }
+    }
+}
+
 // Catches ids that are looked for in too few words: as many transactions as a state can hold, far apart, with one pair for
 // a local rule that the first and the last have a half of.
 #[test]
@@ -465,19 +558,33 @@ fn as_many_transactions_as_fit() {
 }
 
 // Catches a count of one transaction's messages that is taken for another's: ids that differ by multiples of 1,024, of
-// which one has both messages of a local rule and the others a half each.
+// which one has all messages of a local rule and the others a part each, that together would do.
 #[test]
 fn ids_that_share_a_remainder() {
-    let table = Table { global: 1, local: 2, merge: 0, rules: vec![for_one(&[1, 2], 0)] }.words();
-    let ids = [7, 5, 1_029, 2_053];
-    let mut entries: Vec<Entry> = ids.iter().map(|&id| Entry::member_mark(id, id)).collect();
-    for (owner, port) in [(7, 1), (5, 1), (1_029, 2), (5, 1), (2_053, 2), (2_053, 1)] {
-        entries.push(Entry::message(owner, port, 5));
+    // The first candidate, transaction 7, lacks a message. Those of 5 and 1,029 come next, which count as one.
+    let two: &[(u32, u32)] = &[(7, 1), (5, 1), (1_029, 2), (5, 1), (2_053, 2), (2_053, 1)];
+    let three: &[(u32, u32)] = &[(7, 1), (5, 1), (5, 2), (1_029, 1), (1_029, 3), (2_053, 3), (2_053, 1), (2_053, 2)];
+    let twice: &[(u32, u32)] = &[(7, 1), (5, 1), (1_029, 1), (1_029, 2), (2_053, 1), (2_053, 2), (2_053, 1)];
+    // Here the first candidate, 1,029, is one of them.
+    let first: &[(u32, u32)] = &[(1_029, 1), (5, 2), (7, 1), (5, 2), (2_053, 2), (2_053, 1)];
+    for (takes, messages, picks) in [
+        (&[1, 2][..], two, &[9, 8][..]),
+        (&[1, 2, 3], three, &[10, 11, 9]),
+        (&[1, 1, 2], twice, &[8, 10, 9]),
+        (&[1, 2], first, &[9, 8]),
+    ] {
+        let table = Table { global: 1, local: 3, merge: 0, rules: vec![for_one(takes, 0)] }.words();
+        let mut entries: Vec<Entry> = [7, 5, 1_029, 2_053].map(|id| Entry::member_mark(id, id)).to_vec();
+        entries.extend(messages.iter().map(|&(owner, port)| Entry::message(owner, port, 5)));
+        let log = [Move::react(0, picks), Move::commit(2_053)];
+        for state in filled(2_054, &entries) {
+            gives(Alone::new(9).of(&table, &state), &log, true);
+        }
+        entries.truncate(4 + messages.iter().filter(|(owner, _)| *owner != 2_053).count());
+        for state in filled(2_054, &entries) {
+            gives(Alone::new(9).of(&table, &state), &log[1..], true);
+        }
     }
-    let all = State { next: 2_054, entries: entries.clone() }.words();
-    gives(Alone::new(9).of(&table, &all), &[Move::react(0, &[9, 8]), Move::commit(2_053)], true);
-    entries.truncate(8);
-    gives(Alone::new(9).of(&table, &State { next: 2_054, entries }.words()), &[Move::commit(2_053)], true);
 }
 
 /// Each of some steps of a log beside the first of the list in the state that the log before it leaves.

@@ -3,6 +3,7 @@ pub mod Membership
 pub mod Rising
 pub mod Length
 pub mod Keys
+pub mod Supply
 pub mod Reactions
 pub mod Ends
 pub mod ByRules

@@ -1,3 +1,4 @@
 pub mod Picking
 pub mod Places
 pub mod Buckets
+pub mod Fits

@@ -1,65 +1,59 @@
 -- A pick for each number in turn: the first choice behind the picks so far is the one looked for.
 use Prim.Native.Nat.{ℕ, suc, _+_, _≤_, _<_}
-use mathlib.Core.Bool.{Bool, true, false}
+use mathlib.Core.Bool.{Bool, true, false, _&&_, not}
 use mathlib.Core.List.{List, [], _∷_, _++_, map, append-nil}
 use mathlib.Core.Path.{_≡_, refl, sym, ap, _∙_}
 use native.Mathlib.Numerals.{add-one}
 use native.Mathlib.Omega.{arith}
-use borrow.Author.Tests.{eqb-true, eqb-false, leb-true, leb-false, eq-eqb, ne-eqb}
-use lib.Dec.{eqb, leb}
+use borrow.Author.Tests.{leb-true, leb-false}
+use lib.Dec.{leb}
 use lib.ListN.{length, getD, take, drop, set, replicate, length-set}
-use lib.Seq.{getD-take, take-suc, take-suc-set, drop-cons, drop-set-lt}
+use lib.Seq.{take-suc, take-suc-set, drop-cons, drop-set-lt}
 use Rattle.lists.specs.Lists.{isIn}
 use Rattle.lists.specs.Choices.{by-bool}
-use Rattle.lists.specs.Tests.{and-right-false}
+use Rattle.lists.specs.Tests.{false-and, and-right-false}
 use Rattle.lists.specs.Each.{All}
 use Rattle.lists.specs.Padded.{cut-back}
 use Rattle.lists.specs.Prefix.{prefix-tails}
 use Rattle.lists.specs.Choosing.{isFree}
 use Rattle.lists.specs.FirstChoice.{choicesAfter, no-place, first-place}
 use Rattle.lists.specs.Ways.{Used, used-next}
-use Rattle.choices.specs.Next.{NextKey}
-use Rattle.first_choice.specs.Choice.{firstChoice, FirstFree}
+use Rattle.seek.specs.Seek.{fitsAt, NextFit, next-same, Sought, sought-start, sought-next, sought-found, sought-end}
+use Rattle.first_choice.specs.Choice.{firstChoice, FitKeys}
 
 -- ---- the first free place
 
--- no place before p is free, and p has the number
-pub record Searching (keys used : List ℕ) (t n p : ℕ) : Type 0 where
+-- no place before p is free
+pub record Searching (q : ℕ → Bool) (used : List ℕ) (n p : ℕ) : Type 0 where
   pub within : p ≤ n
-  pub none : (j : ℕ) → j < p → isFree (take n keys) used t j ≡ false
-  pub key : p < n → getD keys p 0 ≡ t
+  pub sought : Sought (λ j. q j && not (isIn j used)) 0 p
 
-module _ {keys used : List ℕ} {t n : ℕ} where
-  passed : {from q : ℕ} → ((j : ℕ) → j < from → isFree (take n keys) used t j ≡ false) → NextKey keys t from n q → Searching keys used t n q
-  passed {from} {q} h m = record { within = m .high; none = none; key = m .here }
-    where
-      none : (j : ℕ) → j < q → isFree (take n keys) used t j ≡ false
-      none j l = by-bool (leb from j)
-          (λ e. rw (getD-take n keys j 0 (omega (arith, m .high)), ne-eqb (getD keys j 0) t (m .none j (leb-true from j e) l)))
-          (λ e. h j (leb-false from j e))
+module _ {q : ℕ → Bool} {used : List ℕ} {n : ℕ} where
+  pub searching-start : Searching q used n 0
+  searching-start = record { within = omega arith; sought = sought-start }
 
-  pub searching-start : {q : ℕ} → NextKey keys t 0 n q → Searching keys used t n q
-  searching-start m = passed (λ j l. absurd (omega arith)) m
+  pub searching-end : {p : ℕ} → Searching q used n p → n ≤ p → NextFit (λ j. q j && not (isIn j used)) 0 n n
+  searching-end s l = sought-end (s .sought) (s .within) l
 
-  module _ {p : ℕ} (s : Searching keys used t n p) where
-    pub searching-end : n ≤ p → FirstFree (take n keys) used t n n
-    searching-end l = record { high = omega arith; none = λ j u. s .none j (omega arith); here = λ u. absurd (omega arith) }
+  module _ {from p : ℕ} (s : Searching q used n from) (m : NextFit q from n p) where
+    -- what does not fit is not free
+    pub searching-passed : Searching q used n p
+    searching-passed = record { within = m .high; sought = record { onward = omega arith; none = none } }
+      where
+        none : (j : ℕ) → 0 ≤ j → j < p → q j && not (isIn j used) ≡ false
+        none j l u = by-bool (leb from j)
+            (λ e. false-and _ (m .none j (leb-true from j e) u))
+            (λ e. s .sought .none j l (leb-false from j e))
 
-    module _ (low : p < n) {b : Bool} (e : b ≡ isIn p used) where
-      pub searching-on : b ≡ true → {q : ℕ} → NextKey keys t (p + 1) n q → Searching keys used t n q
-      searching-on f m = passed none m
-        where
-          none : (j : ℕ) → j < p + 1 → isFree (take n keys) used t j ≡ false
-          none j l = by-bool (eqb j p)
-              (λ q. let i = eqb-true j p q in rw (i, ← e, f) (and-right-false (eqb (getD (take n keys) p 0) t) refl))
-              (λ q. let i = eqb-false j p q in s .none j (omega arith))
-
-      pub searching-found : b ≡ false → FirstFree (take n keys) used t n p
-      searching-found f = record {
-        high = omega arith;
-        none = s .none;
-        here = λ l. rw (getD-take n keys p 0 l, s .key l, eq-eqb t t refl, ← e, f);
+    module _ (other : p ≡ n → ⊥) {b : Bool} (e : b ≡ isIn p used) where
+      pub searching-on : b ≡ true → Searching q used n (p + 1)
+      searching-on f = record {
+        within = omega (arith, m .high);
+        sought = sought-next (searching-passed .sought) (rw (← e, f) (and-right-false (q p) refl));
       }
+
+      pub searching-found : b ≡ false → NextFit (λ j. q j && not (isIn j used)) 0 n p
+      searching-found f = sought-found (searching-passed .sought) (m .high) (rw (m .here (omega (arith, m .high)), ← e, f))
 
 -- ---- the picks
 
@@ -81,8 +75,8 @@ pub record Picking (ks wanted : List ℕ) (k : ℕ) (goal : List (List ℕ)) (pi
   pub zeros : All (λ x. x ≡ 0) (drop i picks)
   pub first : take 1 (choicesAfter ks (take i picks) (drop i (take k wanted))) ≡ take 1 goal
 
-module _ {ks wanted : List ℕ} {n k : ℕ} (size : length ks ≡ n) (enough : k ≤ length wanted) (most : k ≤ 4)
-    {goal : List (List ℕ)} {picks : List ℕ} {i : ℕ} (s : Picking ks wanted k goal picks i) where
+module _ {os ws stopped ports : List ℕ} {n k low high : ℕ} {ks wanted : List ℕ} (h : FitKeys os ws stopped ports n k low high ks wanted)
+    (most : k ≤ 4) {goal : List (List ℕ)} {picks : List ℕ} {i : ℕ} (s : Picking ks wanted k goal picks i) where
   abbrev t : ℕ
   t = getD wanted i 0
 
@@ -97,33 +91,37 @@ module _ {ks wanted : List ℕ} {n k : ℕ} (size : length ks ≡ n) (enough : k
 
   pub picking-done : k ≤ i → record { found = true; picks = picks } ≡ firstChoice goal
   picking-done l =
-      let last = prefix-tails 0 wanted k enough .none i l in
+      let last = prefix-tails 0 wanted k (h .enough) .none i l in
       let back : take 4 (gone ++ replicate 4 0) ≡ picks = cut-back 0 i 4 4 picks (omega arith) (s .four) (s .zeros) in
       ap (λ (ps : List ℕ). record { found = true; picks = ps }) (sym back ∙ rw append-nil)
       ∙ same ((gone ++ []) ∷ []) (ap (choicesAfter ks gone) last)
 
-  module _ (low : i < k) {p : ℕ} (f : FirstFree ks gone t n p) where
+  module _ (more : i < k) {p : ℕ} (m : NextFit (λ p. fitsAt os ws low high stopped (getD ports i 0) p && not (isIn p gone)) 0 n p) where
     level : drop i (take k wanted) ≡ t ∷ rest
-    level = prefix-tails 0 wanted k enough .more i low
+    level = prefix-tails 0 wanted k (h .enough) .more i more
+
+    f : NextFit (isFree ks gone t) 0 n p
+    f = next-same (λ p l. ap (λ (b : Bool). b && not (isIn p gone)) (h .same i p more l)) m
 
     pub picking-none : p ≡ n → record { found = false; picks = 0 ∷ 0 ∷ 0 ∷ 0 ∷ [] } ≡ firstChoice goal
     picking-none e =
-        same [] (ap (choicesAfter ks gone) level ∙ ap (map (λ c. gone ++ c)) (no-place ks gone t rest (λ j l. f .none j (omega arith))))
+        let none = no-place ks gone t rest (λ j l. f .none j (omega arith) (omega (arith, h .size))) in
+        same [] (ap (choicesAfter ks gone) level ∙ ap (map (λ c. gone ++ c)) none)
 
     pub picking-next : (p ≡ n → ⊥) → Picking ks wanted k goal (set picks i p) (i + 1)
     picking-next ne =
-        let place : p < length ks = omega (arith, f .high) in
+        let place : p < length ks = omega (arith, f .high, h .size) in
         let inside : i < length picks = omega (arith, s .four) in
-        let within : i < length wanted = omega arith in
+        let within : i < length wanted = omega (arith, h .enough) in
         let free = f .here (omega arith) in
-        let more : take (i + 1) wanted ≡ take i wanted ++ t ∷ [] = rw add-one (take-suc wanted i 0 within) in
+        let longer : take (i + 1) wanted ≡ take i wanted ++ t ∷ [] = rw add-one (take-suc wanted i 0 within) in
         let picked : take (i + 1) (set picks i p) ≡ gone ++ p ∷ [] = rw add-one (take-suc-set picks i p inside) in
         let past : drop (i + 1) (set picks i p) ≡ drop (suc i) picks = rw add-one (drop-set-lt (suc i) picks i p (omega arith)) in
         record {
           within = omega arith;
           four = length-set picks i p ∙ s .four;
-          used = rw (more, picked) (used-next ks (take i wanted) gone t p place free (s .used));
+          used = rw (longer, picked) (used-next ks (take i wanted) gone t p place free (s .used));
           zeros = rw past ((rw (drop-cons picks i 0 inside) at (s .zeros)) .1);
-          first = rw picked (sym (first-place ks (take i wanted) gone t rest p (s .used) place free (f .none))
+          first = rw picked (sym (first-place ks (take i wanted) gone t rest p (s .used) place free (λ j l. f .none j (omega arith) l))
               ∙ ap (λ (ts : List ℕ). take 1 (choicesAfter ks gone ts)) (sym level) ∙ s .first);
         }

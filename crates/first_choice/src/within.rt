@@ -1,34 +1,51 @@
-// Places on the first port, and the first choice that begins with one of them: the others are in its group.
+// The first choice that begins with a place: the others are of its owner.
 ghost use mathlib.Core.Path.{_≡_};
-ghost use Prim.Native.Nat.{ℕ, _*_, _%_, _≤_, _<_};
+ghost use mathlib.Core.Bool.{true};
+ghost use mathlib.Core.List.{List};
+ghost use Prim.Native.Nat.{ℕ, _≤_, _<_};
 ghost use lib.ListN.{length, getD, take, drop};
 ghost use Rattle.lists.specs.Choosing.{choicesIn};
-ghost use Rattle.first_choice.specs.Choice.{firstChoice, NextOn};
+ghost use Rattle.state.specs.Lent.{Columns};
+ghost use Rattle.seek.specs.Seek.{fitsAt};
+ghost use Rattle.first_choice.specs.Choice.{firstChoice, GroupKeys};
 use crate::Choice;
 use crate::greedy::choose;
-use groups::shifted;
+use idset::WORDS;
 
-// The first of n places from a place on that is on port t, n if none is.
-pub fn next_on(keys: &[u32; 1024], n: usize, from: usize, t: u32) -> usize
-    requires { ⌜ (from ≤ n) × (n ≤ 1024) × (length (now keys) ≡ 1024) ⌝ }
-    ensures { λ r. ⌜ NextOn (now (keys .entry)) t from n r ⌝ }
+pub fn choose_within<'a>(
+    owners: &'a [u16; 1024],
+    items: &'a [u32; 1024],
+    n: usize,
+    stopped: &'a [u64; WORDS],
+    takes: &'a [u32; 4],
+    k: usize,
+    p: usize,
+) -> Choice
+    requires { ⌜ Columns (now owners) (now items) n × (1 ≤ k) × (k ≤ 4) × (p < n) × (length (now takes) ≡ 4)
+        × (fitsAt (now owners) (now items) 0 65535 (now stopped) (getD (now takes) 0 0) p ≡ true) ⌝ }
+    ensures { λ r. ⌜ ((ks : List ℕ) → GroupKeys (now (owners .entry)) (now (items .entry)) (now (stopped .entry)) (now (takes .entry)) n k ks
+        → r ≡ firstChoice (choicesIn ks (getD (now (takes .entry)) 0 0) (drop 1 (take k (now (takes .entry)))) p)) ⌝ }
 {
-    let mut p = from;
-    while p < n {
-        if keys[p] % 512 == t {
-            return p;
-        }
-        p += 1;
-    }
-    n
+    let owner = owners[p];
+    choose(
+        owners,
+        items,
+        n,
+        stopped,
+        owner,
+        owner,
+        takes,
+        k,
+        p as u32,
+        1,
+    )
 }
 
-// The first choice that begins with place p.
-pub fn choose_within(keys: &[u32; 1024], n: usize, takes: [u32; 4], k: usize, p: usize) -> Choice
-    requires { ⌜ (n ≤ 1024) × (length (now keys) ≡ 1024) × (1 ≤ k) × (k ≤ 4) × ((j : ℕ) → getD takes j 0 < 512) ⌝ }
-    requires { ⌜ (p < n) × (getD (now keys) p 0 % 512 ≡ getD takes 0 0) × (getD (now keys) p 0 < 65536 * 512) ⌝ }
-    ensures { λ r. ⌜ r ≡ firstChoice (choicesIn (take n (now (keys .entry))) (getD takes 0 0) (drop 1 (take k takes)) p) ⌝ }
+// A choice that was found, handed on field by field: copied as a whole it is waited for.
+pub fn passed_on(choice: Choice) -> Choice
+    requires { ⌜ choice .found ≡ true ⌝ }
+    ensures { λ r. ⌜ r ≡ choice ⌝ }
 {
-    let wanted = shifted(takes, keys[p] - takes[0]);
-    choose(keys, n, wanted, k, [p as u32, 0, 0, 0], 1)
+    let picks = choice.picks;
+    Choice { found: true, picks }
 }

@@ -1,1 +1,3 @@
+pub mod Commits
+pub mod FirstIds
 pub mod FirstEnds

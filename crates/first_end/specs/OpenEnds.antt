@@ -1,7 +1,7 @@
 -- The open ends of a state, and what the code tells of its entries.
-use Prim.Native.Nat.{ℕ, _-_, _<_}
+use Prim.Native.Nat.{ℕ, suc, _-_, _≤_, _<_}
 use mathlib.Core.Bool.{Bool, _&&_, not}
-use mathlib.Core.List.{List, _++_, map}
+use mathlib.Core.List.{List, [], _∷_, _++_, map}
 use mathlib.Core.Path.{_≡_, ap, _∙_}
 use native.Mathlib.Nat.{zero-add}
 use native.Mathlib.Omega.{arith}
@@ -11,7 +11,7 @@ use Rattle.lists.specs.Lists.{any, keep, upFrom}
 use Rattle.lists.specs.Members.{Among, getD-among}
 use Rattle.lists.specs.Rows.{rows, length-rows, getD-rows}
 use Rattle.semantics.specs.Table.{Table}
-use Rattle.semantics.specs.State.{Entry, State, owned}
+use Rattle.semantics.specs.State.{Entry, State, isMessage, owned}
 use Rattle.semantics.specs.Move.{Move, commit, abort, nothing, moveVerdict}
 use Rattle.semantics.specs.Enabled.{isAllowed}
 use Rattle.semantics.specs.declared.Sizes.{Sizes}
@@ -26,17 +26,40 @@ use Rattle.transactions.specs.Sets.{blocks}
 abbrev pub openEnds : ℕ → Table → State → List Move
 openEnds ceiling t s = keep (λ m. isAllowed (moveVerdict ceiling t s m)) (map commit (upFrom 1 (s .next - 1)) ++ map abort (upFrom 1 (s .next - 1)))
 
+abbrev pub openAborts : ℕ → Table → State → List Move
+openAborts ceiling t s = keep (λ m. isAllowed (moveVerdict ceiling t s m)) (map abort (upFrom 1 (s .next - 1)))
+
 -- every transaction that owns something has an id that has been given out
 abbrev pub OwnersGiven : List ℕ → Extent → Type 0
 OwnersGiven os at = (p : ℕ) → p < at .len → (getD os p 0 ≡ 0 → ⊥) → getD os p 0 < at .next
+
+-- a message on a port of its transaction's own
+abbrev pub isInside : ℕ → Entry → Bool
+isInside globals e = isMessage e && not (ltb (e .port) globals)
 
 -- the owners of what blocks a commit
 pub record BlockedIn (globals : ℕ) (es : List Entry) (blocked : List ℕ) : Type 0 where
   pub are : (v : ℕ) → has blocked v ≡ any (λ e. owned v e && blocks globals e) es
 
--- of a transaction that is not blocked
-abbrev pub freeToCommit : List ℕ → Entry → Bool
-freeToCommit blocked e = ltb 0 (e .owner) && not (has blocked (e .owner))
+-- of a transaction with a higher id than a
+abbrev pub isAbove : ℕ → Entry → Bool
+isAbove a e = ltb a (e .owner)
+
+-- of any transaction, and of one that is not in a set
+abbrev pub isOwned : Entry → Bool
+isOwned = isAbove 0
+
+abbrev pub freeOf : List ℕ → Entry → Bool
+freeOf out e = isOwned e && not (has out (e .owner))
+
+-- v owns something, and m holds of it
+abbrev pub holders : List Entry → (ℕ → Bool) → ℕ → Bool
+holders es m v = any (owned v) es && m v
+
+-- v is the lowest of the ids from start on and below next that p holds of, and beyond all ids if there is none
+pub record FirstId (p : ℕ → Bool) (start next v : ℕ) : Type 0 where
+  pub some : v < 65536 → keep p (upFrom start (next - start)) ≡ v ∷ keep p (upFrom (suc v) (next - suc v))
+  pub none : 65536 ≤ v → keep p (upFrom start (next - start)) ≡ []
 
 -- ---- for callers
 

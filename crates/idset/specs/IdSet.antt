@@ -1,6 +1,6 @@
--- A set of numbers below 65,536 as a list of 1024 words of 64 bits: what it holds, and what an insertion does.
+-- A set of numbers below 65,536 as a list of 1024 words of 64 bits: what it holds, and what an insertion and a removal do.
 use mathlib.Core.Path.{_≡_, refl}
-use mathlib.Core.Bool.{Bool, true, false, _&&_, _||_}
+use mathlib.Core.Bool.{Bool, true, false, _&&_, _||_, not}
 use mathlib.Core.List.{List}
 use Prim.Native.Nat.{ℕ, zero, suc, _+_, _*_, _/_, _%_, _^_, _≤_, _<_}
 use native.Mathlib.Nat.{zero-div}
@@ -21,7 +21,12 @@ pub record Inserted (v : ℕ) (before after : List ℕ) : Type 0 where
   pub size : length after ≡ 1024
   pub holds : (u : ℕ) → has after u ≡ (eqb u v || has before u)
 
--- the same where b holds; else what `before` holds
+-- `after` holds what `before` holds, but for v
+pub record Removed (v : ℕ) (before after : List ℕ) : Type 0 where
+  pub size : length after ≡ 1024
+  pub holds : (u : ℕ) → has after u ≡ (not (eqb u v) && has before u)
+
+-- v is put in where b holds; else `after` holds what `before` holds
 pub record InsertedIf (b : Bool) (v : ℕ) (before after : List ℕ) : Type 0 where
   pub size : length after ≡ 1024
   pub holds : (u : ℕ) → has after u ≡ (b && eqb u v || has before u)

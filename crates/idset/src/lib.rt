@@ -1,8 +1,9 @@
 // A set of numbers below 65,536, one bit for each: v is bit v % 64 of word v / 64. `[0; WORDS]` is the empty set.
 ghost use mathlib.Core.Path.{_≡_};
+ghost use mathlib.Core.Bool.{true};
 ghost use Prim.Native.Nat.{_≤_, _<_, min};
 ghost use lib.ListN.{length};
-ghost use Rattle.idset.specs.IdSet.{has, Inserted, InsertedIf, Behind};
+ghost use Rattle.idset.specs.IdSet.{has, Inserted, InsertedIf, Removed, Behind};
 
 // The words of a set.
 pub const WORDS: usize = 1024;
@@ -34,6 +35,15 @@ pub fn insert_if(words: &mut [u64; WORDS], v: u32, b: bool)
         return;
     }
     insert(words, v);
+}
+
+// Takes v out of the set. It is there, so that its bit is turned.
+pub fn remove(words: &mut [u64; WORDS], v: u32)
+    requires { ⌜ (v < 65536) × (length (now words) ≡ 1024) × (has (now words) v ≡ true) ⌝ }
+    ensures { λ _. ⌜ Removed v (now (words .entry)) (now (words .exit)) ⌝ }
+{
+    let i = (v / 64) as usize;
+    words[i] ^= 1u64 << (v % 64);
 }
 
 fn lower(a: u32, b: u32) -> u32

@@ -1,33 +1,41 @@
 -- The first of the list, by its parts.
-use Prim.Native.Nat.{ℕ, _-_, _*_, _≤_, _<_}
-use mathlib.Core.Bool.{Bool, true, false, false≢true, cond}
+use Prim.Native.Nat.{ℕ, zero, suc, _+_, _-_, _*_, _≤_, _<_}
+use mathlib.Core.Bool.{Bool, true, false, _&&_, _||_, not, false≢true, cond}
 use mathlib.Core.List.{List, [], _∷_, _++_, map}
 use mathlib.Core.Path.{_≡_, refl, sym, ap, _∙_}
 use native.Mathlib.Omega.{arith}
-use lib.ListN.{length, getD, take}
-use lib.Seq.{length-take-le, getD-take}
-use Rattle.lists.specs.Lists.{keep, upFrom}
+use lib.Dec.{leb, ltb}
+use lib.ListN.{length, getD, take, length-map}
+use lib.Seq.{getD-take}
+use Rattle.lists.specs.Lists.{any, keep, upFrom, countIf}
+use Rattle.lists.specs.Each.{All, All-getD}
+use Rattle.lists.specs.Mapped.{map-map, map-take}
 use Rattle.lists.specs.Parts.{keep-append}
 use Rattle.lists.specs.Rows.{rows, length-rows}
-use Rattle.semantics.specs.Words.{headWord}
-use Rattle.semantics.specs.Table.{sizesOf, tableOf}
+use Rattle.lists.specs.Runs.{RunEnd, keys-count}
+use Rattle.semantics.specs.Words.{headWord, atomRole, portOf}
+use Rattle.semantics.specs.Table.{Rule, sizesOf, classOf, isRole, atomOf, ruleOf, tableOf, consumed}
 use Rattle.semantics.specs.Log.{fourPicks}
 use Rattle.semantics.specs.Move.{Move, react, commit, abort, takesPart, moveVerdict}
 use Rattle.semantics.specs.Enabled.{isAllowed, enabled}
 use Rattle.semantics.specs.Answers.{tableVerdict}
+use Rattle.semantics.specs.declared.Atom.{Atom}
+use Rattle.semantics.specs.declared.Sizes.{Sizes}
 use Rattle.semantics.specs.declared.Verdict.the-variants.{Allowed}
+use Rattle.wellformed.specs.Tables.{RuleFits, rule-has, consumed-length, rule-legal}
 use Rattle.wellformed.specs.Entries.{StateRight}
 use Rattle.enabled.specs.Keys.{Keyed}
+use Rattle.enabled.specs.Reactions.{OfClass}
 use Rattle.enabled.specs.ByRules.{enabled-by-rules}
 use Rattle.state.specs.declared.Extent.{Extent}
 use Rattle.state.specs.Working.{rowOf}
 use Rattle.state.specs.Lent.{stateFrom}
-use Rattle.rule_moves.specs.Takes.{reactionsBy}
-use Rattle.first_choice.specs.Choice.{firstChoice}
+use Rattle.rule_moves.specs.Takes.{SmallPorts, hasRoomFor, reactionsBy}
+use Rattle.first_choice.specs.Choice.{firstChoice, AllOfClass}
 use Rattle.first_end.specs.declared.First.{First}
 use Rattle.first_end.specs.First.{firstMove}
 use Rattle.first_end.specs.OpenEnds.{openEnds}
-use Rattle.next_move.specs.Reactions.{KeysSmall}
+use Rattle.next_move.specs.Reactions.{ConsumesFirst}
 
 -- ---- a choice as a reaction
 
@@ -77,11 +85,54 @@ whole-list t table os ws gs at right ceiling {ks} keyed =
     ∙ ap (λ (n : ℕ). reactionsBy ceiling t n (at .next) ks ++ (keep open? (ends commit) ++ keep open? (ends abort))) (length-rows (rowOf os ws gs) 0 (at .len))
     ∙ ap (λ (l : List Move). reactionsBy ceiling t (at .len) (at .next) ks ++ l) (sym (keep-append open? (ends commit) (ends abort)))
 
--- what is said of the keys of the entries is said of the column's first n
-pub column-small : (n : ℕ) (keys : List ℕ) → n ≤ 1024 → length keys ≡ 1024
-    → ((p : ℕ) → p < length (take n keys) → getD (take n keys) p 0 < 65536 * 512) → KeysSmall n keys
-column-small n keys few size small = record {
-  few = few;
-  size = size;
-  below = λ i l. rw (getD-take n keys i 0 l) at (small i (rw (length-take-le n keys (omega arith)) l));
-}
+-- the ports of a rule's consumes, four in an array, are of its class
+pub of-class : (z : Sizes) (R : Rule) (takes : List ℕ) (k : ℕ) → take k takes ≡ consumed R → k ≡ length (consumed R)
+    → All (OfClass z (R .class)) (consumed R) → AllOfClass z (R .class) takes k
+of-class z R takes k e n h j l =
+    let q : getD (consumed R) j 0 ≡ getD takes j 0 = ap (λ (ts : List ℕ). getD ts j 0) (sym e) ∙ getD-take k takes j 0 l in
+    rw q at (All-getD (OfClass z (R .class)) 0 (consumed R) j h (omega arith))
+
+-- the consumes of a rule stand first in its words
+pub words-consumed : (z : Sizes) (ws : List ℕ) → RuleFits z ws → {k : ℕ} → RunEnd (isRole 0) ws 0 k → ConsumesFirst z ws k
+unfolding ruleOf
+words-consumed z ws f {k} r =
+    let count : countIf (isRole 0) ws ≡ k = omega (arith, keys-count atomRole 0 r (f .rises)) in
+    let legal = rw count at (rule-legal z ws f) in
+    record {
+      some = legal .some;
+      most = legal .most;
+      within = r .within;
+      count = sym (consumed-length z ws ∙ count);
+      ports = legal .consumed ∙ ap (map (λ (a : Atom). a .port)) (sym (map-take atomOf k ws)) ∙ map-map (λ (a : Atom). a .port) atomOf (take k ws);
+    }
+
+-- four in an array, of which the first k count
+pub ports-taken : (f : ℕ → ℕ) (ws : List ℕ) (k : ℕ) → k ≤ 4 → k ≤ length ws
+    → take k (cond (ltb 0 k) (f (getD ws 0 0)) 0 ∷ cond (ltb 1 k) (f (getD ws 1 0)) 0 ∷ cond (ltb 2 k) (f (getD ws 2 0)) 0
+    ∷ cond (ltb 3 k) (f (getD ws 3 0)) 0 ∷ []) ≡ map f (take k ws)
+ports-taken f ws zero a b = refl
+ports-taken f [] (suc k) a b = absurd (omega arith)
+ports-taken f (w ∷ ws) (suc zero) a b = refl
+ports-taken f (w ∷ []) (suc (suc k)) a b = absurd (omega arith)
+ports-taken f (w ∷ x ∷ ws) (suc (suc zero)) a b = refl
+ports-taken f (w ∷ x ∷ []) (suc (suc (suc k))) a b = absurd (omega arith)
+ports-taken f (w ∷ x ∷ y ∷ ws) (suc (suc (suc zero))) a b = refl
+ports-taken f (w ∷ x ∷ y ∷ []) (suc (suc (suc (suc k)))) a b = absurd (omega arith)
+ports-taken f (w ∷ x ∷ y ∷ v ∷ ws) (suc (suc (suc (suc zero)))) a b = refl
+ports-taken f (w ∷ x ∷ y ∷ v ∷ ws) (suc (suc (suc (suc (suc k))))) a b = absurd (omega arith)
+
+pub four-small : (a b c d : ℕ) → a < 256 → b < 256 → c < 256 → d < 256 → SmallPorts (a ∷ b ∷ c ∷ d ∷ [])
+four-small a b c d la lb lc ld zero = la
+four-small a b c d la lb lc ld (suc zero) = lb
+four-small a b c d la lb lc ld (suc (suc zero)) = lc
+four-small a b c d la lb lc ld (suc (suc (suc zero))) = ld
+four-small a b c d la lb lc ld (suc (suc (suc (suc j)))) = omega arith
+
+pub first-class : (z : Sizes) (ws : List ℕ) {c : ℕ} → c ≡ classOf z (portOf (getD ws 0 0)) → ruleOf z ws .class ≡ c
+unfolding ruleOf
+first-class z ws e = sym e
+
+pub room-is : (z : Sizes) (ws : List ℕ) {k : ℕ} → ConsumesFirst z ws k → (ceiling n next : ℕ)
+    → hasRoomFor ceiling (ruleOf z ws) n next ≡ ((not (any (isRole 2) ws) || ltb next 65536) && leb (n + length ws) (ceiling + 2 * k))
+unfolding ruleOf
+room-is z ws {k} w ceiling n next = rw (rule-has z ws 2, length-map ws atomOf, ← w .count)

@@ -1,30 +1,32 @@
 // The first reaction by a rule, and the first of all rules.
 ghost use Prim.Native.Nat.{ℕ, _≤_, _<_};
 ghost use mathlib.Core.Path.{_≡_};
+ghost use mathlib.Core.Bool.{true};
 ghost use mathlib.Core.List.{List, [], map};
-ghost use lib.ListN.{take};
+ghost use lib.ListN.{length};
 ghost use Rattle.lists.specs.Each.{All};
-ghost use Rattle.semantics.specs.Table.{sizesOf, tableOf, ruleAt, consumed};
+ghost use Rattle.semantics.specs.Table.{sizesOf, ruleOf, tableOf, ruleAt, consumed};
 ghost use Rattle.semantics.specs.Move.{react};
-ghost use Rattle.enabled.specs.Reactions.{choicesOf};
-ghost use Rattle.rules.specs.Decode.{Decodes};
-ghost use Rattle.reaction.specs.Decoded.{ruleIn};
+ghost use Rattle.wellformed.specs.Tables.{RuleFits};
+ghost use Rattle.enabled.specs.Reactions.{OfClass, choicesOf};
 ghost use Rattle.rule_moves.specs.Takes.{movesBy, reactionsBy};
-ghost use Rattle.step.specs.Make.{Indexed};
-ghost use Rattle.offers.specs.Offers.{KeyTotals};
-ghost use Rattle.wants.specs.Wants.{Wants};
+ghost use Rattle.offers.specs.Offers.{columnKeys};
 ghost use Rattle.first_choice.specs.Choice.{firstChoice};
 ghost use Rattle.first_end.specs.First.{firstMove};
-ghost use Rattle.next_move.specs.Reactions.{KeysSmall};
+ghost use Rattle.next_move.specs.Reactions.{InColumns, ConsumesFirst, SearchOf};
+use crate::rule::has_room;
+use crate::rule::ports_of;
 use first_choice::Choice;
 use first_choice::first_grouped;
 use first_choice::first_plain;
 use first_end::First;
-use rule_moves::is_open;
-use rule_moves::takes_of;
-use rules::decode::Rule;
-use rules::decode::rule_at;
+use idset::WORDS;
+use legal::rule::consumes_of;
+use legal::rule::rule_class;
+use semantics::Sizes;
 use state::Extent;
+use table::parts::atom_words_of;
+use table::parts::rule_words;
 use table::parts::sizes_of;
 use wants::lacks;
 use words::head::MoveWords;
@@ -37,6 +39,22 @@ fn none() -> First
         mv: MoveWords {
             head: 0,
             picks: [0, 0, 0, 0],
+        },
+    }
+}
+
+// A move that was found, handed on field by field: copied as a whole it is waited for.
+pub fn handed_on(first: First) -> First
+    requires { ⌜ first .found ≡ true ⌝ }
+    ensures { λ r. ⌜ r ≡ first ⌝ }
+{
+    let mv = first.mv;
+    let picks = mv.picks;
+    First {
+        found: true,
+        mv: MoveWords {
+            head: mv.head,
+            picks,
         },
     }
 }
@@ -56,51 +74,82 @@ fn reaction_by(r: u32, choice: Choice) -> First
     }
 }
 
-// The first choice of a rule that has ids and room, as one of its class.
-fn choice_by(rule: Rule, keys: &[u32; 1024], n: usize) -> Choice
-    requires { ⌜ Decodes rule (ruleIn rule) × All (λ p. p < 256) (consumed (ruleIn rule)) × KeysSmall n (now keys) ⌝ }
-    ensures { λ c. ⌜ c ≡ firstChoice (choicesOf (ruleIn rule) (take n (now (keys .entry)))) ⌝ }
+// The first choice of a rule that has ids and room, as one of its class. Its first k words are its consumes.
+fn choice_by<'a>(
+    z: Sizes,
+    ws: &'a [u32],
+    k: usize,
+    owners: &'a [u16; 1024],
+    items: &'a [u32; 1024],
+    at: Extent,
+    stopped: &'a [u64; WORDS],
+    keys: &mut [u32; 1024],
+) -> Choice
+    requires { ⌜ ConsumesFirst z (now ws) k × All (OfClass z (ruleOf z (now ws) .class)) (consumed (ruleOf z (now ws)))
+        × InColumns z (now owners) (now items) (now stopped) at × (length (now keys) ≡ 1024) ⌝ }
+    ensures { λ c. ⌜ c ≡ firstChoice (choicesOf (ruleOf z (now (ws .entry)))
+        (columnKeys z (now (stopped .entry)) (now (owners .entry)) (now (items .entry)) (at .len))) ⌝ }
+    ensures { λ _. ⌜ length (now (keys .exit)) ≡ 1024 ⌝ }
 {
-    let k = rule.consumes;
-    let takes = takes_of(rule);
-    if rule.class == 1 {
-        return first_grouped(keys, n, takes, k);
+    let class = rule_class(ws, z);
+    let takes = ports_of(ws, k);
+    if class == 1 {
+        return first_grouped(z, owners, items, at, stopped, &takes, k, keys);
     }
-    first_plain(keys, n, takes, k)
+    first_plain(owners, items, at.len, stopped, &takes, k, class)
 }
 
-// The first reaction by rule r.
-fn first_by(rule: Rule, r: u32, keys: &[u32; 1024], at: Extent, ceiling: usize) -> First
-    requires { ⌜ Decodes rule (ruleIn rule) × All (λ p. p < 256) (consumed (ruleIn rule)) × KeysSmall (at .len) (now keys) × (r < 64)
-        × (ceiling ≤ 1024) ⌝ }
-    ensures { λ f. ⌜ f ≡ firstMove (movesBy ceiling (ruleIn rule) r (at .len) (at .next) (take (at .len) (now (keys .entry)))) ⌝ }
+// The first reaction by rule r, of its words: all of it is decoded only where it is made.
+fn first_by<'a>(
+    z: Sizes,
+    ws: &'a [u32],
+    r: u32,
+    owners: &'a [u16; 1024],
+    items: &'a [u32; 1024],
+    at: Extent,
+    stopped: &'a [u64; WORDS],
+    ceiling: usize,
+    keys: &mut [u32; 1024],
+) -> First
+    requires { ⌜ RuleFits z (now ws) × All (OfClass z (ruleOf z (now ws) .class)) (consumed (ruleOf z (now ws)))
+        × InColumns z (now owners) (now items) (now stopped) at × (length (now keys) ≡ 1024) × (r < 64) × (ceiling ≤ 1024) ⌝ }
+    ensures { λ f. ⌜ f ≡ firstMove (movesBy ceiling (ruleOf z (now (ws .entry))) r (at .len) (at .next)
+        (columnKeys z (now (stopped .entry)) (now (owners .entry)) (now (items .entry)) (at .len))) ⌝ }
+    ensures { λ _. ⌜ length (now (keys .exit)) ≡ 1024 ⌝ }
 {
-    if !is_open(rule, at, ceiling) {
+    let k = consumes_of(ws);
+    if !has_room(ws, k, at, ceiling) {
         return none();
     }
-    reaction_by(r, choice_by(rule, keys, at.len))
+    reaction_by(r, choice_by(z, ws, k, owners, items, at, stopped, keys))
 }
 
-// The same of the rule's number: a rule that lacks messages is passed over before it is decoded.
+// The same of the rule's number: a rule that lacks messages is passed over before its words are read.
 fn first_of<'a>(
     table: &'a [u32],
     starts: &'a [u32; 65],
     wants: &'a [u64; 64],
-    keys: &'a [u32; 1024],
-    totals: &'a [u16; 512],
+    owners: &'a [u16; 1024],
+    items: &'a [u32; 1024],
     at: Extent,
+    stopped: &'a [u64; WORDS],
+    totals: &'a [u16; 512],
     ceiling: usize,
     r: u32,
+    keys: &mut [u32; 1024],
 ) -> First
-    requires { ⌜ Indexed (now table) (now starts) × Wants (now table) (now wants) × KeysSmall (at .len) (now keys)
-        × KeyTotals (take (at .len) (now keys)) (now totals) × (ceiling ≤ 1024) × (r < sizesOf (now table) .rules) ⌝ }
-    ensures { λ f. ⌜ f ≡ firstMove (movesBy ceiling (ruleAt (tableOf (now (table .entry))) r) r (at .len) (at .next) (take (at .len) (now (keys .entry)))) ⌝ }
+    requires { ⌜ SearchOf (now table) (now starts) (now wants) (now owners) (now items) (now stopped) (now totals) at ceiling
+        × (r < sizesOf (now table) .rules) × (length (now keys) ≡ 1024) ⌝ }
+    ensures { λ f. ⌜ f ≡ firstMove (movesBy ceiling (ruleAt (tableOf (now (table .entry))) r) r (at .len) (at .next)
+        (columnKeys (sizesOf (now (table .entry))) (now (stopped .entry)) (now (owners .entry)) (now (items .entry)) (at .len))) ⌝ }
+    ensures { λ _. ⌜ length (now (keys .exit)) ≡ 1024 ⌝ }
 {
     if lacks(wants, totals, r as usize) {
         return none();
     }
-    let rule = rule_at(table, starts, r);
-    first_by(rule, r, keys, at, ceiling)
+    let z = sizes_of(table);
+    let ws = rule_words(atom_words_of(table), starts, r as usize);
+    first_by(z, ws, r, owners, items, at, stopped, ceiling, keys)
 }
 
 // The first reaction of all.
@@ -108,22 +157,37 @@ pub fn first_reaction<'a>(
     table: &'a [u32],
     starts: &'a [u32; 65],
     wants: &'a [u64; 64],
-    keys: &'a [u32; 1024],
-    totals: &'a [u16; 512],
+    owners: &'a [u16; 1024],
+    items: &'a [u32; 1024],
     at: Extent,
+    stopped: &'a [u64; WORDS],
+    totals: &'a [u16; 512],
     ceiling: usize,
+    keys: &mut [u32; 1024],
 ) -> First
-    requires { ⌜ Indexed (now table) (now starts) × Wants (now table) (now wants) × KeysSmall (at .len) (now keys)
-        × KeyTotals (take (at .len) (now keys)) (now totals) × (ceiling ≤ 1024) ⌝ }
-    ensures { λ f. ⌜ f ≡ firstMove (reactionsBy ceiling (now (table .entry)) (at .len) (at .next) (take (at .len) (now (keys .entry)))) ⌝ }
+    requires { ⌜ SearchOf (now table) (now starts) (now wants) (now owners) (now items) (now stopped) (now totals) at ceiling × (length (now keys) ≡ 1024) ⌝ }
+    ensures { λ f. ⌜ f ≡ firstMove (reactionsBy ceiling (now (table .entry)) (at .len) (at .next)
+        (columnKeys (sizesOf (now (table .entry))) (now (stopped .entry)) (now (owners .entry)) (now (items .entry)) (at .len))) ⌝ }
+    ensures { λ _. ⌜ length (now (keys .exit)) ≡ 1024 ⌝ }
 {
-    let z = sizes_of(table);
-    let rules = z.rules;
+    let rules = sizes_of(table).rules;
     let mut r = 0;
     while r < rules {
-        let first = first_of(table, starts, wants, keys, totals, at, ceiling, r);
+        let first = first_of(
+            table,
+            starts,
+            wants,
+            owners,
+            items,
+            at,
+            stopped,
+            totals,
+            ceiling,
+            r,
+            keys,
+        );
         if first.found {
-            return first;
+            return handed_on(first);
         }
         r += 1;
     }

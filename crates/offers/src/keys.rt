@@ -1,11 +1,10 @@
-// The keys of entries, none of whose owners has an abort mark.
+// The key of an entry, and the keys of all where no owner has an abort mark.
 ghost use Prim.Native.Nat.{ℕ, _*_, _≤_, _<_};
 ghost use mathlib.Core.Path.{_≡_};
 ghost use mathlib.Core.Bool.{Bool, true, cond};
-ghost use mathlib.Core.List.{List};
 ghost use lib.ListN.{length};
 ghost use Rattle.semantics.specs.Table.{portCount};
-ghost use Rattle.state.specs.Working.{entryFrom, rowOf};
+ghost use Rattle.state.specs.Working.{entryFrom};
 ghost use Rattle.state.specs.Lent.{Columns};
 ghost use Rattle.offers.specs.Offers.{ownerKey, OwnerKeys};
 use semantics::Sizes;
@@ -47,7 +46,7 @@ pub fn keys_free<'a>(
     keys: &mut [u32; 1024],
 )
     requires { ⌜ Columns (now owners) (now items) n × (portCount z ≤ 256) × (length (now keys) ≡ 1024) ⌝ }
-    ensures { λ _. ⌜ ((gs : List ℕ) → OwnerKeys z (λ o. true) (rowOf (now (owners .entry)) (now (items .entry)) gs) n (now (keys .exit))) ⌝ }
+    ensures { λ _. ⌜ OwnerKeys z (λ o. true) (now (owners .entry)) (now (items .entry)) n (now (keys .exit)) ⌝ }
 {
     let mut p = 0;
     while p < n {

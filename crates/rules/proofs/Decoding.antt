@@ -1,4 +1,4 @@
--- A rule decoded from its words, and the words of a rule of a well-formed table.
+-- A rule decoded from its words.
 use Prim.Native.Nat.{ℕ, _+_, _<_, _≤_}
 use mathlib.Core.Bool.{Bool, false, _||_}
 use mathlib.Core.List.{List, map}
@@ -13,14 +13,14 @@ use Rattle.lists.specs.Ahead.{slice-tails, Ahead, ahead-start, ahead-next, ahea
 use Rattle.lists.specs.Found.{Finding, finding-next, finding-done}
 use Rattle.lists.specs.Runs.{RunEnd, keys-count}
 use Rattle.semantics.specs.Words.{atomRole, portOf}
-use Rattle.semantics.specs.Table.{sizesOf, numbersOf, atomWordsOf, ruleWords, classOf, atomOf, ruleOf, tableOf, ruleAt, isRole, consumed}
-use Rattle.wellformed.specs.Tables.{WellFormed, well-formed, numbers-length, words-length, numbers-rise, RuleFits, rule-fits, ruleAt-tableOf}
-use Rattle.wellformed.specs.Tables.{rule-has, consumed-length, rule-legal}
+use Rattle.semantics.specs.Table.{sizesOf, numbersOf, atomWordsOf, classOf, atomOf, ruleOf, tableOf, ruleAt, isRole, consumed}
+use Rattle.wellformed.specs.Tables.{RuleFits, rule-has, consumed-length, rule-legal}
 use Rattle.semantics.specs.Answers.{tableVerdict}
 use Rattle.semantics.specs.declared.Atom.{Atom}
 use Rattle.semantics.specs.declared.Sizes.{Sizes}
 use Rattle.semantics.specs.declared.Verdict.the-variants.{Allowed}
-use Rattle.table.specs.Index.{Starts, Cut, cut, starts-within, starts-cut}
+use Rattle.table.specs.Index.{Starts, cut}
+use Rattle.rules.specs.RuleWords.{cut-fits, cut-rule}
 use Rattle.rules.specs.Decode.{Decodes}
 use Rattle.rules.specs.declared.decode.Rule.{Rule}
 
@@ -85,28 +85,10 @@ module _ {z : Sizes} {ws : List ℕ} (f : RuleFits z ws) {class : ℕ} {x : Rule
         legal = rw counted (rule-legal z ws f);
       }
 
-module _ (t starts : List ℕ) (r : ℕ) (v : tableVerdict t ≡ Allowed) (l : r < sizesOf t .rules) (s : Starts (numbersOf t) (sizesOf t .rules) starts) where
-  good : WellFormed t
-  good = well-formed t v
-
-  module _ {ws : List ℕ} (ew : ws ≡ atomWordsOf t) where
-    pub rule-within : Cut starts r (length ws)
-    rule-within =
-        rw ew
-        (starts-within s (length (atomWordsOf t)) (good .sizes .rules) (numbers-length t (good .sizes) ∙ sym (words-length t (good .sizes))) r l)
-
-    rule-cut : {xs : List ℕ} → xs ≡ cut starts r ws → xs ≡ ruleWords r (numbersOf t) (atomWordsOf t)
-    rule-cut e =
-        e ∙ ap (cut starts r) ew ∙ sym (starts-cut s r (atomWordsOf t) l (numbers-rise (sizesOf t .rules) (numbersOf t) (good .numbers)))
-
-    module _ {z : Sizes} {xs : List ℕ} (ez : z ≡ sizesOf t) (ex : xs ≡ cut starts r ws) where
-      pub cut-fits : RuleFits z xs
-      cut-fits = rw (ez, rule-cut ex) (rule-fits (sizesOf t) (ruleWords r (numbersOf t) (atomWordsOf t)) (good .each r l))
-
-      pub cut-rule : ruleOf z xs ≡ ruleAt (tableOf t) r
-      cut-rule = rw (ez, rule-cut ex) (sym (ruleAt-tableOf t r l))
-
-    pub cut-consumes : {xs : List ℕ} {k : ℕ} → xs ≡ cut starts r ws → RunEnd (isRole 0) xs 0 k → (k ≡ length (consumed (ruleAt (tableOf t) r))) × (k ≤ 4)
-    cut-consumes {xs} e end =
-        rw (← consumes-first (sizesOf t) xs (cut-fits refl e) end)
-        (sym (consumed-length (sizesOf t) xs) ∙ ap (λ x. length (consumed x)) (cut-rule refl e), cut-fits refl e .most)
+pub cut-consumes : (t starts : List ℕ) (r : ℕ) → tableVerdict t ≡ Allowed → r < sizesOf t .rules → Starts (numbersOf t) (sizesOf t .rules) starts
+    → {ws : List ℕ} → ws ≡ atomWordsOf t → {xs : List ℕ} {k : ℕ} → xs ≡ cut starts r ws → RunEnd (isRole 0) xs 0 k
+    → (k ≡ length (consumed (ruleAt (tableOf t) r))) × (k ≤ 4)
+cut-consumes t starts r v l s ew {xs} e end =
+    let fits = cut-fits t starts r v l s ew refl e in
+    rw (← consumes-first (sizesOf t) xs fits end)
+    (sym (consumed-length (sizesOf t) xs) ∙ ap (λ x. length (consumed x)) (cut-rule t starts r v l s ew refl e), fits .most)

@@ -15,7 +15,7 @@ use Rattle.semantics.specs.Answers.{tableVerdict}
 use Rattle.semantics.specs.declared.Sizes.{Sizes}
 use Rattle.semantics.specs.declared.Verdict.the-variants.{Allowed}
 use Rattle.table.specs.Index.{Starts, Cut, cut}
-use Rattle.rules.proofs.Decoding.{rule-within, cut-rule}
+use Rattle.rules.specs.RuleWords.{rule-within, cut-rule}
 
 -- the rule begins a transaction and emits
 abbrev pub opensAndEmits : Rule → Bool

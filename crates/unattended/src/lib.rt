@@ -12,7 +12,10 @@ ghost use Rattle.ready.specs.Ready.{Ready};
 ghost use Rattle.unattended.specs.Walked.{LeftAs};
 use crate::walk::walk;
 pub use call::run_unattended;
+use idset::WORDS;
 use state::State;
+use table::parts::sizes_of;
+use tracking::track;
 use wants::fill_wants;
 use words::copy::copy_words_at;
 
@@ -50,6 +53,10 @@ fn go_alone<'a>(
     let at = state::load(state, &mut owners, &mut items, &mut origins);
     let mut wants = [0u64; 64];
     fill_wants(table, starts, &mut wants);
+    let z = sizes_of(table);
+    let mut stopped = [0u64; WORDS];
+    let mut totals = [0u16; 512];
+    track(z, &owners, &items, at, &mut stopped, &mut totals);
     let mut picks = [0u32; 4096];
     let gone = walk(
         table,
@@ -61,6 +68,8 @@ fn go_alone<'a>(
         at,
         budget,
         State::MAX_ENTRIES,
+        &mut stopped,
+        &mut totals,
         &mut picks,
         target,
     );

@@ -7,51 +7,17 @@ ghost use Rattle.lists.specs.Over.{Pasted};
 ghost use Rattle.semantics.specs.Table.{sizesOf, tableOf};
 ghost use Rattle.wellformed.specs.Held.{Held};
 ghost use Rattle.state.specs.Working.{held, stateIn};
-ghost use Rattle.words.specs.Head.{wordsIn};
-ghost use Rattle.step.specs.Make.{Indexed, MadeAs, Workable};
+ghost use Rattle.step.specs.Make.{Indexed, Workable};
 ghost use Rattle.wants.specs.Wants.{Wants};
+ghost use Rattle.tracking.specs.Tracked.{TrackedIn};
 ghost use Rattle.unattended.specs.Walked.{WalkedAs};
 use crate::Gone;
+use idset::WORDS;
 use next_move::next_move;
 use state::Extent;
-use step::make::Made;
-use step::make::make;
+use tracking::make_tracked;
 use words::head::MoveWords;
 use words::picks::put_picks;
-
-// The move at place i of the log, whose maker is i + 1. What it leaves is handed on field by field, as in a run.
-fn make_next<'a>(
-    table: &'a [u32],
-    starts: &'a [u32; 65],
-    owners: &mut [u16; 1024],
-    items: &mut [u32; 1024],
-    origins: &mut [u16; 1024],
-    at: Extent,
-    mv: MoveWords,
-    i: usize,
-    ceiling: usize,
-) -> Made
-    requires { ⌜ Indexed (now table) (now starts) × (i < 1024) × Workable (held (now owners) (now items) (now origins) at) ceiling ⌝ }
-    ensures { λ r. ⌜ MadeAs r ceiling (tableOf (now (table .entry))) (i + 1) (wordsIn mv)
-        (held (now (owners .entry)) (now (items .entry)) (now (origins .entry)) at)
-        (held (now (owners .exit)) (now (items .exit)) (now (origins .exit)) (r .left)) ⌝ }
-{
-    let by = (i + 1) as u32;
-    let made = make(table, starts, owners, items, origins, at, mv, by, ceiling);
-    let verdict = made.verdict;
-    let at = made.left;
-    let left = Extent {
-        len: at.len,
-        next: at.next,
-        unmarked: at.unmarked,
-    };
-    let members = made.members;
-    Made {
-        verdict,
-        left,
-        members,
-    }
-}
 
 // A move's head and picks at place i of their columns.
 fn note(mv: MoveWords, i: usize, picks: &mut [u32], target: &mut [u32])
@@ -75,13 +41,16 @@ pub fn walk<'a>(
     start: Extent,
     budget: usize,
     ceiling: usize,
+    stopped: &mut [u64; WORDS],
+    totals: &mut [u16; 512],
     picks: &mut [u32],
     target: &mut [u32],
 ) -> Gone
     requires { ⌜ Indexed (now table) (now starts) × Wants (now table) (now wants) × (budget ≤ 1024) × (4 * budget ≤ length (now picks))
         × (1 + 5 * budget ≤ length (now target)) ⌝ }
     requires { ⌜ Workable (held (now owners) (now items) (now origins) start) ceiling
-        × Held (sizesOf (now table)) (stateIn (held (now owners) (now items) (now origins) start)) ⌝ }
+        × Held (sizesOf (now table)) (stateIn (held (now owners) (now items) (now origins) start))
+        × TrackedIn (sizesOf (now table)) (now owners) (now items) start (now stopped) (now totals) ⌝ }
     ensures { λ r. ⌜ WalkedAs r ceiling (tableOf (now (table .entry))) budget
         (stateIn (held (now (owners .entry)) (now (items .entry)) (now (origins .entry)) start))
         (now (picks .exit)) (now (target .entry)) (now (target .exit)) ⌝ }
@@ -91,7 +60,18 @@ pub fn walk<'a>(
     let mut at = start;
     let mut i = 0;
     while i < budget {
-        let first = next_move(table, starts, wants, owners, items, at, ceiling, &mut keys);
+        let first = next_move(
+            table,
+            starts,
+            wants,
+            owners,
+            items,
+            at,
+            stopped,
+            totals,
+            ceiling,
+            &mut keys,
+        );
         if !first.found {
             return Gone {
                 made: i,
@@ -100,11 +80,34 @@ pub fn walk<'a>(
         }
         let mv = first.mv;
         note(mv, i, picks, target);
-        let made = make_next(table, starts, owners, items, origins, at, mv, i, ceiling);
+        let made = make_tracked(
+            table,
+            starts,
+            owners,
+            items,
+            origins,
+            at,
+            mv,
+            i,
+            ceiling,
+            stopped,
+            totals,
+        );
         at = made.left;
         i += 1;
     }
-    let first = next_move(table, starts, wants, owners, items, at, ceiling, &mut keys);
+    let first = next_move(
+        table,
+        starts,
+        wants,
+        owners,
+        items,
+        at,
+        stopped,
+        totals,
+        ceiling,
+        &mut keys,
+    );
     Gone {
         made: i,
         still: !first.found,

@@ -33,7 +33,7 @@ wanted : (ts : List ℕ) (p w : ℕ) → p < 256 → w ≡ timesIn p ts * 512 + 
 wanted ts p w l e =
     let q : w % 512 ≡ p = omega arith in
     let d : w / 512 ≡ timesIn p ts = omega arith in
-    rw (q, d) (omega arith)
+    rw (q, d) (l, omega arith)
 
 -- what is below 65,536, and what is above it
 parts : (a y : ℕ) → a < 65536 → ((a + 65536 * y) % 65536 ≡ a) × ((a + 65536 * y) / 65536 ≡ y)

@@ -16,7 +16,7 @@ use Rattle.enabled.specs.Reactions.{choicesOf}
 
 -- need * 512 + port, where no more is needed than the consumes ts have of the port
 abbrev pub WantedBy : List ℕ → ℕ → Type 0
-WantedBy ts w = w / 512 ≤ timesIn (w % 512) ts
+WantedBy ts w = (w % 512 < 256) × (w / 512 ≤ timesIn (w % 512) ts)
 
 -- four such numbers in a word
 pub record WantedWord (ts : List ℕ) (w : ℕ) : Type 0 where
@@ -46,12 +46,12 @@ either true f g h = f h
 either false f g h = g h
 
 -- a rule that lacks messages has no choice, where the totals count the keys by port
-module _ (ks totals : List ℕ) (counts : (p : ℕ) → p < 512 → getD totals p 0 ≡ countIf (λ key. eqb (key % 512) p) ks) (R : Rule) where
+module _ (ks totals : List ℕ) (counts : (p : ℕ) → p < 256 → getD totals p 0 ≡ countIf (λ key. eqb (key % 512) p) ks) (R : Rule) where
   short-none : (w : ℕ) → WantedBy (consumed R) w → isShort totals w ≡ true → choicesOf R ks ≡ []
   short-none w h s =
       let l = ltb-true (getD totals (w % 512) 0) (w / 512) s in
-      let low : w % 512 < 512 = omega arith in
-      let (anywhere, grouped) = too-few ks (w % 512) low (consumed R) (omega (arith, counts (w % 512) low)) in
+      let (low, need) = h in
+      let (anywhere, grouped) = too-few ks (w % 512) (omega arith) (consumed R) (omega (arith, counts (w % 512) low)) in
       by-bool (eqb (R .class) 1) (λ e. rw (e, grouped)) (λ e. rw (e, anywhere))
 
   pub lacking-none : (w : ℕ) → WantedWord (consumed R) w → lacking totals w ≡ true → choicesOf R ks ≡ []

@@ -1,5 +1,5 @@
-// What each rule wants on its ports, decoded once for a whole run: a rule that lacks messages is passed over at the cost of four
-// comparisons, whatever its class.
+// What each rule wants on its ports, decoded once for a whole run: a rule that lacks messages is passed over at the cost of at
+// most four comparisons, whatever its class.
 ghost use mathlib.Core.Path.{_≡_};
 ghost use Prim.Native.Nat.{ℕ, _+_, _*_, _≤_, _<_};
 ghost use lib.ListN.{length, getD, take};
@@ -78,15 +78,17 @@ fn short(totals: &[u16; 512], want: u64) -> bool
     totals[(want % 512) as usize] < (want / 512) as u16
 }
 
-// Whether rule r lacks messages, where `totals` has those of each port: then it has no choice. Without a branch.
+// Whether rule r lacks messages, where `totals` has those of each port: then it has no choice. Most rules lack at their first port.
 pub fn lacks<'a>(wants: &'a [u64; 64], totals: &'a [u16; 512], r: usize) -> bool
     requires { ⌜ (r < 64) × (length (now wants) ≡ 64) × (length (now totals) ≡ 512) ⌝ }
     ensures { λ b. ⌜ b ≡ lacking (now (totals .entry)) (getD (now (wants .entry)) r 0) ⌝ }
 {
     let w = wants[r];
+    if short(totals, w % WANT) {
+        return true;
+    }
     let x = w / WANT;
     let y = x / WANT;
     let z = y / WANT;
-    short(totals, w % WANT)
-        | (short(totals, x % WANT) | (short(totals, y % WANT) | short(totals, z % WANT)))
+    short(totals, x % WANT) | (short(totals, y % WANT) | short(totals, z % WANT))
 }

@@ -1,5 +1,5 @@
 // An item's fields: kind from bit 24 on, port from 16, then the value; and its kinds.
-ghost use Prim.Native.Nat.{ℕ, _<_};
+ghost use Prim.Native.Nat.{ℕ, _/_, _<_};
 ghost use mathlib.Core.Path.{_≡_};
 ghost use mathlib.Core.Bool.{_&&_};
 ghost use lib.Dec.{eqb, ltb};
@@ -28,6 +28,13 @@ pub fn port_of(item: u32) -> u32
     ensures { λ r. ⌜ r ≡ portOf item ⌝ }
 {
     item / 65536 % 256
+}
+
+// Kind and port as one number: of a message its port.
+pub fn kind_and_port(item: u32) -> u32
+    ensures { λ r. ⌜ r ≡ item / 65536 ⌝ }
+{
+    item / 65536
 }
 
 pub fn value_of(item: u32) -> u32

@@ -1,54 +1,69 @@
--- `first_end` meets its contract: each return is a law of `FirstEnds`.
-use mathlib.Core.Path.{_∙_}
-use Rattle.idset.specs.IdSet.{zeros-empty}
-use Rattle.first_end.proofs.FirstEnds.{commit-first, abort-first, no-end}
+-- `first_end` meets its contract: each return is a law of `FirstEnds`, or another function's.
+use mathlib.Core.Path.{sym, _∙_}
 use borrow.Author.Needs.{needs}
+use borrow.Author.Tests.{not-true, not-false}
+use Rattle.first_end.proofs.FirstEnds.{no-owner, all-stopped, outside-first}
 use Rattle.first_end.proofs.first_end.Statement.{statement}
 use Rattle.first_end.proofs.first_end.Tie as tie
 
--- where the first that may be committed is known
-abbrev start : tie.After-first-free → tie.Start
-start c = c .before .before .before .before
-
 returns : tie.Need-returns
 returns c gs T ceiling ports few =
-    let f = c .before .before in
-    let s = start f in
+    let o = c .before .before in
+    let s = o .before in
     let a = s .args in
-    c .end-of .ensures
-    ∙ commit-first (a .owners .now) (a .items .now) gs (a .at) T ceiling (a .globals) ports few (s .pre .1) (s .pre .2)
-    (f .before .before .gather-blocked .ensures gs) (f .first-free .ensures (a .items .now) gs) (c .before .if1 .taken)
+    c .no-end .ensures
+    ∙ no-owner (a .owners .now) (a .items .now) gs (a .at) (s .pre .1) (s .pre .2) T ceiling few
+    (o .lowest-owner .ensures (a .items .now) gs) (c .before .if1 .taken)
+
+-- where the first without an abort mark is known
+abbrev start : tie.After-lowest-unstopped → tie.Start
+start c = c .before .before .before
 
 returns-2 : tie.Need-returns-2
 returns-2 c gs T ceiling ports few =
-    let m = c .before .before in
-    let f = m .before .before in
-    let s = start f in
+    let u = c .before .before in
+    let s = start u in
     let a = s .args in
-    c .end-of2 .ensures
-    ∙ abort-first (a .owners .now) (a .items .now) gs (a .at) T ceiling (a .globals) ports few (s .pre .1) (s .pre .2)
-    (f .before .before .gather-blocked .ensures gs) (f .first-free .ensures (a .items .now) gs) (m .before .if1 .left)
-    (m .first-marked .ensures gs) (c .before .if2 .taken)
+    c .first-abort .ensures gs T ceiling few
+    ∙ all-stopped (a .owners .now) (a .items .now) gs (a .at) (s .pre .1) (s .pre .2) T ceiling few (a .globals) ports
+    (s .pre .3 gs) (u .lowest-unstopped .ensures (a .items .now) gs) (c .before .if2 .taken)
 
 returns-3 : tie.Need-returns-3
 returns-3 c gs T ceiling ports few =
-    let m = c .before in
-    let f = m .before .before in
-    let s = start f in
+    let b = c .before .before in
+    let u = b .before .before in
+    let s = start u in
     let a = s .args in
-    no-end (a .owners .now) (a .items .now) gs (a .at) T ceiling (a .globals) ports few (s .pre .1) (s .pre .2)
-    (f .before .before .gather-blocked .ensures gs) (f .first-free .ensures (a .items .now) gs) (m .before .if1 .left)
-    (m .first-marked .ensures gs) (c .if2 .left)
+    c .end-of .ensures
+    ∙ outside-first (a .owners .now) (a .items .now) gs (a .at) (s .pre .1) (s .pre .2) T ceiling few (a .globals) ports
+    (s .pre .3 gs) (u .lowest-unstopped .ensures (a .items .now) gs) (b .before .if2 .left)
+    (sym (b .has-inside .ensures gs) ∙ not-true _ (c .before .if3 .taken))
+
+end-of-few-requires : tie.Need-end-of-few-requires
+end-of-few-requires c κs =
+    let b = c .before .before in
+    let u = b .before .before in
+    let s = start u in
+    let items = s .args .items .now in (
+      s .pre,
+      (search needs, u .lowest-unstopped .ensures items, λ gs. sym (b .has-inside .ensures gs) ∙ not-false _ (c .before .if3 .left)),
+    )
 
 pub first-end-spec : {M : Type 1} → statement M
 first-end-spec =
     tie.close
     (tie.spec
-    (λ c κs. (c .before .pre .0, zeros-empty))
     (λ c κs. search needs)
     (λ c κs. search needs)
     returns
     (λ c κs. search needs)
     (λ c κs. search needs)
     returns-2
-    returns-3)
+    (λ c. search needs)
+    (λ c κs. search needs)
+    (λ c κs. search needs)
+    returns-3
+    end-of-few-requires
+    (λ c. c .end-of-few .ensures)
+    (λ c κs. search needs)
+    (λ c. c .end-of-any .ensures))

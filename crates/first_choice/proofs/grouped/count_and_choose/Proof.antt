@@ -9,31 +9,32 @@ use Rattle.first_choice.proofs.grouped.count_and_choose.Statement.{stat
 use Rattle.first_choice.proofs.grouped.count_and_choose.Tie as tie
 
 long : (c : tie.Start) → c .args .n ≤ length (c .args .keys .now)
-long c = omega (arith, c .pre .0)
+long c = omega (arith, c .pre .0 .columns .fits, c .pre .0 .long)
 
 count-groups-requires : tie.Need-count-groups-requires
 count-groups-requires c κs =
-    let s = c .before .before .before in
+    let made = c .before .before .before .before .before .before in
+    let s = made .before in
     let a = s .args in
-    let p = s .pre .0 in (
-      (rw (c .before .before .low-keys .ensures) (lows-below (a .keys .now) (a .n) (p .0) (long s)), p .4 0, p .4 1, p .4 2, p .4 3),
+    let b = s .pre .0 in (
+      (rw (made .low-keys .ensures) (lows-below (a .keys .now) (a .n) (b .columns .fits) (long s)), b .low 0, b .low 1, b .low 2, b .low 3),
       (search needs, λ g. getD-replicate-any 1024 g 0),
     )
 
 first-counted-requires : tie.Need-first-counted-requires
 first-counted-requires c κs =
-    let s = c .before .before .before .before .before in
+    let made = c .before .before .before .before .before .before .before .before in
+    let s = made .before in
     let a = s .args in
-    let p = s .pre .0 in
-    let lows = c .before .before .before .before .low-keys .ensures in
-    let g = rw (lows, lows-first (a .keys .now) (a .n) (p .0) (long s)) at (c .before .count-groups .ensures .0) in
-    (p, (g, s .pre .1))
+    let lows = made .low-keys .ensures in
+    let g = rw (lows, lows-first (a .keys .now) (a .n) (s .pre .0 .columns .fits) (long s)) at (c .before .count-groups .ensures .0) in
+    (s .pre, g)
 
 pub count-and-choose-spec : {M : Type 1} → statement M
 count-and-choose-spec =
     tie.close
     (tie.spec
-    (λ c κs. search needs)
+    (λ c κs. (c .pre .0 .columns .fits, c .pre .0 .long))
     (λ c. search needs)
     (λ c. search needs)
     (λ c. search needs)

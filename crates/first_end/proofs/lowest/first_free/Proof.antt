@@ -6,13 +6,13 @@ use lib.ListN.{getD}
 use Rattle.lists.specs.Rows.{rows}
 use Rattle.lists.specs.Lowest.{lowestKey, LowestSoFar, lowest-start, lowest-next, lowest-done}
 use Rattle.state.specs.Working.{rowOf}
-use Rattle.first_end.specs.OpenEnds.{freeToCommit}
+use Rattle.first_end.specs.OpenEnds.{freeOf}
 use Rattle.first_end.proofs.lowest.first_free.Statement.{statement}
 use Rattle.first_end.proofs.lowest.first_free.Tie as tie
 
 abbrev Inv : tie.InvT-loop
-Inv owners n blocked low₀ i₀ low i = (ws gs : List ℕ) → LowestSoFar (freeToCommit blocked) (λ e. e .owner) 65536 (rowOf owners ws gs) n low i
-    (lowestKey (freeToCommit blocked) (λ e. e .owner) 65536 65536 (rows (rowOf owners ws gs) 0 n))
+Inv owners n blocked low₀ i₀ low i = (ws gs : List ℕ) → LowestSoFar (freeOf blocked) (λ e. e .owner) 65536 (rowOf owners ws gs) n low i
+    (lowestKey (freeOf blocked) (λ e. e .owner) 65536 65536 (rows (rowOf owners ws gs) 0 n))
 
 abbrev μ : tie.MeasureT-loop
 μ owners n blocked low₀ i₀ low i = n - i

@@ -1,19 +1,16 @@
 -- `keys_free` meets its contract: the column is filled from the front.
 use borrow.Author.Needs.{needs}
-use Prim.Native.Nat.{ℕ, _-_, _≤_, _<_}
+use Prim.Native.Nat.{_-_, _≤_, _<_}
 use mathlib.Core.Bool.{true}
 use mathlib.Core.Path.{_≡_, refl}
-use mathlib.Core.List.{List, []}
 use native.Mathlib.Omega.{arith}
-use lib.ListN.{getD}
-use Rattle.state.specs.Working.{rowOf}
 use Rattle.offers.specs.Offers.{OwnerKeys}
 use Rattle.offers.proofs.KeyRows.{keys-none, keys-more}
 use Rattle.offers.proofs.keys.keys_free.Statement.{statement}
 use Rattle.offers.proofs.keys.keys_free.Tie as tie
 
 abbrev Inv : tie.InvT-loop
-Inv z owners items n keys₀ p₀ keys p = (p ≤ n) × ((gs : List ℕ) → OwnerKeys z (λ o. true) (rowOf owners items gs) p keys)
+Inv z owners items n keys₀ p₀ keys p = (p ≤ n) × OwnerKeys z (λ o. true) owners items p keys
 
 abbrev μ : tie.MeasureT-loop
 μ z owners items n keys₀ p₀ keys p = n - p
@@ -26,13 +23,13 @@ loop-again c =
     let turn = c .before .before .before in
     let l = turn .before .loop in
     let (key, small) = c .key-if .ensures in
-    (omega (arith, turn .loop-test .taken), λ gs. keys-more (l .inv .1 gs) (few turn) (key (λ o. true) (getD gs (l .p) 0) refl) small)
+    (omega (arith, turn .loop-test .taken), keys-more (l .inv .1) (few turn) (key (λ o. true) 0 refl) small)
 
 returns : tie.Need-returns Inv μ
-returns c gs =
+returns c =
     let l = c .before .loop in
     let e : l .p ≡ c .before .before .args .n = omega (arith, l .inv .0, c .loop-test .left) in
-    rw e at (l .inv .1 gs)
+    rw e at (l .inv .1)
 
 pub keys-free-spec : {M : Type 1} → statement M
 keys-free-spec =
@@ -40,14 +37,14 @@ keys-free-spec =
     (tie.spec
     Inv
     μ
-    (λ c. (omega arith, λ gs. keys-none (c .pre .2)))
+    (λ c. (omega arith, keys-none (c .pre .2)))
     (λ c. omega (arith, few c))
     (λ c. omega (arith, few c, c .before .before .pre .0 .owners))
     (λ c. omega (arith, few (c .before)))
     (λ c. omega (arith, few (c .before), c .before .before .before .pre .0 .items))
     (λ c κs. search needs)
     (λ c. omega (arith, few (c .before .before .before)))
-    (λ c. omega (arith, few (c .before .before .before), c .before .before .before .before .loop .inv .1 [] .filled .size))
+    (λ c. omega (arith, few (c .before .before .before), c .before .before .before .before .loop .inv .1 .filled .size))
     (λ c. omega (arith, few (c .before .before .before)))
     (λ c. omega (arith, c .before .before .before .loop-test .taken))
     loop-again

@@ -1,7 +1,8 @@
 -- `decode::consumes_at` meets its contract: the words cut out are the rule's (`Decoding`).
 use borrow.Author.Needs.{needs}
 use Rattle.wellformed.specs.Tables.{well-formed}
-use Rattle.rules.proofs.Decoding.{rule-within, cut-consumes}
+use Rattle.rules.specs.RuleWords.{rule-within}
+use Rattle.rules.proofs.Decoding.{cut-consumes}
 use Rattle.rules.proofs.decode.consumes_at.Statement.{statement}
 use Rattle.rules.proofs.decode.consumes_at.Tie as tie
 

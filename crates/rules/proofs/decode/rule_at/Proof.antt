@@ -1,6 +1,6 @@
--- `decode::rule_at` meets its contract: the words cut out are the rule's (`Decoding`).
+-- `decode::rule_at` meets its contract: the words cut out are the rule's (`RuleWords`).
 use Rattle.wellformed.specs.Tables.{well-formed}
-use Rattle.rules.proofs.Decoding.{rule-within, cut-fits, cut-rule}
+use Rattle.rules.specs.RuleWords.{rule-within, cut-fits, cut-rule}
 use Rattle.rules.proofs.decode.rule_at.Statement.{statement}
 use Rattle.rules.proofs.decode.rule_at.Tie as tie
 

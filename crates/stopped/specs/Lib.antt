@@ -1,0 +1,4 @@
+pub mod Stopped
+pub mod Last
+pub mod Reacted
+pub mod Ended

@@ -1,0 +1,4 @@
+pub mod Tracked
+pub mod Given
+pub mod Reacted
+pub mod Ended
