@@ -3,7 +3,7 @@ mod common;
 
 use std::collections::BTreeSet;
 
-use common::{after_a, ask_faulty, noisy, Asked};
+use common::{after_a, ask_faulty, fault_sets, faulty_plant, noisy, Asked};
 use harness::answer::{order, Answer, Page};
 use harness::generate::coverage::Coverage;
 use harness::generate::lists::{listed, met};
@@ -299,23 +299,9 @@ fn targets_of_a_page() {
 // Catches refusals in another order: every set of faults, so each alone and each pair too.
 #[test]
 fn the_first_fault_counts() {
-    for set in 0..1u32 << order::LIST_MOVES.len() {
-        let faults: Vec<u32> =
-            (0..order::LIST_MOVES.len()).filter(|bit| set >> bit & 1 == 1).map(|bit| order::LIST_MOVES[bit]).collect();
+    for faults in fault_sets(&order::LIST_MOVES) {
         let has = |number| faults.contains(&number);
-        let (mut table, mut state) = (two_lot::table(), two_lot::start());
-        if has(2) {
-            table[28] ^= 0x0F00_0000;
-        }
-        if has(1) {
-            table.push(0);
-        }
-        if has(4) {
-            state[5] = 0x0400_0000;
-        }
-        if has(3) {
-            state[1] = 0;
-        }
+        let [table, state] = faulty_plant(&faults);
         for first in [0, 1, 2, u64::MAX] {
             let page = Asked { first, count: 3, room: if has(6) { 14 } else { 15 } }.of(&table, &state);
             match faults.first() {

@@ -1,7 +1,7 @@
 //! The run of a log: all implementations on right, damaged and random input.
 mod common;
 
-use common::{check_state, ends, make_move, marks_gone, refused, run, run_in};
+use common::{check_state, ends, fault_sets, faulty_plant, make_move, marks_gone, refused, run, run_in};
 use harness::answer::{order, Answer};
 use harness::generate::logs::{accepted, broken_off};
 use harness::generate::moves::{changed, consumes};
@@ -261,28 +261,14 @@ fn targets_of_a_run() {
 // Catches refusals in another order than 01's: every set of faults.
 #[test]
 fn the_first_fault_counts() {
-    for set in 0..1u32 << order::RUN.len() {
-        let faults: Vec<u32> =
-            (0..order::RUN.len()).filter(|bit| set >> bit & 1 == 1).map(|bit| order::RUN[bit]).collect();
+    for faults in fault_sets(&order::RUN) {
         let has = |number| faults.contains(&number);
-        let (mut table, mut start) = (two_lot::table(), two_lot::start());
+        let [table, start] = faulty_plant(&faults);
         let mut moves = case_a();
         if has(16) {
             moves[2] = Move::commit(3);
         }
         let mut log = log_words(&moves);
-        if has(2) {
-            table[28] ^= 0x0F00_0000;
-        }
-        if has(1) {
-            table.push(0);
-        }
-        if has(4) {
-            start[5] = 0x0400_0000;
-        }
-        if has(3) {
-            start[1] = 0;
-        }
         if has(13) {
             log.push(0);
         }

@@ -2,7 +2,7 @@
 //! is held to its own log: a run accepts it, and the list of the state that this leaves says whether it is still.
 mod common;
 
-use common::{after, after_a, ask_faulty, noisy, Alone};
+use common::{after, after_a, ask_faulty, fault_sets, faulty_plant, noisy, Alone};
 use harness::answer::{order, Answer, Unattended};
 use harness::generate::coverage::Coverage;
 use harness::generate::plants::PLANTS;
@@ -176,23 +176,9 @@ fn budgets_over_the_limit() {
 // Catches refusals in another order: every set of faults, so each alone and each pair too.
 #[test]
 fn the_first_fault_counts() {
-    for set in 0..1u32 << order::RUN_UNATTENDED.len() {
-        let bits = (0..order::RUN_UNATTENDED.len()).filter(|bit| set >> bit & 1 == 1);
-        let faults: Vec<u32> = bits.map(|bit| order::RUN_UNATTENDED[bit]).collect();
+    for faults in fault_sets(&order::RUN_UNATTENDED) {
         let has = |number| faults.contains(&number);
-        let (mut table, mut state) = (two_lot::table(), two_lot::start());
-        if has(2) {
-            table[28] ^= 0x0F00_0000;
-        }
-        if has(1) {
-            table.push(0);
-        }
-        if has(4) {
-            state[5] = 0x0400_0000;
-        }
-        if has(3) {
-            state[1] = 0;
-        }
+        let [table, state] = faulty_plant(&faults);
         for budget in if has(19) { &TOO_LARGE[..] } else { &BUDGETS[..] } {
             let enough = log_target((*budget as usize).min(1_024));
             let rooms = if has(6) { [enough - 1, 0] } else { [enough, enough + 1] };

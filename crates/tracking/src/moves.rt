@@ -48,7 +48,7 @@ fn make_next<'a>(
     }
 }
 
-// The move at place i of the log, which is open. It is made at one place, so that `make` is compiled into this.
+// The move at place i of the log, which is open. It is made at one place, for both kinds.
 pub fn make_tracked<'a>(
     table: &'a [u32],
     starts: &'a [u32; 65],

@@ -364,6 +364,30 @@ pub fn after_a(moves: usize) -> Vec<u32> {
     after(&two_lot::case_a()[..moves])
 }
 
+/// Every set of the faults of a call, each in the call's order: so each alone and each pair too.
+pub fn fault_sets(order: &[u32]) -> impl Iterator<Item = Vec<u32>> + '_ {
+    let set = |set: u32| (0..order.len()).filter(|bit| set >> bit & 1 == 1).map(|bit| order[bit]).collect();
+    (0..1 << order.len()).map(set)
+}
+
+/// The two-lot plant's table and start, with those of the faults 1 to 4 that there are to be.
+pub fn faulty_plant(faults: &[u32]) -> [Vec<u32>; 2] {
+    let (mut table, mut start) = (two_lot::table(), two_lot::start());
+    if faults.contains(&2) {
+        table[28] ^= 0x0F00_0000;
+    }
+    if faults.contains(&1) {
+        table.push(0);
+    }
+    if faults.contains(&4) {
+        start[5] = 0x0400_0000;
+    }
+    if faults.contains(&3) {
+        start[1] = 0;
+    }
+    [table, start]
+}
+
 /// A state with a fault, and a table with one whatever the state is like: each is asked about with the number that it must
 /// be refused with, and counted by it.
 pub fn ask_faulty(
