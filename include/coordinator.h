@@ -190,7 +190,7 @@ coordinator_page coordinator_list_moves(const uint32_t *table, size_t table_len,
  * state reached and a tally; this call takes none. A larger budget gives the same moves, and perhaps more behind them.
  * The target wants COORDINATOR_LOG_WORDS(budget) words, however few moves are made; the words behind the log stay as
  * they were.
- * Refusals: 1, 2, 3, 4, 19, 6. Stack: 97.4 KB. */
+ * Refusals: 1, 2, 3, 4, 19, 6. Stack: 56.0 KB. */
 coordinator_unattended coordinator_run_unattended(const uint32_t *table, size_t table_len,
                                                   const uint32_t *state, size_t state_len,
                                                   uint32_t budget,

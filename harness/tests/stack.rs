@@ -187,8 +187,6 @@ fn plants_never_rest() {
             }
             let made = made_by(&table, &log);
             let wanted = match plant.name {
-                // The last rule, behind all others.
-                "parts" => 1,
                 "merges" => 3,
                 "commits" | "aborts" => 2,
                 _ => 7.min(n / 4),

@@ -2,14 +2,11 @@
 //! is held to its own log: a run accepts it, and the list of the state that this leaves says whether it is still.
 mod common;
 
-use std::cmp::Reverse;
-use std::collections::BTreeSet;
-
 use common::{after, after_a, ask_faulty, fault_sets, faulty_plant, noisy, Alone};
 use harness::answer::{order, Answer, Unattended};
 use harness::generate::coverage::Coverage;
 use harness::generate::plants::PLANTS;
-use harness::generate::unattended::{in_vain, plant, Step};
+use harness::generate::unattended::{plant, Step};
 use harness::generate::workloads::{fours, spread};
 use harness::library;
 use harness::random::Random;
@@ -230,50 +227,20 @@ fn noise_gets_one_answer() {
     refused(Alone::new(5).of(&two_lot::table(), &long), 3);
 }
 
-/// A state of these entries and so many in all: messages in the plant are added behind the others, on port 0. No rule
-/// takes from there, so every log is that of the state as it is.
-fn filled_to(n: usize, next: u32, entries: &[Entry]) -> Vec<u32> {
-    let filler = vec![Entry::message(0, 0, 9); n - entries.len()];
-    State { next, entries: [entries, &filler].concat() }.words()
-}
-
 /// A state of these entries as it is, with the most entries that are few to the library (64: every candidate is tried,
-/// and every transaction), and with more.
+/// and every transaction), and with more: messages in the plant are added behind the others, on port 0. No rule takes
+/// from there, so every log is that of the state as it is.
 fn filled(next: u32, entries: &[Entry]) -> [Vec<u32>; 5] {
-    [entries.len(), 64, 65, 66, 200].map(|n| filled_to(n, next, entries))
+    [entries.len(), 64, 65, 66, 200].map(|n| {
+        let filler = vec![Entry::message(0, 0, 9); n - entries.len()];
+        State { next, entries: [entries, &filler].concat() }.words()
+    })
 }
 
-/// A rule that takes from these ports and makes messages on those.
-fn rule(takes: &[u32], makes: &[u32]) -> Vec<Atom> {
-    let takes = takes.iter().map(|&port| Atom::consume(port));
-    takes.chain(makes.iter().map(|&port| Atom::constant(role::EMIT, port, 5))).collect()
-}
-
-/// .. one message.
+/// A rule that takes from these ports and makes one message on this one.
 fn for_one(ports: &[u32], port: u32) -> Vec<Atom> {
-    rule(ports, &[port])
-}
-
-/// A transaction with messages on these ports.
-fn owning(id: u32, ports: &[u32]) -> Vec<Entry> {
-    let messages = ports.iter().map(|&port| Entry::message(id, port, 5));
-    [Entry::member_mark(id, id)].into_iter().chain(messages).collect()
-}
-
-/// The first places of an owner's messages on these ports, if it has them all.
-fn places_if_all(entries: &[Entry], owner: u32, ports: &[u32]) -> Option<Vec<u32>> {
-    let mut picks: Vec<u32> = Vec::new();
-    for &port in ports {
-        let fits = |entry: &Entry| (entry.owner, entry.kind, entry.port) == (owner, kind::MESSAGE, port);
-        let free = |place: &u32| fits(&entries[*place as usize]) && !picks.contains(place);
-        picks.push((0..entries.len() as u32).find(free)?);
-    }
-    Some(picks)
-}
-
-/// .. which it has.
-fn first_places(entries: &[Entry], owner: u32, ports: &[u32]) -> Vec<u32> {
-    places_if_all(entries, owner, ports).unwrap()
+    let takes = ports.iter().map(|&port| Atom::consume(port));
+    takes.chain([Atom::constant(role::EMIT, port, 5)]).collect()
 }
 
 // Catches picks in two transactions, a rule that is left out since the first message's transaction has not all, and one
@@ -294,9 +261,14 @@ fn local_rules_want_all_in_one_transaction() {
             gives(Alone::new(3).of(&table, &state), &[], true);
         }
         // Transaction 3 has all, behind the others and in another order.
+        let behind = entries.len() as u32;
         entries.push(Entry::member_mark(3, 3));
         entries.extend(takes.iter().rev().map(|&port| Entry::message(3, port, 6)));
-        let picks = first_places(&entries, 3, takes);
+        let mut picks: Vec<u32> = Vec::new();
+        for take in takes {
+            let fits = |place: &u32| entries[*place as usize] == Entry::message(3, *take, 6) && !picks.contains(place);
+            picks.push((behind..entries.len() as u32).find(fits).unwrap());
+        }
         for state in filled(10, &entries) {
             gives(Alone::new(3).of(&table, &state), &[Move::react(0, &picks)], true);
             gives(Alone::new(0).of(&table, &state), &[], false);
@@ -501,6 +473,10 @@ fn stopped_transactions_take_no_part() {
 // what others have: a rule of each class that leaves one, and the same rule without it, after which all is taken.
 #[test]
 fn rules_that_stop_their_transaction() {
+    let owned = |id: u32, ports: &[u32]| {
+        let messages = ports.iter().map(|&port| Entry::message(id, port, 5));
+        [Entry::member_mark(id, id)].into_iter().chain(messages).collect::<Vec<_>>()
+    };
     let body = |port: u32| Atom::constant(role::BODY, port, 5);
     // The first rule, the log on n entries where it leaves a mark, and the number of reactions where it leaves none.
     type Case = (Vec<Atom>, Vec<Entry>, fn(u32) -> Vec<Move>, usize);
@@ -508,7 +484,7 @@ fn rules_that_stop_their_transaction() {
         // Both bodies on port 3 stand before what transaction 1 then makes there.
         (
             vec![Atom::consume(1), Atom::BEGIN, body(3), body(4)],
-            [owning(1, &[2]), vec![Entry::message(0, 1, 5); 2]].concat(),
+            [owned(1, &[2]), vec![Entry::message(0, 1, 5); 2]].concat(),
             |n| {
                 let made = [Move::react(0, &[2]), Move::react(0, &[2]), Move::react(3, &[1]), Move::react(1, &[n + 5])];
                 [&made[..], &[Move::commit(1), Move::abort(4), Move::abort(5)]].concat()
@@ -517,14 +493,14 @@ fn rules_that_stop_their_transaction() {
         ),
         (
             for_one(&[2], 3),
-            [owning(1, &[3, 2, 4]), owning(2, &[3])].concat(),
+            [owned(1, &[3, 2, 4]), owned(2, &[3])].concat(),
             |_| vec![Move::react(0, &[2]), Move::react(1, &[4]), Move::commit(2), Move::abort(1)],
             5,
         ),
         // One message on port 4 is stopped, and transaction 3 has one: too few for the first rule.
         (
             for_one(&[4, 4], 3),
-            [owning(2, &[3, 4]), owning(1, &[4, 3, 4]), owning(3, &[3, 4])].concat(),
+            [owned(2, &[3, 4]), owned(1, &[4, 3, 4]), owned(3, &[3, 4])].concat(),
             |_| {
                 let made = [Move::react(0, &[2, 4]), Move::react(1, &[6]), Move::react(2, &[6])];
                 [&made[..], &[Move::commit(3), Move::abort(1)]].concat()
@@ -565,10 +541,6 @@ fn as_many_transactions_as_fit() {
     gives(Alone::new(1_024).of(&table, &state), &log, true);
     gives(Alone::new(1_017).of(&table, &state), &log, true);
     gives(Alone::new(1_016).of(&table, &state), &log[..1_016], false);
-    // Behind three rules in vain.
-    let table = local_rules(&[vec![1, 1], vec![1, 1, 2], vec![2, 2, 2], vec![1, 2]]);
-    let log = [&[Move::react(3, &[1_020, 1_022])], &log[1..]].concat();
-    gives(Alone::new(1_024).of_long(&table, &state), &log, true);
 }
 
 // Catches a count of one transaction's messages that is taken for another's: ids that differ by multiples of 1,024, of
@@ -597,339 +569,6 @@ fn ids_that_share_a_remainder() {
         entries.truncate(4 + messages.iter().filter(|(owner, _)| *owner != 2_053).count());
         for state in filled(2_054, &entries) {
             gives(Alone::new(9).of(&table, &state), &log[1..], true);
-        }
-    }
-}
-
-/// Takes of ports 1 to 3, two to four of them and no port more than twice: in six transactions with one message each,
-/// two on each port, there are enough of them, and no transaction has all.
-fn takes_in_vain() -> Vec<Vec<u32>> {
-    let few = |takes: &Vec<u32>| (0..3).all(|port| takes.iter().filter(|&&take| take == port).count() <= 2);
-    let takes = (2..=4).flat_map(|count| digits(3, count)).filter(few);
-    takes.map(|takes| takes.iter().map(|port| port + 1).collect()).take(64).collect()
-}
-
-/// These six transactions.
-fn parts() -> Vec<Entry> {
-    (1..=6).flat_map(|id| owning(id, &[1 + id % 3])).collect()
-}
-
-/// A table of local rules with these takes, each of which makes a message for the plant.
-fn local_rules(takes: &[Vec<u32>]) -> Vec<u32> {
-    Table { global: 1, local: 7, merge: 0, rules: takes.iter().map(|takes| for_one(takes, 0)).collect() }.words()
-}
-
-// Catches a rule that is taken for another, or left out, where those before it are looked at in vain: each of some rules
-// reacts alone, and each two of them by number, though the later one's transaction stands before the other's.
-#[test]
-fn rules_behind_others_in_vain() {
-    let numbers = [0, 1, 2, 3, 30, 31, 32, 33, 62, 63];
-    let entries = [owning(9, &[5, 5, 4]), parts(), owning(8, &[6, 4])].concat();
-    for (place, &first) in numbers.iter().enumerate() {
-        for &second in &numbers[place..] {
-            let mut takes = takes_in_vain();
-            takes[second as usize] = vec![5, 4, 5];
-            takes[first as usize] = vec![4, 6];
-            let table = local_rules(&takes);
-            let reactions = [Move::react(first, &[18, 17]), Move::react(second, &[1, 3, 2])];
-            let commits = [8, 9].map(Move::commit);
-            let alone = first == second;
-            let sizes: &[usize] = if alone { &[entries.len(), 64, 65, 200, 1_023, 1_024] } else { &[64, 65] };
-            let count = if alone { 1 } else { 2 };
-            for &n in sizes {
-                let log = [&reactions[..count], &commits[..count]].concat();
-                gives(Alone::new(9).of(&table, &filled_to(n, 10, &entries)), &log, true);
-            }
-        }
-    }
-}
-
-// Catches a step that goes by what an earlier one found, and rules in vain that are miscounted: the messages of one
-// transaction go from rule to rule, up or down, so that each reacts behind all those before it. Another transaction has
-// a message on the port of each rule, and nothing of what is taken with it.
-#[test]
-fn each_rule_behind_all_before_it() {
-    let ids = [(1, 2), (1_029, 5), (5, 1_029), (1, 65_535), (1_024, 1), (65_535, 64_512), (2_048, 1_024)];
-    let mut ids = ids.into_iter().cycle();
-    // 0 is the port of the rule. From port 2 nothing is taken.
-    for takes in [&[1, 0][..], &[0, 1], &[1, 0, 1], &[1, 1, 0, 1]] {
-        let takes = |port: u32| takes.iter().map(|&take| if take == 0 { port } else { take }).collect::<Vec<_>>();
-        for (rules, n, up) in [(58, 64, true), (58, 65, true), (58, 65, false), (64, 72, true), (64, 1_024, false)] {
-            let ports: Vec<u32> = (3..3 + rules).collect();
-            let next = ports[1..].iter().chain(&[2]);
-            let mut all: Vec<_> = ports.iter().zip(next).map(|(&from, &to)| rule(&takes(from), &takes(to))).collect();
-            let mut numbers: Vec<u32> = (0..rules).collect();
-            if !up {
-                all.reverse();
-                numbers.reverse();
-            }
-            let (waiting, moving) = ids.next().unwrap();
-            let entries = [owning(waiting, &ports), owning(moving, &takes(3))].concat();
-            // What is made stands behind all others.
-            let places = |end: usize| (0..end as u32).skip(end - takes(3).len()).collect::<Vec<_>>();
-            let mut log: Vec<Move> = numbers.iter().map(|&number| Move::react(number, &places(n))).collect();
-            log[0] = Move::react(numbers[0], &places(entries.len()));
-            let table = Table { global: 1, local: 66, merge: 0, rules: all }.words();
-            gives(Alone::new(99).of(&table, &filled_to(n, MAX_NEXT, &entries)), &log, true);
-        }
-    }
-}
-
-// Catches a message that serves two takes of one port, or none, where all rules are looked at together: every rule of one
-// to four takes of two ports, the longest first, behind three in vain, on up to four messages in two transactions.
-#[test]
-fn all_takes_of_two_ports_together() {
-    let mut random = Random::new(1_008);
-    let mut takes: Vec<Vec<u32>> = (1..=4).flat_map(|count| digits(2, count)).collect();
-    takes.iter_mut().flatten().for_each(|port| *port += 1);
-    let mut made: BTreeSet<Vec<u32>> = BTreeSet::new();
-    for messages in (0..=4).flat_map(|count| digits(4, count)) {
-        // Each digit is a message: its port and its transaction. Beside them is what keeps both from a commit.
-        let message = |&digit: &u32| Entry::message(1 + 1_024 * (digit / 2), 1 + digit % 2, 5);
-        let beside = [owning(1, &[5]), owning(1_025, &[5]), owning(2, &[3, 3]), owning(1_026, &[4])];
-        let entries: Vec<Entry> = messages.iter().map(message).chain(beside.concat()).collect();
-        for n in [64, 65, 200] {
-            random.shuffle(&mut takes);
-            takes.sort_by_key(|takes| Reverse(takes.len()));
-            let takes = [&[vec![3, 4], vec![4, 3], vec![3, 4, 3]][..], &takes].concat();
-            let first = takes.iter().zip(0..).find_map(|(takes, number)| {
-                let mut owners = entries.iter().filter(|entry| entry.port == takes[0]).map(|entry| entry.owner);
-                let picks = owners.find_map(|owner| places_if_all(&entries, owner, takes))?;
-                made.insert(takes.clone());
-                Some(Move::react(number, &picks))
-            });
-            let (_, words) = Alone::new(1).of(&local_rules(&takes), &filled_to(n, MAX_NEXT, &entries));
-            assert_eq!(log_from_words(&words).unwrap(), Vec::from_iter(first), "{takes:?} {entries:?}");
-        }
-    }
-    // Each of them has been the first.
-    assert_eq!(made, BTreeSet::from_iter(takes));
-}
-
-/// These entries and messages of the plant on port 0, so many in all, with a block in front of them, amid and behind.
-fn around(n: usize, block: &[Entry], others: &[Entry]) -> [Vec<Entry>; 3] {
-    let filler = vec![Entry::message(0, 0, 9); n - block.len() - others.len()];
-    let (before, behind) = filler.split_at(filler.len() / 2);
-    [
-        [block, others, before, behind].concat(),
-        [others, before, block, behind].concat(),
-        [others, before, behind, block].concat(),
-    ]
-}
-
-// Catches two transactions that are taken for one: so many ids apart, each has a part of what is taken. Then either has
-// all, in front of all others, amid and behind them.
-#[test]
-fn ids_so_far_apart() {
-    let takes = [vec![3, 4], vec![4, 3], vec![3, 3, 4], vec![1, 2]];
-    let table = local_rules(&takes);
-    let distances = [1, 2, 1_022, 1_023, 1_024, 1_025, 2_048, 65_534];
-    let pair = |low: u32| distances.map(|distance| [low, low + distance]);
-    let low = [1, 1_023, 1_024, 1_025, 2_048].into_iter().flat_map(pair).filter(|pair| pair[1] < MAX_NEXT);
-    let high = distances.map(|distance| [65_535 - distance, 65_535]);
-    for [low, high] in low.chain(high) {
-        for (one, other) in [(low, high), (high, low)] {
-            let parts = [owning(one, &[3, 3, 1]), owning(other, &[4, 2])];
-            for state in filled(MAX_NEXT, &parts.concat()) {
-                gives(Alone::new(3).of(&table, &state), &[], true);
-            }
-            for (with_all, without, port) in [(0, 1, 2), (1, 0, 1)] {
-                let owner = [one, other][with_all];
-                let block = [&parts[with_all][..], &[Entry::message(owner, port, 6)]].concat();
-                for n in [64, 65] {
-                    for entries in around(n, &block, &parts[without]) {
-                        let log = [Move::react(3, &first_places(&entries, owner, &[1, 2]))];
-                        gives(Alone::new(3).of(&table, &State { next: MAX_NEXT, entries }.words()), &log, true);
-                    }
-                }
-            }
-        }
-    }
-}
-
-// Catches transactions that are numbered wrongly where there are many: up to 511 with a message each, their ids one after
-// another, far apart, or with few remainders by 1,024. None of them has all, or one of low, middle or high id has.
-#[test]
-fn a_part_in_every_transaction() {
-    let table = local_rules(&[vec![1, 2], vec![2, 1], vec![1, 1], vec![2, 2, 1], vec![1, 3], vec![2, 3]]);
-    let ids: [fn(u32) -> u32; 5] = [
-        |place| 1 + place,
-        |place| 1 + 2 * place,
-        |place| 65_025 + place,
-        |place| 128 * (1 + place) - 1,
-        |place| 1_024 * (place % 64) + 1_016 + place / 64,
-    ];
-    let state = |entries: &[Entry]| State { next: MAX_NEXT, entries: entries.to_vec() }.words();
-    for (id, count) in ids.into_iter().flat_map(|id| [16, 32, 33, 511].map(|count| (id, count))) {
-        let parts: Vec<Entry> = (0..count).flat_map(|place| owning(id(place), &[1 + place % 2])).collect();
-        gives(Alone::new(3).of_long(&table, &state(&parts)), &[], true);
-        for with_all in [0, 1, count / 2, count - 2, count - 1] {
-            let (owner, own) = (id(with_all), 1 + with_all % 2);
-            // The third port's message stands in front of all others or behind them.
-            let mut entries = [&[Entry::message(owner, 3, 5)], &parts[..]].concat();
-            for _ in 0..2 {
-                let log = [Move::react(3 + own, &first_places(&entries, owner, &[own, 3])), Move::commit(owner)];
-                gives(Alone::new(3).of_long(&table, &state(&entries)), &log, true);
-                entries.reverse();
-            }
-        }
-    }
-}
-
-// Catches the same by the order of the ids: of 1,000 transactions two have a part, so many of the others apart, or one has
-// all. Commits make the others fewer.
-#[test]
-fn parts_in_two_of_many_transactions() {
-    let table = local_rules(&[vec![3, 4], vec![4, 3], vec![3, 3, 4], vec![1, 2]]);
-    let ids: [fn(u32) -> u32; 3] =
-        [|place| 1 + place, |place| 65 * (1 + place), |place| 1_024 * (place % 64) + 1_008 + place / 64];
-    for (id, low, bit) in ids.into_iter().flat_map(|id| (0..20).map(move |of| (id, of % 2 * 400, of / 2))) {
-        let mut ids: Vec<u32> = (0..1_000).map(id).collect();
-        ids.sort();
-        let [one, other] = [low, low + (1 << bit)].map(|place| ids[place]);
-        let commits: Vec<Move> =
-            ids.iter().filter(|&&id| id != one && id != other).map(|&id| Move::commit(id)).take(3).collect();
-        let messages = [(one, 1), (one, 3), (one, 3), (other, 2), (other, 4), (other, 1)];
-        let messages = messages.map(|(owner, port)| Entry::message(owner, port, 5));
-        let alone = |messages: &[Entry]| {
-            let marks = ids.iter().map(|&id| Entry::member_mark(id, id));
-            let state = State { next: MAX_NEXT, entries: marks.chain(messages.to_vec()).collect() };
-            Alone::new(3).of_long(&table, &state.words())
-        };
-        gives(alone(&messages[..5]), &commits, false);
-        gives(alone(&messages), &[&[Move::react(3, &[1_005, 1_003])], &commits[..2]].concat(), false);
-    }
-}
-
-// Catches transactions that are numbered as in an earlier step: each begin adds one, with a part or with all, until ids are
-// more than 1,024 apart.
-#[test]
-fn ids_that_grow_apart() {
-    for (body, n) in [&[4, 2][..], &[4, 1, 2]].into_iter().flat_map(|body| [40, 60, 80].map(|n| (body, n))) {
-        let bodies = body.iter().map(|&port| Atom::constant(role::BODY, port, 5));
-        let begin = [Atom::consume(0), Atom::BEGIN].into_iter().chain(bodies).collect();
-        let in_vain = [&[3, 4][..], &[4, 3], &[3, 3, 4], &[1, 2]].map(|takes| for_one(takes, 5));
-        let table = Table { global: 1, local: 5, merge: 0, rules: [&in_vain[..], &[begin]].concat() }.words();
-        let step = |at: u32| match body.len() {
-            2 => vec![Move::react(4, &[4])],
-            _ => vec![Move::react(4, &[4]), Move::react(3, &[n + 2 * at + 1, n + 2 * at + 2])],
-        };
-        let log: Vec<Move> = (0..12).flat_map(step).collect();
-        let state = filled_to(n as usize, 1_018, &owning(1, &[3, 3, 1]));
-        gives(Alone::new(log.len() as u32).of(&table, &state), &log, false);
-    }
-}
-
-// Catches rules that are passed over for another reason and are taken for some in vain, or the other way round, and one
-// that is left out since others were in vain: four rules, each of them in vain, without room, or a begin without an id,
-// before one that reacts; and the same where there is room.
-#[test]
-fn rules_in_vain_between_others() {
-    let no_room = |takes: &[u32]| rule(takes, &[0; 3]);
-    let parts = [owning(1, &[2, 5]), owning(1_025, &[3]), owning(7, &[4, 4]), owning(8, &[8]), owning(9, &[8])];
-    let plant = vec![Entry::message(0, 1, 5); 2];
-    let entries = [&parts.concat(), &plant[..], &owning(2_049, &[6, 5])].concat();
-    for kinds in digits(5, 4) {
-        let kind = |kind: &u32| match kind {
-            0 => for_one(&[2, 3], 0),
-            1 => no_room(&[4, 4]),
-            2 => no_room(&[8, 8]),
-            3 => no_room(&[1, 1]),
-            _ => vec![Atom::consume(1), Atom::consume(1), Atom::BEGIN],
-        };
-        let rules = kinds.iter().map(kind).chain([for_one(&[5, 6], 0)]).collect();
-        let table = Table { global: 2, local: 6, merge: 1, rules }.words();
-        let first = |n: usize| {
-            let (alone, words) = Alone::new(1).of(&table, &filled_to(n, MAX_NEXT, &entries));
-            assert_eq!((alone.moves, alone.still), (1, false));
-            log_from_words(&words).unwrap()[0]
-        };
-        let last = Move::react(4, &first_places(&entries, 2_049, &[5, 6]));
-        assert_eq!(first(1_024), last, "{kinds:?}");
-        let expected = kinds.iter().zip(0..).find(|(kind, _)| (1..4).contains(*kind));
-        let (_, number) = expected.unwrap_or((&0, 4));
-        for n in [64, 1_023] {
-            assert_eq!(first(n).number, number, "{kinds:?} {n}");
-        }
-    }
-}
-
-// Catches a stopped transaction that counts where all rules are looked at together: it has all that the first rule and
-// others take, and stands in front of all others, amid or behind. Without its mark the first rule reacts.
-#[test]
-fn stopped_ones_that_would_have_all() {
-    for number in [0, 2, 3, 32, 63] {
-        let mut takes = takes_in_vain();
-        takes[number as usize] = vec![4, 5];
-        let table = local_rules(&takes);
-        // The second has the remainder of the one that reacts.
-        for id in [7, 1_032] {
-            let others = [parts(), owning(8, &[5, 4])].concat();
-            let free = owning(id, &[1, 1, 2, 3, 4, 5]);
-            for (mark, n) in [(0, 65), (free.len(), 65), (0, 64)] {
-                let mut stopped = free.clone();
-                stopped.insert(mark, Entry::abort_mark(id));
-                for entries in around(n, &stopped, &others) {
-                    let log =
-                        [Move::react(number, &first_places(&entries, 8, &[4, 5])), Move::commit(8), Move::abort(id)];
-                    gives(Alone::new(9).of(&table, &State { next: MAX_NEXT, entries }.words()), &log, true);
-                }
-            }
-            for entries in around(65, &free, &others) {
-                let (_, words) = Alone::new(9).of(&table, &State { next: MAX_NEXT, entries }.words());
-                assert_eq!(log_from_words(&words).unwrap()[0].number, 0);
-            }
-        }
-    }
-}
-
-// Catches a port that is read as another, and marks that are read as messages on port 0: two of 256 local ports, behind
-// three rules in vain, where one transaction has both and others have one.
-#[test]
-fn every_port_of_a_local_rule() {
-    let ports = [0, 1, 2, 63, 64, 127, 128, 254, 255];
-    for (one, two) in ports.iter().flat_map(|&one| ports.map(|two| (one, two))) {
-        let in_vain = [vec![100, 101], vec![101, 100], vec![100, 100, 101]];
-        let rules = in_vain.iter().map(|takes| rule(takes, &[])).chain([rule(&[one, two], &[])]).collect();
-        let table = Table { global: 0, local: 256, merge: 0, rules }.words();
-        // Two messages on either port, unless they would do.
-        let (first, second) = if one == two { (vec![], vec![]) } else { (vec![one], vec![two]) };
-        let parts = [
-            owning(1, &[&[one, 100, 100], &first[..]].concat()),
-            owning(2, &[&[two, 101], &second[..]].concat()),
-            owning(3, &[200; 60]),
-        ];
-        let log = [Move::react(3, &[1, 2]), Move::commit(4)];
-        for entries in [parts[..2].concat(), parts.concat()] {
-            gives(Alone::new(3).of(&table, &State { next: 5, entries: entries.clone() }.words()), &[], true);
-            let entries = [owning(4, &[one, two]), entries].concat();
-            gives(Alone::new(3).of(&table, &State { next: 5, entries }.words()), &log, true);
-        }
-    }
-}
-
-// Catches plants for the benchmark that do not look in vain for what they are named for: at every step all rules but the
-// last, or messages in transactions that share a remainder with what they lack.
-#[test]
-fn plants_that_look_in_vain() {
-    let mut random = Random::new(1_009);
-    for (rules, n) in [(7, 16), (64, 16), (7, 128), (64, 128), (7, 1_024), (64, 1_024)] {
-        for plant in PLANTS.into_iter().filter(|plant| ["parts", "residues"].contains(&plant.name)) {
-            let (table, start) = (plant.make)(&mut random, rules, n);
-            let (words, state) = (table.words(), start.words());
-            let log = log_from_words(&Alone::new(100).of_any(&words, &state).1).unwrap();
-            for moves in [0, 1, 2, 3, 5, 30, 95, 99] {
-                let state = State::from_words(&reached(&words, &state, &log[..moves])).unwrap();
-                let number = log[moves].number;
-                let waiting = state.entries.iter().filter(|entry| (1..=number.min(3)).contains(&entry.port)).count();
-                let step = Step { table: &table, state, first: Some(log[moves]) };
-                if plant.name == "parts" {
-                    assert_eq!((number, step.in_vain().len() as u32), (rules - 1, rules - 1), "{n}");
-                } else {
-                    assert_eq!((number, step.sharing()), (moves as u32 % rules, waiting), "{n}");
-                    assert!(number < 3 || waiting == n / 6 * 2, "{waiting} of {n}");
-                }
-            }
         }
     }
 }
@@ -990,8 +629,7 @@ fn random_plants_with_the_largest_budget() {
     let mut random = Random::new(1_005);
     let mut coverage = Coverage::default();
     for round in 0..1_500 {
-        let (table, state) =
-            if round % 40 == 0 { in_vain(&mut random, 60 + round / 100) } else { plant(&mut random, round) };
+        let (table, state) = plant(&mut random, round);
         let (table, state) = (table.words(), state.words());
         let budget = random.pick(&[1_024, 1_024, 1_023, 600]);
         let (alone, words) = Alone::new(budget).of_long(&table, &state);
@@ -1061,32 +699,6 @@ fn still_at(table: &[u32], state: &[u32], log: &[Move]) -> bool {
     first_of_list(table, &reached(table, state, log)).is_none()
 }
 
-/// A plant left alone with a budget, by all implementations: each move beside the first of the list in the state that
-/// the log before it leaves, and the logs of other budgets beside this one. Every step is handed on.
-fn step_by_step(
-    random: &mut Random,
-    plant: &Table,
-    start: &State,
-    budget: u32,
-    mut met: impl FnMut(Step),
-) -> (Unattended, Vec<Move>, bool) {
-    let (table, state) = (plant.words(), start.words());
-    let (alone, words, modelled) = Alone::new(budget).of_any(&table, &state);
-    let log = log_from_words(&words).unwrap();
-    let mut now = state.clone();
-    for (place, &mv) in log.iter().enumerate() {
-        assert_eq!(first_of_list(&table, &now), Some(mv), "{place} of {log:?} on {table:x?} {state:x?}");
-        met(Step { table: plant, state: State::from_words(&now).unwrap(), first: Some(mv) });
-        now = reached(&table, &now, &[mv]);
-    }
-    assert_eq!(now, reached(&table, &state, &log));
-    let first = first_of_list(&table, &now);
-    assert_eq!(alone.still, first.is_none(), "{log:?} on {table:x?} {state:x?}");
-    met(Step { table: plant, state: State::from_words(&now).unwrap(), first });
-    prefixes(random, &table, &state, &log, alone.still, budget);
-    (alone, log, modelled)
-}
-
 // Catches anything else: all implementations beside each other on random plants; each move beside the first of the
 // list in the state that the log before it leaves; the logs of other budgets beside this one.
 #[test]
@@ -1095,10 +707,22 @@ fn random_plants() {
     let (mut coverage, mut modelled) = (Coverage::default(), 0);
     for round in 0..6_000 {
         let (plant, start) = plant(&mut random, round);
+        let (table, state) = (plant.words(), start.words());
         let budget = random.pick(&[0, 1, 2, 5, 12, 30, 30]);
-        let met = |step: Step| coverage.add(step.met());
-        let (alone, log, asked) = step_by_step(&mut random, &plant, &start, budget, met);
+        let (alone, words, asked) = Alone::new(budget).of_any(&table, &state);
+        let log = log_from_words(&words).unwrap();
         modelled += usize::from(asked);
+        let mut now = state.clone();
+        for (place, &mv) in log.iter().enumerate() {
+            assert_eq!(first_of_list(&table, &now), Some(mv), "{place} of {log:?} on {table:x?} {state:x?}");
+            coverage.add(Step { table: &plant, state: State::from_words(&now).unwrap(), first: Some(mv) }.met());
+            now = reached(&table, &now, &[mv]);
+        }
+        assert_eq!(now, reached(&table, &state, &log));
+        let first = first_of_list(&table, &now);
+        assert_eq!(alone.still, first.is_none(), "{log:?} on {table:x?} {state:x?}");
+        coverage.add(Step { table: &plant, state: State::from_words(&now).unwrap(), first }.met());
+        prefixes(&mut random, &table, &state, &log, alone.still, budget);
         let (moves, still) = (alone.moves, alone.still);
         coverage.add([
             ("still before the budget is used up", still && 0 < moves && moves < budget),
@@ -1114,27 +738,5 @@ fn random_plants() {
         ]);
     }
     assert!(modelled > 4_000, "{modelled}");
-    coverage.has_all(30);
-}
-
-// Catches what only many rules in vain meet, on few entries, about 64, more, and as many as fit: all implementations,
-// each move and the logs of other budgets, as above.
-#[test]
-fn random_plants_in_vain() {
-    let mut random = Random::new(1_007);
-    let (mut coverage, mut modelled) = (Coverage::default(), 0);
-    for round in 0..800 {
-        let n = match round % 12 {
-            0..3 => random.between(8, 40),
-            3 => random.pick(&[100, 300]),
-            4 => random.between(1_020, 1_024),
-            _ => random.between(60, 70),
-        };
-        let (plant, start) = in_vain(&mut random, n as usize);
-        let budget = random.pick(&[1, 2, 5, 12]);
-        let met = |step: Step| coverage.add(step.met_in_vain());
-        modelled += usize::from(step_by_step(&mut random, &plant, &start, budget, met).2);
-    }
-    assert!(modelled > 200, "{modelled}");
     coverage.has_all(30);
 }

@@ -20,6 +20,7 @@ use Rattle.semantics.specs.Move.{nothing, entry_at}
 use Rattle.semantics.specs.declared.Sizes.{Sizes}
 use Rattle.enabled.specs.Keys.{takeable, takeable_on, plain-key, local-key, group-key}
 use Rattle.idset.specs.IdSet.{has}
+use Rattle.state.specs.declared.Extent.{Extent}
 use Rattle.state.specs.Working.{entry_from, row_of}
 use Rattle.seek.specs.Seek.{fits_for, fits_at}
 use Rattle.offers.specs.Offers.{column_keys}
@@ -157,6 +158,6 @@ module _ (z : Sizes) (stopped os ws : List ℕ) (n : ℕ) (takes : List ℕ) (k 
               ∙ rw (here q v, here p u)
               (owner-on z stopped (get_or takes i 0) (c i l).0 (get_or os q 0) (get_or ws q 0) (get_or [] q 0) (local i l) (get_or os p 0))
 
-pub groupable-keys : {z : Sizes} {os ws stopped : List ℕ} {n : ℕ} {takes : List ℕ} {k : ℕ} → Groupable z os ws stopped n takes k
-    → GroupKeys os ws stopped takes n k (column_keys z stopped os ws n)
+pub groupable-keys : {z : Sizes} {os ws stopped : List ℕ} {at : Extent} {takes : List ℕ} {k : ℕ} → Groupable z os ws stopped at takes k
+    → GroupKeys os ws stopped takes at.len k (column_keys z stopped os ws at.len)
 groupable-keys {z} g = columns-grouped z _ _ _ _ _ _ (omega (arith, g.four, g.most)) g.narrow g.some g.local

@@ -1,16 +1,18 @@
 -- The first of some choices, as four places, and what keys of places say of the messages that stand there.
-use Rattle.std.specs.Prelude.{ℕ, ◌+◌, ◌%◌, ◌≤◌, ◌<◌, Bool, true, false, List, [], ◌∷◌, ◌++◌, map, ◌≡◌, refl, eqb, length, get_or, take, replicate}
-use Rattle.std.proofs.lemmas.Bool.{false≢true}
+use Rattle.std.specs.Prelude.{ℕ, ◌+◌, ◌%◌, ◌≤◌, ◌<◌, true, false, List, [], ◌∷◌, ◌++◌, map, ◌≡◌, eqb, length, get_or, take, replicate}
 use Rattle.lists.specs.Choosing.{group_base, choices_in}
 use Rattle.lists.specs.Tuples.{each_from}
+use Rattle.lists.specs.Rows.{rows}
+use Rattle.semantics.specs.Table.{port_count}
 use Rattle.semantics.specs.declared.Sizes.{Sizes}
 use Rattle.enabled.specs.Reactions.{OfClass}
+use Rattle.state.specs.declared.Extent.{Extent}
+use Rattle.state.specs.Working.{row_of}
+use Rattle.state.specs.Arrays.{UnmarkedTo}
 use Rattle.state.specs.Lent.{Columns}
 use Rattle.seek.specs.Seek.{fits_at}
-use Rattle.offers.specs.Offers.{column_keys}
-use Rattle.regroup.specs.Regroup.{Regrouped}
+use Rattle.stopped.specs.Stopped.{StoppedIn}
 use Rattle.first_choice.specs.declared.Choice.{Choice}
-use Rattle.first_choice.specs.declared.Tried.{Tried}
 
 abbrev pub first_choice : List (List ℕ) → Choice
 first_choice [] = record { found = false; picks = 0 ∷ 0 ∷ 0 ∷ 0 ∷ [] }
@@ -51,28 +53,16 @@ pub record ByGroups (os ws stopped takes keys : List ℕ) (n k : ℕ) : Type 0 w
   pub low : (j : ℕ) → get_or takes j 0 < 512
   pub grouped : GroupKeys os ws stopped takes n k (take n keys)
 
--- what a search within owners asks for, of n entries in columns and of k ports
-pub record Groupable (z : Sizes) (os ws stopped : List ℕ) (n : ℕ) (takes : List ℕ) (k : ℕ) : Type 0 where
-  pub columns : Columns os ws n
-  pub narrow : NarrowOwners os n
+-- what a search within owners asks for, of a state in columns and of k ports
+pub record Groupable (z : Sizes) (os ws stopped : List ℕ) (at : Extent) (takes : List ℕ) (k : ℕ) : Type 0 where
+  pub columns : Columns os ws at.len
+  pub narrow : NarrowOwners os at.len
+  pub few-ports : port_count z ≤ 256
+  pub looked : at.unmarked ≤ at.len
+  pub unmarked : UnmarkedTo ws at.unmarked
+  pub stops : (gs : List ℕ) → StoppedIn (rows (row_of os ws gs) 0 at.len) stopped
   pub four : length takes ≡ 4
   pub some : 1 ≤ k
   pub most : k ≤ 4
   pub low : (j : ℕ) → get_or takes j 0 < 512
   pub local : AllOfClass z 1 takes k
-
--- the keys of n entries in columns, and the same with their groups numbered below 1,024
-pub record KeyedIn (z : Sizes) (os ws stopped : List ℕ) (n : ℕ) (keys lows : List ℕ) : Type 0 where
-  pub size : length keys ≡ 1024
-  pub are : take n keys ≡ column_keys z stopped os ws n
-  pub numbered : Regrouped n keys lows
-
--- A search that has come to its end found this choice. Where there are keys it comes to its end.
-pub record TriedAs (keyed : Bool) (x : Tried) (goal : Choice) : Type 0 where
-  pub ends : keyed ≡ true → x.unsettled ≡ false
-  pub told : x.unsettled ≡ false → record { found = x.found; picks = x.picks } ≡ goal
-  pub none : x.unsettled ≡ true → x.found ≡ false
-
-pub settled : (keyed : Bool) (c : Choice) {goal : Choice} {x : Tried} → x ≡ record { found = c.found; unsettled = false; picks = c.picks } → c ≡ goal
-    → TriedAs keyed x goal
-settled keyed c h e = rw h (record { ends = λ _. refl; told = λ _. e; none = λ n. absurd (false≢true n) })

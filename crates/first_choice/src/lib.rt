@@ -21,14 +21,6 @@ pub struct Choice {
     pub picks: [u32; 4],
 }
 
-// The same, where it may still be open whether there is one.
-#[derive(Drop)]
-pub struct Tried {
-    pub found: bool,
-    pub unsettled: bool,
-    pub picks: [u32; 4],
-}
-
 // The last owner of whom a rule of this class may take: of ports of class 0 nobody owns what is taken.
 fn last_owner(class: u32) -> u16
     ensures { result ≡ cond (eqb class 0) 0 65535 }
@@ -65,4 +57,4 @@ pub fn first_plain<'a>(
     )
 }
 
-pub use tries::{first_grouped, told};
+pub use tries::first_grouped;

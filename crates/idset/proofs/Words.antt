@@ -1,18 +1,49 @@
--- The set after a store of a word that `|` or `^` with a power of two has changed.
+-- The bits of a word after `|` and `^` with a power of two, and the set after a store of such a word.
 use mathlib.Core.Path.{◌≡◌, refl, ap, ◌∙◌}
 use mathlib.Core.Bool.{Bool, true, false, ◌&&◌, ◌||◌, not, cond, or_comm}
 use mathlib.Core.List.{List}
-use Prim.Native.Nat.{ℕ, ◌*◌, ◌/◌, ◌%◌, ◌^◌, ◌<◌}
-use native.Mathlib.Nat.{one-mul}
+use Prim.Native.Nat.{ℕ, zero, suc, ◌*◌, ◌/◌, ◌%◌, ◌^◌, ◌<◌}
+use native.Mathlib.Nat.{zero-lt-suc, one-mul, div-eq_of_lt, div-one, mul-mod_left, mul-div-mul_right, pow-suc}
 use native.Mathlib.Omega.{arith}
 use lib.ListN.{length, get_or, set, length-set}
 use lib.Seq.{get_or-set_same, get_or-set_other}
-use lib.Dec.{eqb}
-use lib.Pow.{shl_exact}
-use lib.Bits.{bit_or, bit_xor}
+use lib.Dec.{eqb, eqb-zero-suc, eqb-suc-zero, eqb-suc-suc}
+use lib.Pow.{pow-lt, shl_exact}
+use lib.Bits.{bit_or, or_shr, or_mod, bit_xor, xor_shr, xor_mod}
 use borrow.Author.Tests.{eqb-true, eqb-false, eq-eqb, ne_eqb}
 use Rattle.idset.specs.IdSet.{bit, has, Inserted, Removed}
-use Rattle.idset.specs.WordBits.{bit-pow, bit-or, bit-xor}
+
+-- Of 2 ^ k just bit k is set: what the code's shifted 1 adds to a word.
+bit-pow : (k j : ℕ) → bit (2 ^ k) j ≡ eqb j k
+bit-pow zero zero = refl
+bit-pow zero (suc j) = rw (div-eq_of_lt (pow-lt {i = zero} {j = suc j} (zero-lt-suc j)), eqb-suc-zero)
+bit-pow (suc k) zero = rw (div-one, pow-suc, mul-mod_left, eqb-zero-suc k)
+bit-pow (suc k) (suc j) = rw (pow-suc 2 k, pow-suc 2 j, mul-div-mul_right (2 ^ k) (2 ^ j) (zero-lt-suc 1), eqb-suc-suc) (bit-pow k j)
+
+-- `|` on single digits, by cases: all that `bit-or` leaves.
+or-digit : (x y : ℕ) → x < 2 → y < 2 → eqb (bit_or x y) 1 ≡ (eqb x 1 || eqb y 1)
+or-digit zero y p q = refl
+or-digit (suc zero) zero p q = refl
+or-digit (suc zero) (suc zero) p q = refl
+or-digit (suc zero) (suc (suc y)) p q = absurd (omega arith)
+or-digit (suc (suc x)) y p q = absurd (omega arith)
+
+-- `|` works on each bit apart, so the other members of the word stay.
+bit-or : (a b k : ℕ) → bit (bit_or a b) k ≡ (bit a k || bit b k)
+bit-or a b k = rw (or_shr, or_mod (a / 2 ^ k) (b / 2 ^ k) 1) (or-digit (a / 2 ^ k % 2) (b / 2 ^ k % 2) (omega arith) (omega arith))
+
+-- the same of `^`, which turns a bit where the other word has one
+xor-digit : (x y : ℕ) → x < 2 → y < 2 → eqb (bit_xor x y) 1 ≡ cond (eqb y 1) (not (eqb x 1)) (eqb x 1)
+xor-digit zero zero p q = refl
+xor-digit zero (suc zero) p q = refl
+xor-digit zero (suc (suc y)) p q = absurd (omega arith)
+xor-digit (suc zero) zero p q = refl
+xor-digit (suc zero) (suc zero) p q = refl
+xor-digit (suc zero) (suc (suc y)) p q = absurd (omega arith)
+xor-digit (suc (suc x)) y p q = absurd (omega arith)
+
+bit-xor : (a b k : ℕ) → bit (bit_xor a b) k ≡ cond (bit b k) (not (bit a k)) (bit a k)
+bit-xor a b k = rw (xor_shr, xor_mod (a / 2 ^ k) (b / 2 ^ k) 1) (xor-digit (a / 2 ^ k % 2) (b / 2 ^ k % 2) (omega arith) (omega arith))
 
 -- In one word two numbers are equal where their bits are, so the bit test is a test of the number.
 same_place : (u v : ℕ) → u / 64 ≡ v / 64 → eqb (u % 64) (v % 64) ≡ eqb u v

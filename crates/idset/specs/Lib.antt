@@ -1,2 +1,1 @@
 pub mod IdSet
-pub mod WordBits

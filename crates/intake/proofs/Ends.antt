@@ -7,7 +7,7 @@ use native.Mathlib.Omega.{arith}
 use lib.ListN.{length, get_or, drop, length-take}
 use lib.Seq.{get_or-drop, drop-drop, length-take-le}
 use Rattle.lists.specs.Beginning.{take-taken, part_end, part_cut}
-use Rattle.semantics.specs.Program.{table_part, state_part, behind_table, after_state, parts_of}
+use Rattle.semantics.specs.Program.{table_part, state_part, after_table, after_state, parts_of}
 use Rattle.intake.specs.Split.{CutAt}
 
 first-at : (ws : List ℕ) (at : ℕ) → get_or (drop at ws) 0 0 ≡ get_or ws at 0
@@ -20,7 +20,7 @@ module _ (ws : List ℕ) {a b e : ℕ}
   table-end : a ≡ length (table_part ws)
   table-end = at ∙ sym (length-take (5 + 2 * get_or ws 4 0) ws)
 
-  behind_table : behind_table ws ≡ drop a ws
+  behind_table : after_table ws ≡ drop a ws
   behind_table = rw (← table-end)
 
   state-end : b ≡ a + length (state_part (drop a ws))

@@ -120,42 +120,34 @@ each_none : {A B : Type 0} (f : A → List B) (xs : List A) → All (λ x. f x �
 each_none f [] h = refl
 each_none f (x ∷ xs) h = rw (h.0, each_none f xs h.1)
 
--- no choice begins at any place on the first port
-pub none-begin : (ks : List ℕ) (t : ℕ) (ts : List ℕ) → ((x : ℕ) → x < length ks → get_or ks x 0 % 512 ≡ t → choices_in ks t ts x ≡ [])
-    → choices_by_group ks (t ∷ ts) ≡ []
-none-begin ks t ts h =
-    each_none (choices_in ks t ts) (keep (λ x. eqb (get_or ks x 0 % 512) t) (up_from 0 (length ks)))
-    (All-keep _ (λ x. eqb (get_or ks x 0 % 512) t) (up_from 0 (length ks))
-    (up-each _ 0 (length ks) (λ x l u e. h x (omega arith) (eqb-true (get_or ks x 0 % 512) t e))))
+module _ (ks : List ℕ) (p : ℕ) (low : p < 512) where
+  short-in : (t : ℕ) (ts : List ℕ) → count_if (λ key. eqb (key % 512) p) ks < times_in p (t ∷ ts) → (x : ℕ) → x < length ks → get_or ks x 0 % 512 ≡ t
+      → choices_in ks t ts x ≡ []
+  short-in t ts h x l on =
+      let b = group_base ks t x in
+      let base : get_or ks x 0 ≡ t + b = omega arith in
+      let m : b % 512 ≡ 0 = omega arith in
+      let r = times-raised b p (t ∷ ts) in
+      let s = times-append (p + b) ((t + b) ∷ []) (map (λ u. u + b) ts) in
+      let u : Used ks ((t + b) ∷ []) (x ∷ []) = rw (← base) (used-first ks x l) in
+      ap (map (λ c. x ∷ c)) (used-short ks ((t + b) ∷ []) (x ∷ []) (p + b) (map (λ u. u + b) ts) u (omega (arith, times-on p b ks low m)))
 
--- the group of place x has fewer keys with the number p than it is wanted
-pub group-short : (ks : List ℕ) (p t : ℕ) (ts : List ℕ) (x : ℕ) → x < length ks → get_or ks x 0 % 512 ≡ t
-    → times_in (p + group_base ks t x) ks < times_in p (t ∷ ts) → choices_in ks t ts x ≡ []
-group-short ks p t ts x l on h =
-    let b = group_base ks t x in
-    let base : get_or ks x 0 ≡ t + b = omega arith in
-    let r = times-raised b p (t ∷ ts) in
-    let s = times-append (p + b) ((t + b) ∷ []) (map (λ u. u + b) ts) in
-    let u : Used ks ((t + b) ∷ []) (x ∷ []) = rw (← base) (used-first ks x l) in
-    ap (map (λ c. x ∷ c)) (used-short ks ((t + b) ∷ []) (x ∷ []) (p + b) (map (λ u. u + b) ts) u (omega arith))
+  -- Fewer keys have the number p than it is wanted: there is no choice, of any group or within one.
+  pub too_few : (ts : List ℕ) → count_if (λ key. eqb (key % 512) p) ks < times_in p ts → (choices_from ks [] ts ≡ []) × (choices_by_group ks ts ≡ [])
+  too_few ts h = (anywhere, grouped ts h)
+    where
+      anywhere : choices_from ks [] ts ≡ []
+      anywhere =
+          let z : p + 0 ≡ p = omega arith in
+          let o = times-on p 0 ks low refl in
+          used-short ks [] [] p ts (used-none ks) (omega (arith, rw z at o))
 
--- Fewer keys have the number p than it is wanted: there is no choice, of any group or within one.
-pub too_few : (ks : List ℕ) (p : ℕ) → p < 512 → (ts : List ℕ) → count_if (λ key. eqb (key % 512) p) ks < times_in p ts
-    → (choices_from ks [] ts ≡ []) × (choices_by_group ks ts ≡ [])
-too_few ks p low ts h = (anywhere, grouped ts h)
-  where
-    anywhere : choices_from ks [] ts ≡ []
-    anywhere =
-        let z : p + 0 ≡ p = omega arith in
-        let o = times-on p 0 ks low refl in
-        used-short ks [] [] p ts (used-none ks) (omega (arith, rw z at o))
-
-    grouped : (ts : List ℕ) → count_if (λ key. eqb (key % 512) p) ks < times_in p ts → choices_by_group ks ts ≡ []
-    grouped [] h = absurd (omega (arith, times_none p))
-    grouped (t ∷ ts) h =
-        none-begin ks t ts (λ x l on.
-        let m : group_base ks t x % 512 ≡ 0 = omega arith in
-        group-short ks p t ts x l on (omega (arith, times-on p (group_base ks t x) ks low m)))
+      grouped : (ts : List ℕ) → count_if (λ key. eqb (key % 512) p) ks < times_in p ts → choices_by_group ks ts ≡ []
+      grouped [] h = absurd (omega (arith, times_none p))
+      grouped (t ∷ ts) h =
+          each_none (choices_in ks t ts) (keep (λ x. eqb (get_or ks x 0 % 512) t) (up_from 0 (length ks)))
+          (All-keep _ (λ x. eqb (get_or ks x 0 % 512) t) (up_from 0 (length ks))
+          (up-each _ 0 (length ks) (λ x l u e. short-in t ts h x (omega arith) (eqb-true (get_or ks x 0 % 512) t e))))
 
 -- ---- by counts of images, of which each key has at least as many
 
@@ -169,7 +161,7 @@ ways-raised count b earlier [] = refl
 ways-raised count b earlier (t ∷ ts) =
     rw (times-raised b t earlier, ← (ways-raised count b (earlier ++ t ∷ []) ts), map-append)
 
-pub times-image : (f : ℕ → ℕ) (v : ℕ) (ks : List ℕ) → times_in v ks ≤ times_in (f v) (map f ks)
+times-image : (f : ℕ → ℕ) (v : ℕ) (ks : List ℕ) → times_in v ks ≤ times_in (f v) (map f ks)
 unfolding times_in
 times-image f v ks =
     rw (count_map f (λ x. eqb x (f v)) ks)

@@ -97,19 +97,6 @@ module _ {B : Type 0} (f : ℕ → List B) (n : ℕ) where
   pub up-here : (p : ℕ) → p < n → each_up p ≡ f p ++ each_up (p + 1)
   up-here p h = rw (step f (λ _. true) n p h)
 
-  -- several that give nothing
-  pass-some : (d p : ℕ) → p + d ≤ n → ((j : ℕ) → p ≤ j → j < p + d → f j ≡ []) → each_up p ≡ each_up (p + d)
-  pass-some zero p l h = ap each_up (sym (add-zero p))
-  pass-some (suc d) p l h =
-      let e : p + 1 + d ≡ p + suc d = omega arith in
-      up-here p (omega arith) ∙ ap (λ (xs : List B). xs ++ each_up (p + 1)) (h p (omega arith) (omega arith))
-      ∙ pass-some d (p + 1) (omega arith) (λ j a b. h j (omega arith) (omega arith)) ∙ ap each_up e
-
-  pub up-skip : (p r : ℕ) → p ≤ r → r ≤ n → ((j : ℕ) → p ≤ j → j < r → f j ≡ []) → each_up p ≡ each_up r
-  up-skip p r l u h =
-      let e : p + (r - p) ≡ r = omega arith in
-      pass-some (r - p) p (omega arith) (λ j a b. h j a (omega arith)) ∙ ap each_up e
-
 pub each-up : {B : Type 0} (f g : ℕ → List B) (i n : ℕ) → ((r : ℕ) → r < i + n → f r ≡ g r) → each f (up_from i n) ≡ each g (up_from i n)
 each-up f g i zero h = refl
 each-up f g i (suc n) h =

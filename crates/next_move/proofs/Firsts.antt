@@ -7,8 +7,7 @@ use native.Mathlib.Omega.{arith}
 use lib.Dec.{leb, ltb}
 use lib.ListN.{length, get_or, take, length-map}
 use lib.Seq.{get_or-take}
-use Rattle.lists.specs.Lists.{any, keep, up_from, count_if, one_if}
-use Rattle.lists.specs.Choices.{by_bool}
+use Rattle.lists.specs.Lists.{any, keep, up_from, count_if}
 use Rattle.lists.specs.Each.{All, All-get_or}
 use Rattle.lists.specs.Mapped.{map-map, map-take}
 use Rattle.lists.specs.Parts.{keep_append}
@@ -32,67 +31,38 @@ use Rattle.state.specs.declared.Extent.{Extent}
 use Rattle.state.specs.Working.{row_of}
 use Rattle.state.specs.Lent.{state_from}
 use Rattle.rule_moves.specs.Takes.{SmallPorts, has_room_for, reactions_by}
-use Rattle.first_choice.specs.declared.Choice.{Choice}
-use Rattle.first_choice.specs.declared.Tried.{Tried}
-use Rattle.first_choice.specs.Choice.{first_choice, AllOfClass, TriedAs}
+use Rattle.first_choice.specs.Choice.{first_choice, AllOfClass}
 use Rattle.first_end.specs.declared.First.{First}
 use Rattle.first_end.specs.First.{first_move}
 use Rattle.first_end.specs.OpenEnds.{open_ends}
-use Rattle.next_move.specs.declared.reactions.Sought.{Sought}
-use Rattle.next_move.specs.Reactions.{ConsumesFirst, SoughtAs}
+use Rattle.next_move.specs.Reactions.{ConsumesFirst}
 
 -- ---- a choice as a reaction
 
-choice-none : (r : ℕ) (cs : List (List ℕ)) → (first_choice cs).found ≡ false → first_move [] ≡ first_move (map (react r) cs)
+pub choice-none : (r : ℕ) (cs : List (List ℕ)) → (first_choice cs).found ≡ false → first_move [] ≡ first_move (map (react r) cs)
 choice-none r [] h = refl
 choice-none r (c ∷ cs) h = absurd (false≢true (sym h))
 
-choice-found : (r : ℕ) (cs : List (List ℕ)) → (first_choice cs).found ≡ true
+pub choice-found : (r : ℕ) (cs : List (List ℕ)) → (first_choice cs).found ≡ true
     → record { found = true; mv = record { head = r; picks = (first_choice cs).picks } } ≡ first_move (map (react r) cs)
 choice-found r [] h = absurd (false≢true h)
 choice-found r (c ∷ cs) h =
     let e : r ≡ head_word 0 r = omega arith in
     ap {B = First} (λ (x : ℕ). record { found = true; mv = record { head = x; picks = four_picks (react r c) } }) e
 
-module _ (r : ℕ) {keyed : Bool} {x : Tried} (cs : List (List ℕ)) (h : TriedAs keyed x (first_choice cs)) where
-  -- none was found, or it is still open whether there is one
-  pub choice-missed : x.found ≡ false → {y : Sought} → y ≡ record { found = false; unsettled = x.unsettled; mv = (first_move []).mv }
-      → SoughtAs keyed y (map (react r) cs)
-  choice-missed miss e = rw e (record {
-    ends = h.ends;
-    told = λ t. choice-none r cs (sym (ap (λ (c : Choice). c.found) (h.told t)) ∙ miss);
-    none = λ _. refl;
-  })
-
-  -- one was
-  pub choice-sought : (x.unsettled ≡ true → x.found ≡ false) → x.found ≡ true
-      → SoughtAs keyed (record { found = true; unsettled = false; mv = record { head = r; picks = x.picks } }) (map (react r) cs)
-  choice-sought none hit = record {
-    ends = λ _. refl;
-    told = λ _.
-        let e = h.told (by_bool x.unsettled (λ u. absurd (false≢true (sym (none u) ∙ hit))) (λ u. u)) in
-        ap {B = First} (λ (c : Choice). record { found = true; mv = record { head = r; picks = c.picks } }) e
-        ∙ choice-found r cs (sym (ap (λ (c : Choice). c.found) e) ∙ hit);
-    none = λ u. absurd (false≢true u);
-  }
-
 -- a rule has all its choices, or none
-module _ (r : ℕ) {b keyed : Bool} (cs : List (List ℕ)) {x : Sought} where
-  pub rule-open : b ≡ true → SoughtAs keyed x (map (react r) cs) → SoughtAs keyed x (map (react r) (cond b cs []))
+module _ (r : ℕ) {b : Bool} (cs : List (List ℕ)) where
+  pub rule-open : {f : First} → b ≡ true → f ≡ first_move (map (react r) cs) → f ≡ first_move (map (react r) (cond b cs []))
   rule-open e h = rw e h
 
-  pub rule-shut : b ≡ false → x ≡ record { found = false; unsettled = false; mv = (first_move []).mv } → SoughtAs keyed x (map (react r) (cond b cs []))
-  rule-shut e q = rw (e, q) (record { ends = λ _. refl; told = λ _. refl; none = λ u. refl })
+  pub rule-shut : b ≡ false → first_move [] ≡ first_move (map (react r) (cond b cs []))
+  rule-shut e = rw e
 
-pub rule-none : (r : ℕ) (b : Bool) {cs : List (List ℕ)} → cs ≡ [] → map (react r) (cond b cs []) ≡ []
-rule-none r true e = rw e
-rule-none r false e = refl
+pub rule-lacks : (r : ℕ) (b : Bool) {cs : List (List ℕ)} → cs ≡ [] → first_move [] ≡ first_move (map (react r) (cond b cs []))
+rule-lacks r true e = rw e
+rule-lacks r false e = refl
 
 -- ---- one part behind another
-
--- a move that was found
-pub found-whole : (x : First) → x.found ≡ true → record { found = true; mv = x.mv } ≡ x
-found-whole x e = ap {B = First} (λ b. record { found = b; mv = x.mv }) (sym e)
 
 pub first-here : (xs ys : List Move) → (first_move xs).found ≡ true → first_move xs ≡ first_move (xs ++ ys)
 first-here [] ys h = absurd (false≢true h)
@@ -101,22 +71,6 @@ first-here (x ∷ xs) ys h = refl
 pub first-behind : (xs ys : List Move) → (first_move xs).found ≡ false → first_move ys ≡ first_move (xs ++ ys)
 first-behind [] ys h = refl
 first-behind (x ∷ xs) ys h = absurd (false≢true (sym h))
-
--- keys are made where they are asked for and there are none
-pub keys-there : (ask made : Bool) → ask || made ≡ true → (ask && not made) || made ≡ true
-keys-there true true h = refl
-keys-there true false h = refl
-keys-there false made h = h
-
--- a rule that is looked for again has keys then, and one that is settled is passed
-pub nearer : (u keyed made : Bool) {rules from r after : ℕ} → from ≤ r → r < rules → after ≡ cond u r (r + 1) → (u ≡ true → keyed ≡ false)
-    → (u ≡ true → made ≡ true) → 2 * (rules - after) + one_if (not made) < 2 * (rules - from) + one_if (not keyed)
-nearer true keyed made l h e before now =
-    let a : one_if (not made) ≡ 0 = rw (now refl) in
-    let b : one_if (not keyed) ≡ 1 = rw (before refl) in
-    omega arith
-nearer false keyed true l h e before now = omega arith
-nearer false keyed false l h e before now = omega arith
 
 -- the reactions, and behind them the ends
 pub whole-list : (t : List ℕ) → table_verdict t ≡ Allowed → (os ws gs : List ℕ) (at : Extent) → StateRight (sizes_of t) (state_from os ws gs at) → (ceiling : ℕ)

@@ -1,23 +1,18 @@
 -- What a search for the first move is told of a state.
-use Rattle.std.specs.Prelude.{ℕ, ◌-◌, ◌≤◌, ◌<◌, Bool, true, false, List, [], map, ◌≡◌, length, get_or, take}
+use Rattle.std.specs.Prelude.{ℕ, ◌≤◌, List, map, ◌≡◌, length, take}
 use Rattle.lists.specs.Rows.{rows}
 use Rattle.semantics.specs.Words.{port_of}
-use Rattle.semantics.specs.Table.{Rule, sizes_of, rule_of, table_of, rule_at, consumed, port_count}
-use Rattle.semantics.specs.Move.{Move}
+use Rattle.semantics.specs.Table.{sizes_of, rule_of, consumed, port_count}
 use Rattle.semantics.specs.declared.Sizes.{Sizes}
 use Rattle.enabled.specs.Supply.{Supply}
-use Rattle.enabled.specs.Reactions.{choices_of}
-use Rattle.idset.specs.IdSet.{bit}
 use Rattle.state.specs.declared.Extent.{Extent}
 use Rattle.state.specs.Working.{row_of}
 use Rattle.state.specs.Arrays.{UnmarkedTo}
 use Rattle.state.specs.Lent.{state_from, Columns}
 use Rattle.step.specs.Make.{Indexed}
 use Rattle.stopped.specs.Stopped.{StoppedIn}
-use Rattle.wants.specs.Wants.{Wants, Asks}
+use Rattle.wants.specs.Wants.{Wants}
 use Rattle.first_choice.specs.Choice.{NarrowOwners}
-use Rattle.first_end.specs.First.{first_move}
-use Rattle.next_move.specs.declared.reactions.Sought.{Sought}
 
 -- a state in columns, and its transactions that have an abort mark
 pub record InColumns (z : Sizes) (os ws stopped : List ℕ) (at : Extent) : Type 0 where
@@ -36,25 +31,10 @@ pub record ConsumesFirst (z : Sizes) (ws : List ℕ) (k : ℕ) : Type 0 where
   pub count : k ≡ length (consumed (rule_of z ws))
   pub ports : consumed (rule_of z ws) ≡ map port_of (take k ws)
 
--- where `any` says that no group covers a local rule, it has no choice
-abbrev pub RuledOut : List ℕ → List ℕ → Rule → ℕ → Type 0
-RuledOut any ks R r = R.class ≡ 1 → bit (get_or any (length (consumed R) - 1) 0) r ≡ false → choices_of R ks ≡ []
-
-pub record RulesOut (t ks any : List ℕ) : Type 0 where
-  pub size : length any ≡ 4
-  pub each : (r : ℕ) → r < (sizes_of t).rules → RuledOut any ks (rule_at (table_of t) r) r
-
--- A search that has come to its end found the first of these moves. Where there are keys it comes to its end.
-pub record SoughtAs (keyed : Bool) (x : Sought) (ms : List Move) : Type 0 where
-  pub ends : keyed ≡ true → x.unsettled ≡ false
-  pub told : x.unsettled ≡ false → record { found = x.found; mv = x.mv } ≡ first_move ms
-  pub none : x.unsettled ≡ true → x.found ≡ false
-
--- a state in columns with the table, what its rules want and ask for, and the totals by port
-pub record SearchOf (t index wants asks os ws stopped totals : List ℕ) (at : Extent) (ceiling : ℕ) : Type 0 where
+-- a state in columns with the table, what its rules want and the totals by port
+pub record SearchOf (t index wants os ws stopped totals : List ℕ) (at : Extent) (ceiling : ℕ) : Type 0 where
   pub indexed : Indexed t index
   pub wants-are : Wants t wants
-  pub asks-are : Asks t asks
   pub state : InColumns (sizes_of t) os ws stopped at
   pub supply : (gs : List ℕ) → Supply (sizes_of t) (state_from os ws gs at) totals
   pub limit : ceiling ≤ 1024

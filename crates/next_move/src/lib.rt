@@ -1,6 +1,5 @@
 // The first move of the list of open moves, found without the list: the first reaction in the order of rules and picks, or else the
 // first end.
-mod covered;
 mod reactions;
 mod rule;
 
@@ -19,12 +18,11 @@ use idset::WORDS;
 use state::Extent;
 use table::parts::sizes_of;
 
-// `keys` and `lows` are lent, so that they are not cleared at every move.
+// `keys` is lent, so that it is not cleared at every move.
 pub fn next_move<'a>(
     table: &'a [u32],
     starts: &'a [u32; 65],
     wants: &'a [u64; 64],
-    asks: &'a [u64; WORDS],
     owners: &'a [u16; 1024],
     items: &'a [u32; 1024],
     at: Extent,
@@ -32,20 +30,19 @@ pub fn next_move<'a>(
     totals: &'a [u16; 512],
     ceiling: usize,
     keys: &mut [u32; 1024],
-    lows: &mut [u32; 1024],
 ) -> First
-    requires { SearchOf table.now starts.now wants.now asks.now owners.now items.now stopped.now totals.now at ceiling
-        × (length keys.old ≡ 1024) × (length lows.old ≡ 1024) × (at.next ≤ 65536) × OwnersGiven owners.now at × (at.len ≤ ceiling) }
+    requires { SearchOf table.now starts.now wants.now owners.now items.now stopped.now totals.now at ceiling
+        × (length keys.old ≡ 1024) × (at.next ≤ 65536) × OwnersGiven owners.now at × (at.len ≤ ceiling) }
     ensures by_index { (gs : List ℕ) → StateRight (sizes_of table.now) (state_from owners.now items.now gs at)
         → result ≡ first_move (enabled ceiling (table_of table.now) (state_from owners.now items.now gs at)) }
-    ensures keys_len { (length keys.new ≡ 1024) × (length lows.new ≡ 1024) }
+    ensures keys_len { length keys.new ≡ 1024 }
 {
     let z = sizes_of(table);
     let reaction = first_reaction(
-        table, starts, wants, asks, owners, items, at, stopped, totals, ceiling, keys, lows,
+        table, starts, wants, owners, items, at, stopped, totals, ceiling, keys,
     );
     if reaction.found {
-        return handed_on(reaction.mv);
+        return handed_on(reaction);
     }
     first_end(owners, items, at, z.globals, stopped)
 }

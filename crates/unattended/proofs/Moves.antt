@@ -31,7 +31,7 @@ use Rattle.step.specs.Make.{Indexed, Workable, MadeAs}
 use Rattle.first_end.specs.declared.First.{First}
 use Rattle.first_end.specs.First.{first_move}
 use Rattle.first_end.specs.OpenEnds.{OwnersGiven, owners-given}
-use Rattle.wants.specs.Wants.{Wants, Asks}
+use Rattle.wants.specs.Wants.{Wants}
 use Rattle.next_move.specs.Reactions.{SearchOf}
 use Rattle.tracking.specs.Tracked.{TrackedIn}
 
@@ -48,16 +48,14 @@ module _ {z : Sizes} (os ws gs : List ℕ) (at : Extent) (ceiling : ℕ) (able :
   }
 
   -- the search, with what is kept beside the columns
-  pub searchable : {t index wants asks stopped totals : List ℕ} {long more : ℕ} → Indexed t index → Wants t wants × Asks t asks → sizes_of t ≡ z
-      → TrackedIn z os ws at stopped totals → (long ≡ 1024) × (more ≡ 1024)
-      → SearchOf t index wants asks os ws stopped totals at ceiling × (long ≡ 1024) × (more ≡ 1024) × (at.next ≤ 65536) × OwnersGiven os at
-      × (at.len ≤ ceiling)
-  searchable {t} indexed (wants, asks) e kept (size, also) =
+  pub searchable : {t index wants stopped totals : List ℕ} {long : ℕ} → Indexed t index → Wants t wants → sizes_of t ≡ z → TrackedIn z os ws at stopped totals
+      → long ≡ 1024
+      → SearchOf t index wants os ws stopped totals at ceiling × (long ≡ 1024) × (at.next ≤ 65536) × OwnersGiven os at × (at.len ≤ ceiling)
+  searchable {t} indexed wants e kept size =
       let given = owners-given holds sound.sound.right in (
         record {
           indexed = indexed;
           wants-are = wants;
-          asks-are = asks;
           state = record {
             columns = columns;
             narrow = λ p l. by_bool (eqb (get_or os p 0) 0)
@@ -72,7 +70,6 @@ module _ {z : Sizes} (os ws gs : List ℕ) (at : Extent) (ceiling : ℕ) (able :
           limit = able.limit;
         },
         size,
-        also,
         able.bounds.next,
         given,
         able.bounds.fits,

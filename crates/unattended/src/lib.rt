@@ -51,8 +51,7 @@ fn go_alone<'a>(
     let mut origins = s.origins;
     let at = state::load(state, &mut owners, &mut items, &mut origins);
     let mut wants = [0u64; 64];
-    let mut asks = [0u64; WORDS];
-    fill_wants(table, starts, &mut wants, &mut asks);
+    fill_wants(table, starts, &mut wants);
     let z = sizes_of(table);
     let mut stopped = [0u64; WORDS];
     let mut totals = [0u16; 512];
@@ -62,7 +61,6 @@ fn go_alone<'a>(
         table,
         starts,
         &wants,
-        &asks,
         &mut owners,
         &mut items,
         &mut origins,

@@ -6,7 +6,7 @@ ghost use Rattle.semantics.specs.Table.{sizes_of, table_of};
 ghost use Rattle.wellformed.specs.Held.{Held};
 ghost use Rattle.state.specs.Working.{held, state_in};
 ghost use Rattle.step.specs.Make.{Indexed, Workable};
-ghost use Rattle.wants.specs.Wants.{Wants, Asks};
+ghost use Rattle.wants.specs.Wants.{Wants};
 ghost use Rattle.tracking.specs.Tracked.{TrackedIn};
 ghost use Rattle.unattended.specs.Walked.{WalkedAs};
 
@@ -34,7 +34,6 @@ pub fn walk<'a>(
     table: &'a [u32],
     starts: &'a [u32; 65],
     wants: &'a [u64; 64],
-    asks: &'a [u64; WORDS],
     owners: &mut [u16; 1024],
     items: &mut [u32; 1024],
     origins: &mut [u16; 1024],
@@ -46,8 +45,8 @@ pub fn walk<'a>(
     picks: &mut [u32],
     target: &mut [u32],
 ) -> Gone
-    requires indexed { Indexed table.now starts.now × (Wants table.now wants.now × Asks table.now asks.now) × (budget ≤ 1024)
-        × (4 * budget ≤ length picks.old) × (1 + 5 * budget ≤ length target.old) }
+    requires indexed { Indexed table.now starts.now × Wants table.now wants.now × (budget ≤ 1024) × (4 * budget ≤ length picks.old)
+        × (1 + 5 * budget ≤ length target.old) }
     requires workable { Workable (held owners.old items.old origins.old start) ceiling
         × Held (sizes_of table.now) (state_in (held owners.old items.old origins.old start))
         × TrackedIn (sizes_of table.now) owners.old items.old start stopped.old totals.old }
@@ -57,13 +56,11 @@ pub fn walk<'a>(
     ensures picks_len_unchanged { length picks.new ≡ length picks.old }
 {
     let mut keys = [0u32; 1024];
-    let mut lows = [0u32; 1024];
     let mut at = start;
     let mut i = 0;
     while i < budget {
         let first = next_move(
-            table, starts, wants, asks, owners, items, at, stopped, totals, ceiling, &mut keys,
-            &mut lows,
+            table, starts, wants, owners, items, at, stopped, totals, ceiling, &mut keys,
         );
         if !first.found {
             return Gone {
@@ -80,8 +77,7 @@ pub fn walk<'a>(
         i += 1;
     }
     let first = next_move(
-        table, starts, wants, asks, owners, items, at, stopped, totals, ceiling, &mut keys,
-        &mut lows,
+        table, starts, wants, owners, items, at, stopped, totals, ceiling, &mut keys,
     );
     Gone {
         made: i,

@@ -7,7 +7,6 @@ use Rattle.lists.specs.Choices.{by_bool}
 use Rattle.lists.specs.FirstChoice.{too_few}
 use Rattle.semantics.specs.Table.{Rule, sizes_of, table_of, rule_at, consumed}
 use Rattle.enabled.specs.Reactions.{choices_of}
-use Rattle.cover.specs.Cover.{AskedBy}
 
 -- need * 512 + port, where no more is needed than the consumes ts have of the port
 abbrev pub WantedBy : List ℕ → ℕ → Type 0
@@ -24,11 +23,6 @@ pub record WantedWord (ts : List ℕ) (w : ℕ) : Type 0 where
 pub record Wants (t wants : List ℕ) : Type 0 where
   pub size : length wants ≡ 64
   pub each : (r : ℕ) → r < (sizes_of t).rules → WantedWord (consumed (rule_at (table_of t) r)) (get_or wants r 0)
-
--- which rules ask for each port
-pub record Asks (t asks : List ℕ) : Type 0 where
-  pub size : length asks ≡ 1024
-  pub each : (r : ℕ) → r < (sizes_of t).rules → AskedBy asks r (consumed (rule_at (table_of t) r))
 
 -- the port of this number has too few messages
 abbrev pub is_short : List ℕ → ℕ → Bool

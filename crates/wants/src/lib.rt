@@ -1,18 +1,14 @@
 // What each rule wants on its ports, decoded once for a whole run: a rule that lacks messages is passed over at the cost of at
 // most four comparisons, whatever its class.
-ghost use Rattle.std.specs.Prelude.{◌≡◌, not, ℕ, ◌+◌, ◌*◌, ◌≤◌, ◌<◌, length, get_or, take};
+ghost use Rattle.std.specs.Prelude.{◌≡◌, ℕ, ◌+◌, ◌*◌, ◌≤◌, ◌<◌, length, get_or, take};
 ghost use Rattle.lists.specs.Lists.{one_if};
 ghost use Rattle.lists.specs.Keys.{times_in};
 ghost use Rattle.semantics.specs.Table.{sizes_of, numbers_of};
 ghost use Rattle.semantics.specs.Answers.{table_verdict};
 ghost use Rattle.semantics.specs.declared.Verdict.TheVariants.{Allowed};
 ghost use Rattle.table.specs.Index.{Starts};
-ghost use Rattle.idset.specs.IdSet.{EmptySet};
-ghost use Rattle.seek.specs.Seek.{NextFit};
-ghost use Rattle.wants.specs.Wants.{WantedWord, is_short, lacking, Wants, Asks};
+ghost use Rattle.wants.specs.Wants.{WantedWord, is_short, lacking, Wants};
 
-use cover::ask;
-use idset::WORDS;
 use rule_moves::takes_of;
 use rules::decode::rule_at;
 use table::parts::sizes_of;
@@ -58,26 +54,18 @@ fn wants_of(takes: [u32; 4], k: usize) -> u64
     a + WANT * (b + WANT * (c + WANT * d))
 }
 
-// Of all rules, and which rules ask for each port. The set is handed in empty.
-pub fn fill_wants<'a>(
-    table: &'a [u32],
-    starts: &'a [u32; 65],
-    wants: &mut [u64; 64],
-    asks: &mut [u64; WORDS],
-)
+// Of all rules.
+pub fn fill_wants<'a>(table: &'a [u32], starts: &'a [u32; 65], wants: &mut [u64; 64])
     requires { (table_verdict table.now ≡ Allowed) × Starts (numbers_of table.now) (sizes_of table.now).rules starts.now
-        × (length wants.old ≡ 64) × EmptySet asks.old }
-    ensures { Wants table.now wants.new × Asks table.now asks.new }
+        × (length wants.old ≡ 64) }
+    ensures { Wants table.now wants.new }
 {
     let z = sizes_of(table);
     let rules = z.rules;
     let mut r = 0;
     while r < rules {
         let rule = rule_at(table, starts, r);
-        let k = rule.consumes;
-        let takes = takes_of(rule);
-        wants[r as usize] = wants_of(takes, k);
-        ask(takes, k, r, asks);
+        wants[r as usize] = wants_of(takes_of(rule), rule.consumes);
         r += 1;
     }
 }
@@ -90,7 +78,7 @@ fn short(totals: &[u16; 512], want: u64) -> bool
 }
 
 // Whether rule r lacks messages, where `totals` has those of each port: then it has no choice. Most rules lack at their first port.
-fn lacks<'a>(wants: &'a [u64; 64], totals: &'a [u16; 512], r: usize) -> bool
+pub fn lacks<'a>(wants: &'a [u64; 64], totals: &'a [u16; 512], r: usize) -> bool
     requires { (r < 64) × (length wants.now ≡ 64) × (length totals.now ≡ 512) }
     ensures { result ≡ lacking totals.now (get_or wants.now r 0) }
 {
@@ -102,19 +90,4 @@ fn lacks<'a>(wants: &'a [u64; 64], totals: &'a [u16; 512], r: usize) -> bool
     let y = x / WANT;
     let z = y / WANT;
     short(totals, x % WANT) | (short(totals, y % WANT) | short(totals, z % WANT))
-}
-
-// The first rule from a number on that does not lack messages, `rules` if there is none.
-pub fn next_full<'a>(wants: &'a [u64; 64], totals: &'a [u16; 512], from: u32, rules: u32) -> u32
-    requires { (from ≤ rules) × (rules ≤ 64) × (length wants.now ≡ 64) × (length totals.now ≡ 512) }
-    ensures { NextFit (λ q. not (lacking totals.now (get_or wants.now q 0))) from rules result }
-{
-    let mut r = from;
-    while r < rules {
-        if !lacks(wants, totals, r as usize) {
-            return r;
-        }
-        r += 1;
-    }
-    rules
 }

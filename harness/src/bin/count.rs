@@ -83,8 +83,7 @@ fn main() {
         _ => panic!(
             "usage: count move|preview global|begin|local|merge|commit|abort ENTRIES, run|serialize merges|global \
              ENTRIES MOVES, list_moves local|global ENTRIES MOVES, run_unattended \
-             global|local|stopped|pairs|merges|commits|aborts|parts|residues ENTRIES MOVES, or input \
-             merges|global|refused ENTRIES MOVES"
+             global|local|stopped|pairs|merges|commits|aborts ENTRIES MOVES, or input merges|global|refused ENTRIES MOVES"
         ),
     };
     let (entries, moves) = (entries.parse().unwrap(), moves.parse().unwrap());

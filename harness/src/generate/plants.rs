@@ -1,7 +1,7 @@
 //! Plants that never rest, of chosen sizes: for the benchmark of unattended runs and for tests at full size. Whatever
 //! is made, about as many entries stay.
 use crate::random::Random;
-use crate::words::{role, Atom, Entry, State, Table, MAX_NEXT};
+use crate::words::{role, Atom, Entry, State, Table};
 
 /// A kind of plant.
 #[derive(Clone, Copy)]
@@ -11,7 +11,7 @@ pub struct Plant {
     pub make: fn(&mut Random, u32, usize) -> (Table, State),
 }
 
-pub const PLANTS: [Plant; 9] = [
+pub const PLANTS: [Plant; 7] = [
     Plant { name: "global", make: global },
     Plant { name: "local", make: |random, rules, n| local(random, rules, n, false) },
     Plant { name: "stopped", make: |random, rules, n| local(random, rules, n, true) },
@@ -19,8 +19,6 @@ pub const PLANTS: [Plant; 9] = [
     Plant { name: "merges", make: merges },
     Plant { name: "commits", make: commits },
     Plant { name: "aborts", make: aborts },
-    Plant { name: "parts", make: parts },
-    Plant { name: "residues", make: residues },
 ];
 
 /// The plant of this name.
@@ -148,50 +146,4 @@ fn aborts(random: &mut Random, rules: u32, n: usize) -> (Table, State) {
     let mut entries: Vec<Entry> = (1..=ids).flat_map(stopped).collect();
     entries.resize(n, Entry::message(0, IDLE, 5));
     (table, shuffled(random, ids + 1, entries))
-}
-
-/// A transaction with messages on these two ports.
-fn with_two(id: u32, ports: [u32; 2]) -> [Entry; 3] {
-    let [first, second] = ports.map(|port| Entry::message(id, port, 5));
-    [Entry::member_mark(id, id), first, second]
-}
-
-/// Every transaction but one has two messages on one port. All rules but the last take two to four, from several ports
-/// or more than two from one: there are enough on each port, and no transaction has all. So each is looked at in vain
-/// at every step, before the last rule takes what the one transaction has and gives it back.
-fn parts(random: &mut Random, rules: u32, n: usize) -> (Table, State) {
-    let ids = n as u32 / 3;
-    // So few that each has four messages.
-    let ports = (n as u32 / 8).min(8);
-    let vain = |_| {
-        let mut takes: Vec<u32> = (0..random.between(2, 4)).map(|_| random.between(1, ports)).collect();
-        if takes.len() == 2 {
-            takes[1] = 1 + takes[0] % ports;
-        }
-        let made = Atom::received(role::EMIT, takes[0], 0);
-        takes.into_iter().map(Atom::consume).chain([made]).collect()
-    };
-    let rules = (1..rules).map(vain).chain(passing(ports + 1, 1, &[ports + 2])).collect();
-    let table = Table { global: 1, local: ports + 2, merge: 0, rules };
-    let waiting = (1..ids).flat_map(|id| with_two(id, [1 + id % ports; 2]));
-    let entries = waiting.chain(with_two(ids, [ports + 1, ports + 2])).collect();
-    (table, shuffled(random, ids + 1, entries))
-}
-
-/// One transaction has a message that goes round and the one that is taken with it. Of the others each second one has
-/// two messages on the first three ports and nothing to take with them, those between have only that. Up to 64 ids have
-/// the same remainder by 1,024, so that by it each of them has all.
-fn residues(random: &mut Random, rules: u32, n: usize) -> (Table, State) {
-    let beside = rules + 1;
-    let table = Table { global: 1, local: rules + 1, merge: 0, rules: passing(1, rules, &[beside]) };
-    let transaction = |number: u32| {
-        let ports = match number {
-            0 => [1, beside],
-            _ if number % 2 == 0 => [beside; 2],
-            _ => [1, 2].map(|least| random.between(least, 3)),
-        };
-        with_two(1_024 * (number % 64) + 1 + number / 64, ports)
-    };
-    let entries = (0..n as u32 / 3).flat_map(transaction).collect();
-    (table, shuffled(random, MAX_NEXT, entries))
 }

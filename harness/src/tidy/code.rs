@@ -7,7 +7,7 @@ const MOST_COLUMNS: usize = 160;
 /// The two passes of the serial log and the function that lends them their arrays, the functions of the list of open
 /// moves that hand a page on, and the moves of an unattended run. `rt fmt` gives each argument of such a call a line, and
 /// the prover lends no struct of references, so they stay long.
-const LENDING: [(&str, &str); 13] = [
+const LENDING: [(&str, &str); 10] = [
     ("crates/choices/src/page.rt", "fill"),
     ("crates/groups/src/pages.rt", "group_page"),
     ("crates/listing/src/list.rt", "listed"),
@@ -17,9 +17,6 @@ const LENDING: [(&str, &str); 13] = [
     ("crates/recording/src/record.rt", "record"),
     ("crates/replay/src/lib.rt", "replay"),
     ("crates/serial/src/lib.rt", "serialized"),
-    ("crates/next_move/src/reactions.rt", "first_by"),
-    ("crates/next_move/src/reactions.rt", "first_reaction"),
-    ("crates/unattended/src/lib.rt", "go_alone"),
     ("crates/unattended/src/walk.rt", "walk"),
 ];
 

@@ -161,7 +161,7 @@ pub struct Alone {
 }
 
 /// Reactions that the model tries in a state at most, where it need not answer.
-const TRIED: u64 = 100_000;
+const TRIED: u64 = 20_000;
 
 impl Alone {
     /// A target that is just long enough.

@@ -9,14 +9,13 @@ use Rattle.offers.specs.ColumnKeys.{columns-keyed}
 use Rattle.first_end.specs.declared.First.{First}
 use Rattle.first_end.specs.First.{first_move}
 use Rattle.first_end.specs.OpenEnds.{open_ends}
-use Rattle.next_move.proofs.Firsts.{found-whole, first-here, first-behind, whole-list}
-use borrow.Author.Rules.{rules}
+use Rattle.next_move.proofs.Firsts.{first-here, first-behind, whole-list}
 use Rattle.next_move.proofs.next_move.Statement.{statement}
 use Rattle.next_move.proofs.next_move.Tie as tie
 
 returns : tie.Need-returns
 returns c =
-    let turn = c.before.before.before.before in
+    let turn = c.before.before.before in
     let s = turn.before.before.before in
     let a = s.args in
     let (e, long) = c.before.before.first-reaction.ensures in
@@ -24,8 +23,7 @@ returns c =
     let xs = reactions_by a.ceiling a.table.now a.at.len a.at.next _ in
     let found : (first_move xs).found ≡ true = sym (ap (λ (x : First). x.found) e) ∙ c.before.if1.true in (
       (λ gs right.
-          c.handed-on.ensures ∙ found-whole c.before.before.first-reaction.result c.before.if1.true ∙ e
-          ∙ first-here xs (open_ends a.ceiling T (state_from a.owners.now a.items.now gs a.at)) found
+          c.handed-on.ensures ∙ e ∙ first-here xs (open_ends a.ceiling T (state_from a.owners.now a.items.now gs a.at)) found
           ∙ sym (ap first_move (whole-list a.table.now s.requires.0.indexed.table a.owners.now a.items.now gs a.at right a.ceiling
           (columns-keyed (sizes_of a.table.now) a.owners.now a.items.now gs a.at (s.requires.0.state.stops gs))))),
       long,
@@ -33,7 +31,7 @@ returns c =
 
 returns-2 : tie.Need-returns-2
 returns-2 c =
-    let turn = c.before.before.before.before in
+    let turn = c.before.before.before in
     let s = turn.before.before.before in
     let a = s.args in
     let (e, long) = c.before.before.first-reaction.ensures in
@@ -43,7 +41,7 @@ returns-2 c =
     let xs = reactions_by a.ceiling a.table.now a.at.len a.at.next _ in
     let none : (first_move xs).found ≡ false = sym (ap (λ (x : First). x.found) e) ∙ c.before.if1.false in (
       (λ gs right.
-          c.first-end.ensures gs T a.ceiling globals s.requires.5
+          c.first-end.ensures gs T a.ceiling globals s.requires.4
           ∙ first-behind xs (open_ends a.ceiling T (state_from a.owners.now a.items.now gs a.at)) none
           ∙ sym (ap first_move (whole-list a.table.now s.requires.0.indexed.table a.owners.now a.items.now gs a.at right a.ceiling
           (columns-keyed (sizes_of a.table.now) a.owners.now a.items.now gs a.at (s.requires.0.state.stops gs))))),
@@ -55,8 +53,8 @@ next-move-spec =
     tie.close
     (tie.spec
     (λ c κs. (well-formed _ c.before.requires.0.indexed.table).sizes.long)
-    (λ c κs. let p = c.before.before.before.before.requires in (p.0, p.1, p.2))
-    (λ c κs. search rules)
+    (λ c κs. let p = c.before.before.before.requires in (p.0, p.1))
+    (λ c κs. c.if1.true)
     returns
-    (λ c κs. let p = c.before.before.before.before.before.before.requires in (p.0.state.columns, p.3, p.4, p.0.state.stops))
+    (λ c κs. let p = c.before.before.before.before.before.requires in (p.0.state.columns, p.2, p.3, p.0.state.stops))
     returns-2)

@@ -18,7 +18,7 @@ use Rattle.unattended.proofs.go_alone.Tie as tie
 
 track-requires : tie.Need-track-requires
 track-requires c κs =
-    let load = c.before.before.before.before.before.before.before.before in
+    let load = c.before.before.before.before.before.before.before in
     let p = load.before.before.before.before.before.before.before.before.before.before.before.requires in
     let loaded = load.load.ensures in
     let table = (ready-indexed p.0).table in (
@@ -32,10 +32,10 @@ track-requires c κs =
 
 walk-requires : tie.Need-walk-requires
 walk-requires c κs =
-    let tracked = c.before.before.before.before.before.before.before.before.before in
+    let tracked = c.before.before.before.before.before.before.before.before in
     let sized = tracked.before.before.before.before.before in
     let wanted = sized.before in
-    let load = wanted.before.before.before in
+    let load = wanted.before.before in
     let p = load.before.before.before.before.before.before.before.before.before.before.before.requires in
     let loaded = load.load.ensures in (
       (ready-indexed p.0, wanted.fill-wants.ensures, p.1, search rules, p.2),
@@ -45,8 +45,8 @@ walk-requires c κs =
 lay-out-requires : tie.Need-lay-out-requires
 lay-out-requires c κs =
     let walked = c.before.before.before.before.before in
-    let tracked = walked.before.before.before.before.before.before.before.before.before.before in
-    let load = tracked.before.before.before.before.before.before.before.before.before in
+    let tracked = walked.before.before.before.before.before.before.before.before.before in
+    let load = tracked.before.before.before.before.before.before.before.before in
     let e = walked.walk.ensures in
     let loaded = load.load.ensures in
     let s = load.before.before.before.before.before.before.before.before.before.before.before in
@@ -59,16 +59,16 @@ lay-out-requires c κs =
 returns : tie.Need-returns
 returns c =
     let walked = c.before.before.before.before.before.before.before.before in
-    let tracked = walked.before.before.before.before.before.before.before.before.before.before in
-    let load = tracked.before.before.before.before.before.before.before.before.before in
+    let tracked = walked.before.before.before.before.before.before.before.before.before in
+    let load = tracked.before.before.before.before.before.before.before.before in
     let a = load.before.before.before.before.before.before.before.before.before.before.before.args in
     left_as a.table.now a.state.now load.load.ensures walked.walk.ensures.0 c.before.before.lay-out.ensures
 
 same_length : tie.Need-same-length
 same_length c =
     let walked = c.before.before.before.before.before.before.before.before in
-    let tracked = walked.before.before.before.before.before.before.before.before.before.before in
-    let load = tracked.before.before.before.before.before.before.before.before.before in
+    let tracked = walked.before.before.before.before.before.before.before.before.before in
+    let load = tracked.before.before.before.before.before.before.before.before in
     let s = load.before.before.before.before.before.before.before.before.before.before.before in
     let a = s.args in
     let left = left_as a.table.now a.state.now load.load.ensures walked.walk.ensures.0 c.before.before.lay-out.ensures in
@@ -81,10 +81,10 @@ go-alone-spec =
     (tie.spec
     (λ c κs. search rules)
     (λ c κs. (loadable _ _ c.before.before.before.before.before.before.before.before.before.before.requires.0.accepted, search rules))
-    (λ c κs. let load = c.before.before in
+    (λ c κs. let load = c.before in
     let p = load.before.before.before.before.before.before.before.before.before.before.before.requires in
-    ((ready-indexed p.0).table, p.0.starts, search rules, zeros-empty))
-    (λ c κs. let load = c.before.before.before in
+    ((ready-indexed p.0).table, p.0.starts, search rules))
+    (λ c κs. let load = c.before.before in
     (well-formed _ (ready-indexed load.before.before.before.before.before.before.before.before.before.before.before.requires.0).table).sizes.long)
     track-requires
     (λ c. search rules)

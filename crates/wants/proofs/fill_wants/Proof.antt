@@ -1,7 +1,7 @@
 -- `fill_wants` meets its contract, rule by rule.
 use Prim.Native.Nat.{ℕ, ◌+◌, ◌-◌, ◌≤◌, ◌<◌}
 use mathlib.Core.List.{List}
-use mathlib.Core.Path.{◌≡◌, sym, ap, ◌∙◌}
+use mathlib.Core.Path.{◌≡◌, ap, ◌∙◌}
 use native.Mathlib.Omega.{arith}
 use lib.ListN.{length, get_or, take, set, length-set}
 use lib.Seq.{get_or-set_same, get_or-set_other}
@@ -13,31 +13,21 @@ use Rattle.wellformed.specs.Tables.{well-formed}
 use Rattle.enabled.specs.Reactions.{consumed-below}
 use Rattle.reaction.specs.Decoded.{rule-in, decodes-itself}
 use Rattle.rule_moves.specs.Takes.{small-ports}
-use Rattle.cover.specs.Rules.{AskedTo, asked-none, asked-next}
 use Rattle.wants.specs.Wants.{WantedWord}
 use borrow.Author.Rules.{rules}
 use Rattle.wants.proofs.fill_wants.Statement.{statement}
 use Rattle.wants.proofs.fill_wants.Tie as tie
 
--- the consumes of each rule
-abbrev consumes : List ℕ → ℕ → List ℕ
-consumes t q = consumed (rule_at (table_of t) q)
-
--- what is filled in for the rules before r
+-- the words of the rules before r
 abbrev Inv : tie.invariant-loop
-Inv table starts wants₀ asks₀ rules r₀ wants asks r =
-    (r ≤ (sizes_of table).rules) × (length wants ≡ 64) × ((q : ℕ) → q < r → WantedWord (consumes table q) (get_or wants q 0)) × AskedTo (consumes table) r asks
+Inv table starts wants₀ rules r₀ wants r =
+    (r ≤ (sizes_of table).rules) × (length wants ≡ 64) × ((q : ℕ) → q < r → WantedWord (consumed (rule_at (table_of table) q)) (get_or wants q 0))
 
 abbrev μ : tie.decreases-loop
-μ table starts wants₀ asks₀ rules r₀ wants asks r = (sizes_of table).rules - r
+μ table starts wants₀ rules r₀ wants r = (sizes_of table).rules - r
 
 below : (c : tie.In-loop Inv μ) → c.before.loop.r < (sizes_of c.before.before.before.before.args.table.now).rules
 below c = rw (← ap (λ z. z.rules) c.before.before.sizes-of.ensures) c.loop-test.true
-
-few : (c : tie.In-loop Inv μ) → c.before.loop.r < 64
-few c =
-    let s = c.before.before.before.before in
-    omega (arith, below c, (well-formed s.args.table.now s.requires.0).sizes.rules)
 
 takes-of-requires : tie.Need-takes-of-requires Inv μ
 takes-of-requires c κs =
@@ -46,16 +36,6 @@ takes-of-requires c κs =
     let d = c.rule-at.ensures in
     (decodes-itself _ _ d, small-ports d (consumed-below s.args.table.now s.requires.0 turn.before.loop.r (below turn)))
 
--- the ports of the rule at which the loop stands
-ports : (c : tie.After-takes-of Inv μ)
-    → take c.before.rule-at.result.consumes c.Takes-of.result
-    ≡ consumes c.before.before.before.before.before.before.args.table.now c.before.before.before.loop.r
-ports c =
-    let s = c.before.before.before.before.before.before in
-    let l = c.before.before.before.loop in
-    c.Takes-of.ensures.0
-    ∙ ap consumed (rule-in c.before.rule-at.result (rule_at (table_of s.args.table.now) l.r) c.before.rule-at.ensures)
-
 -- one rule more
 next : (f : ℕ → List ℕ) (wants : List ℕ) (r w : ℕ) → r < length wants → ((q : ℕ) → q < r → WantedWord (f q) (get_or wants q 0)) → WantedWord (f r) w
     → (q : ℕ) → q < r + 1 → WantedWord (f q) (get_or (set wants r w) q 0)
@@ -63,39 +43,33 @@ next f wants r w low all here q l = by_bool (eqb q r)
     (λ e. let p = eqb-true q r e in rw (p, get_or-set_same wants r w 0 low) here)
     (λ e. let p = eqb-false q r e in rw (get_or-set_other wants r q w 0 p) (all q (omega arith)))
 
-ask-requires : tie.Need-ask-requires Inv μ
-ask-requires c κs =
-    let taken = c.before.before in
-    let turn = taken.before.before in
-    (taken.before.rule-at.ensures.legal.most, few turn, taken.Takes-of.ensures.1, turn.before.loop.invariant.3.size)
+few : (c : tie.In-loop Inv μ) → c.before.loop.r < 64
+few c =
+    let s = c.before.before.before.before in
+    omega (arith, below c, (well-formed s.args.table.now s.requires.0).sizes.rules)
 
 loop-again : tie.Need-loop-preserved Inv μ
 loop-again c =
-    let wanted = c.before.before in
-    let taken = wanted.before in
-    let turn = taken.before.before in
+    let turn = c.before.before.before in
     let loop = turn.before.loop in
     let s = turn.before.before.before.before in
-    let t = s.args.table.now in
-    let d = taken.before.rule-at.ensures in
-    let word = rw (ports taken) at wanted.wants-of.ensures in
-    let asked = rw (ports taken) at c.ask.ensures in
-    let count : length (consumes t loop.r) ≡ taken.before.rule-at.result.consumes = sym d.consumes in (
+    let d = c.before.before.rule-at.ensures in
+    let rule = c.before.before.rule-at.result in
+    let ports : take rule.consumes c.before.Takes-of.result ≡ consumed (rule_at (table_of s.args.table.now) loop.r) =
+    c.before.Takes-of.ensures.0 ∙ ap consumed (rule-in rule (rule_at (table_of s.args.table.now) loop.r) d) in
+    let word = c.wants-of.ensures in (
       omega (arith, below turn),
-      length-set loop.wants loop.r wanted.wants-of.result ∙ loop.invariant.1,
-      next (consumes t) loop.wants loop.r wanted.wants-of.result (omega (arith, few turn, loop.invariant.1)) loop.invariant.2 word,
-      asked-next loop.invariant.3 (few turn) (omega (arith, count, d.legal.some)) (omega (arith, count, d.legal.most))
-          (consumed-below t s.requires.0 loop.r (below turn)) asked,
+      length-set loop.wants loop.r c.wants-of.result ∙ loop.invariant.1,
+      next (λ q. consumed (rule_at (table_of s.args.table.now) q)) loop.wants loop.r c.wants-of.result (omega
+          (arith, few turn, loop.invariant.1)) loop.invariant.2 (rw ports at word),
     )
 
 returns : tie.Need-returns Inv μ
 returns c =
     let loop = c.before.loop in
     let s = c.before.before.before.before in
-    let e = ap (λ z. z.rules) c.before.before.sizes-of.ensures in (
-      record { size = loop.invariant.1; each = λ r l. loop.invariant.2 r (omega (arith, c.loop-test.false, e)) },
-      record { size = loop.invariant.3.size; each = λ r l. loop.invariant.3.each r (omega (arith, c.loop-test.false, e)) },
-    )
+    let e = ap (λ z. z.rules) c.before.before.sizes-of.ensures in
+    record { size = loop.invariant.1; each = λ r l. loop.invariant.2 r (omega (arith, c.loop-test.false, e)) }
 
 pub fill-wants-spec : {M : Type 1} → statement M
 fill-wants-spec =
@@ -104,15 +78,14 @@ fill-wants-spec =
     Inv
     μ
     (λ c κs. (well-formed _ c.before.requires.0).sizes.long)
-    (λ c. (omega arith, search rules, (λ q l. absurd (omega arith)), asked-none c.before.before.requires.3))
+    (λ c. (omega arith, search rules, λ q l. absurd (omega arith)))
     (λ c κs. (c.before.before.before.before.requires.0, below c, c.before.before.before.before.requires.1))
     takes-of-requires
     (λ c κs. (c.before.rule-at.ensures.legal.most, c.Takes-of.ensures.1))
+    (λ c. search rules)
     (λ c. omega (arith, few c.before.before.before))
     (λ c. omega (arith, few c.before.before.before, c.before.before.before.before.loop.invariant.1))
     (λ c. omega (arith, few c.before.before.before))
-    ask-requires
-    (λ c. omega (arith, below c.before.before.before.before.before))
-    (λ c. omega (arith, below c.before.before.before.before.before))
+    (λ c. omega (arith, below c.before.before.before))
     loop-again
     returns)

@@ -1,29 +1,38 @@
 -- `choose_counted`: where the counts of its group rule it out there is no choice.
-use mathlib.Core.Path.{sym, ap, ◌∙◌}
+use Prim.Native.Nat.{◌%◌, ◌<◌}
+use mathlib.Core.Path.{◌≡◌, sym, ap, ◌∙◌}
 use mathlib.Core.List.{List}
 use native.Mathlib.Omega.{arith}
 use borrow.Author.Rules.{rules}
-use lib.ListN.{get_or}
+use borrow.Author.Tests.{eqb-true}
+use lib.ListN.{length, get_or, take}
+use lib.Seq.{get_or-take}
 use Rattle.groups.specs.Left.{grouped-sized}
 use Rattle.first_choice.specs.Choice.{first_choice}
-use Rattle.first_choice.proofs.Buckets.{counted-out}
+use Rattle.first_choice.proofs.Buckets.{ruled_out}
 use Rattle.first_choice.proofs.grouped.choose_counted.Statement.{statement}
 use Rattle.first_choice.proofs.grouped.choose_counted.Tie as tie
 
 returns : tie.Need-returns
 returns c =
     let s = c.before.before.before.before in
-    let (b, ((r, h), (l, fits))) = s.requires in
-    let zero = sym (ap (λ (xs : List _). get_or xs 0 0) c.before.widths-in.ensures) ∙ c.if1.true in
-    ap first_choice (sym (counted-out b r h s.args.p l fits zero))
+    let a = s.args in
+    let b = s.requires.0 in
+    let q = s.requires.1.1 in
+    let ks = take a.n a.keys.now in
+    let low : a.p < length ks = omega (arith, b.grouped.size, q.0) in
+    let own : get_or ks a.p 0 ≡ get_or a.keys.now a.p 0 = get_or-take a.n a.keys.now a.p 0 q.0 in
+    let on : get_or ks a.p 0 % 512 ≡ get_or a.takes.now 0 0 = eqb-true _ _ (b.grouped.first a.p q.0 ∙ q.1) in
+    let zero = sym (ap (λ (l : List _). get_or l 0 0) c.before.widths-in.ensures) ∙ c.if1.true in
+    ap first_choice (sym (ruled_out ks a.takes.now b.four a.k b.some b.most b.low s.requires.1.0 a.p low on (rw own zero)))
 
 pub choose-counted-spec : {M : Type 1} → statement M
 choose-counted-spec =
     tie.close
     (tie.spec
     (λ c. let p = c.before.requires in omega (arith, p.1.1.0, p.0.columns.fits))
-    (λ c. let p = c.before.requires in omega (arith, p.1.1.0, p.0.columns.fits, p.1.0.0.below.size))
-    (λ c κs. let (_, ((r, h), (l, _))) = c.before.before.requires in (grouped-sized h, r.below.below _ l))
+    (λ c. let p = c.before.requires in omega (arith, p.1.1.0, p.0.columns.fits, p.0.long))
+    (λ c κs. (grouped-sized c.before.before.requires.1.0, omega arith))
     (λ c. search rules)
     returns
     (λ c κs. let s = c.before.before.before.before in let b = s.requires.0 in (b.columns, b.some, b.most, s.requires.1.1.0, b.four, s.requires.1.1.1))

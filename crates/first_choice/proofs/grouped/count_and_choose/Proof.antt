@@ -1,25 +1,40 @@
--- `count_and_choose`: the keys that are counted are those looked at, with their groups numbered anew.
+-- `count_and_choose`: the keys that are counted are those looked at, with their groups modulo 1,024.
+use Prim.Native.Nat.{◌≤◌}
+use native.Mathlib.Omega.{arith}
 use borrow.Author.Rules.{rules}
+use lib.ListN.{length}
 use Rattle.lists.specs.Padded.{get_or-replicate-any}
+use Rattle.first_choice.proofs.Buckets.{lows-below, lows-first}
 use Rattle.first_choice.proofs.grouped.count_and_choose.Statement.{statement}
 use Rattle.first_choice.proofs.grouped.count_and_choose.Tie as tie
 
+long : (c : tie.Start) → c.args.n ≤ length c.args.keys.now
+long c = omega (arith, c.requires.0.columns.fits, c.requires.0.long)
+
 count-groups-requires : tie.Need-count-groups-requires
 count-groups-requires c κs =
-    let p = c.before.before.before.before.before.requires in
-    let b = p.0 in
-    ((p.2.below, b.low 0, b.low 1, b.low 2, b.low 3), (search rules, λ g. get_or-replicate-any 1024 g 0))
+    let made = c.before.before.before.before.before.before in
+    let s = made.before in
+    let a = s.args in
+    let b = s.requires.0 in (
+      (rw made.low-keys.ensures (lows-below a.keys.now a.n b.columns.fits (long s)), b.low 0, b.low 1, b.low 2, b.low 3),
+      (search rules, λ g. get_or-replicate-any 1024 g 0),
+    )
 
 first-counted-requires : tie.Need-first-counted-requires
 first-counted-requires c κs =
-    let counted = c.before in
-    let p = counted.before.before.before.before.before.before.requires in
-    ((p.0, p.1), (p.2, counted.count-groups.ensures.0))
+    let made = c.before.before.before.before.before.before.before.before in
+    let s = made.before in
+    let a = s.args in
+    let lows = made.low-keys.ensures in
+    let g = rw (lows, lows-first a.keys.now a.n s.requires.0.columns.fits (long s)) at c.before.count-groups.ensures.0 in
+    (s.requires, g)
 
 pub count-and-choose-spec : {M : Type 1} → statement M
 count-and-choose-spec =
     tie.close
     (tie.spec
+    (λ c κs. (c.requires.0.columns.fits, c.requires.0.long))
     (λ c. search rules)
     (λ c. search rules)
     (λ c. search rules)

@@ -10,11 +10,11 @@ use Rattle.first_choice.proofs.grouped.first_counted.Statement.{statement}
 use Rattle.first_choice.proofs.grouped.first_counted.Tie as tie
 
 abbrev Inv : tie.invariant-loop
-Inv owners items n stopped keys takes k lows counts from p₀ p =
+Inv owners items n stopped keys takes k counts from p₀ p =
     Standing owners items stopped takes n k (take n keys) (first_choice (begin_from (take n keys) (get_or takes 0 0) (drop 1 (take k takes)) from)) p
 
 abbrev μ : tie.decreases-loop
-μ owners items n stopped keys takes k lows counts from p₀ p = n - p
+μ owners items n stopped keys takes k counts from p₀ p = n - p
 
 abbrev start : tie.In-loop Inv μ → tie.Start Inv μ
 start turn = turn.before.before.before.before

@@ -15,25 +15,19 @@ returns c =
     let a = s.args in
     let w = words-consumed a.z a.ws.now s.requires.0 c.before.before.before.consumes-of.ensures in
     let room = room-is a.z a.ws.now w a.ceiling a.at.len a.at.next in
-    rule-shut a.r _ (room ∙ sym c.before.before.has_room.ensures ∙ not-true _ c.before.if1.true) c.missed.ensures
-
-choice-by-requires : tie.Need-choice-by-requires
-choice-by-requires c κs =
-    let s = c.before.before.before.before in
-    let p = s.requires in
-    let w = words-consumed s.args.z s.args.ws.now p.0 c.before.before.consumes-of.ensures in
-    (w, p.1, p.2.columns, p.2.narrow, p.3, p.5, p.6, p.7)
+    (c.none.ensures ∙ rule-shut a.r _ (room ∙ sym c.before.before.has_room.ensures ∙ not-true _ c.before.if1.true), s.requires.3)
 
 returns-2 : tie.Need-returns-2
 returns-2 c =
-    let tried = c.before in
-    let s = tried.before.before.before.before.before in
+    let s = c.before.before.before.before.before.before.before in
     let a = s.args in
-    let w = words-consumed a.z a.ws.now s.requires.0 tried.before.before.before.consumes-of.ensures in
+    let w = words-consumed a.z a.ws.now s.requires.0 c.before.before.before.before.before.consumes-of.ensures in
     let room = room-is a.z a.ws.now w a.ceiling a.at.len a.at.next in
-    let cs = choices_of (rule_of a.z a.ws.now) (column_keys a.z a.stopped.now a.owners.now a.items.now a.at.len) in
-    rule-open a.r cs (room ∙ sym tried.before.before.has_room.ensures ∙ not-false _ tried.before.if1.false)
-    (c.reaction-by.ensures _ cs tried.choice-by.ensures)
+    let cs = choices_of (rule_of a.z a.ws.now) (column_keys a.z a.stopped.now a.owners.now a.items.now a.at.len) in (
+      rule-open a.r cs (room ∙ sym c.before.before.before.before.has_room.ensures ∙ not-false _ c.before.before.before.if1.false)
+          (c.reaction-by.ensures cs c.before.choice-by.ensures.0),
+      c.before.choice-by.ensures.1,
+    )
 
 pub first-by-spec : {M : Type 1} → statement M
 first-by-spec =
@@ -43,9 +37,11 @@ first-by-spec =
     (λ c κs.
     let s = c.before.before in
     let w = words-consumed s.args.z s.args.ws.now s.requires.0 c.consumes-of.ensures in
-    (w.most, s.requires.0.few, s.requires.2.columns.fits, s.requires.4))
+    (w.most, s.requires.0.few, s.requires.2.columns.fits, s.requires.5))
     (λ c κs. search rules)
     returns
-    choice-by-requires
-    (λ c κs. (c.before.before.before.before.before.requires.3, c.choice-by.ensures.none))
+    (λ c κs.
+    let s = c.before.before.before.before.before in
+    (words-consumed s.args.z s.args.ws.now s.requires.0 c.before.before.before.consumes-of.ensures, s.requires.1, s.requires.2, s.requires.3))
+    (λ c κs. c.before.before.before.before.before.before.requires.4)
     returns-2)

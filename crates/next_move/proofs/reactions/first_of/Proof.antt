@@ -1,47 +1,85 @@
--- `first_of` is the first reaction by the rule of a number.
+-- `first_of` is the first reaction by the rule of a number: a rule that lacks messages has none.
+use Prim.Native.Nat.{ℕ}
+use mathlib.Core.List.{List, []}
+use mathlib.Core.Path.{sym, ap, ◌∙◌}
 use native.Mathlib.Omega.{arith}
+use lib.ListN.{get_or}
+use Rattle.semantics.specs.Table.{sizes_of, table_of, rule_at}
+use Rattle.semantics.specs.declared.Sizes.{Sizes}
 use Rattle.wellformed.specs.Tables.{well-formed}
 use Rattle.enabled.specs.Reactions.{consumed-ports}
 use Rattle.rules.specs.RuleWords.{rule-within, cut_fits, cut-rule}
+use Rattle.rule_moves.specs.Takes.{has_room_for, moves_by}
+use Rattle.offers.specs.Offers.{column_keys}
+use Rattle.offers.specs.ColumnKeys.{supply-keys}
+use Rattle.wants.specs.Wants.{lacking-none}
+use Rattle.first_end.specs.First.{first_move}
+use Rattle.next_move.proofs.Firsts.{rule-lacks}
+use borrow.Author.Rules.{rules}
 use Rattle.next_move.proofs.reactions.first_of.Statement.{statement}
 use Rattle.next_move.proofs.reactions.first_of.Tie as tie
 
-first-by-requires : tie.Need-first-by-requires
-first-by-requires c κs =
+returns : tie.Need-returns
+returns c =
     let s = c.before.before.before.before in
     let a = s.args in
     let p = s.requires.0 in
-    let few = (well-formed a.table.now p.table).sizes.rules in
-    let words = c.before.atom-words-of.ensures in
-    let sizes = c.before.before.sizes-of.ensures in
-    let cut = c.rule-words.ensures in
-    let same = cut-rule a.table.now a.starts.now a.r p.table s.requires.2 p.starts words sizes cut in (
-      cut_fits a.table.now a.starts.now a.r p.table s.requires.2 p.starts words sizes cut,
-      rw (same, sizes) (consumed-ports a.table.now p.table a.r s.requires.2),
-      rw sizes s.requires.1,
-      omega (arith, s.requires.2, few),
-      s.requires.3,
-      s.requires.4.size,
-      rw (same, sizes) (s.requires.4.each a.r s.requires.2),
-      rw sizes s.requires.5,
+    let z = sizes_of a.table.now in
+    let R = rule_at (table_of a.table.now) a.r in
+    let ks = column_keys z a.stopped.now a.owners.now a.items.now a.at.len in
+    let counts = supply-keys z a.owners.now a.items.now [] a.at (p.state.stops []) (p.supply []) in (
+      c.none.ensures
+          ∙ rule-lacks a.r (has_room_for a.ceiling R a.at.len a.at.next)
+          (lacking-none ks a.totals.now counts R (get_or a.wants.now a.r 0) (p.wants-are.each a.r s.requires.1)
+          (sym c.before.before.lacks.ensures ∙ c.before.if1.true)),
+      s.requires.2,
     )
 
-returns : tie.Need-returns
-returns c =
-    let s = c.before.before.before.before.before in
+returns-2 : tie.Need-returns-2
+returns-2 c =
+    let s = c.before.before.before.before.before.before.before.before in
     let a = s.args in
-    let p = s.requires.0 in
+    let p = s.requires.0.indexed in
+    let R = rule_at (table_of a.table.now) a.r in
+    let sized = c.before.before.before.before.sizes-of in
+    let ks : Sizes → List ℕ = λ z. column_keys z a.stopped.now a.owners.now a.items.now a.at.len in
+    let same = cut-rule a.table.now a.starts.now a.r p.table s.requires.1 p.starts c.before.before.before.atom-words-of.ensures
+    sized.ensures c.before.before.rule-words.ensures in (
+      c.first_by.ensures.0
+          ∙ ap (λ R. first_move (moves_by a.ceiling R a.r a.at.len a.at.next (ks sized.result))) same
+          ∙ ap (λ z. first_move (moves_by a.ceiling R a.r a.at.len a.at.next (ks z))) sized.ensures,
+      c.first_by.ensures.1,
+    )
+
+first-by-requires : tie.Need-first-by-requires
+first-by-requires c κs =
+    let s = c.before.before.before.before.before.before.before in
+    let a = s.args in
+    let p = s.requires.0.indexed in
+    let few = (well-formed a.table.now p.table).sizes.rules in
+    let words = c.before.before.atom-words-of.ensures in
     let sizes = c.before.before.before.sizes-of.ensures in
-    let same = cut-rule a.table.now a.starts.now a.r p.table s.requires.2 p.starts c.before.before.atom-words-of.ensures sizes
-    c.before.rule-words.ensures in
-    rw (same, sizes) at c.first_by.ensures
+    let cut = c.before.rule-words.ensures in
+    let same = cut-rule a.table.now a.starts.now a.r p.table s.requires.1 p.starts words sizes cut in (
+      cut_fits a.table.now a.starts.now a.r p.table s.requires.1 p.starts words sizes cut,
+      rw (same, sizes) (consumed-ports a.table.now p.table a.r s.requires.1),
+      rw sizes s.requires.0.state,
+      s.requires.2,
+      omega (arith, s.requires.1, few),
+      s.requires.0.limit,
+    )
 
 pub first-of-spec : {M : Type 1} → statement M
 first-of-spec =
     tie.close
     (tie.spec
-    (λ c κs. (well-formed _ c.before.requires.0.table).sizes.long)
-    (λ c κs. (well-formed _ c.before.before.requires.0.table).sizes)
-    (λ c κs. let p = c.before.before.before.requires in rule-within _ _ _ p.0.table p.2 p.0.starts c.atom-words-of.ensures)
+    (λ c κs. let p = c.before.requires in
+    (omega (arith, p.1, (well-formed c.before.args.table.now p.0.indexed.table).sizes.rules), p.0.wants-are.size, (p.0.supply []).size))
+    (λ c κs. search rules)
+    returns
+    (λ c κs. let p = c.before.before.before.requires in (well-formed _ p.0.indexed.table).sizes.long)
+    (λ c κs. let p = c.before.before.before.before.requires in (well-formed _ p.0.indexed.table).sizes)
+    (λ c κs. let p = c.before.before.before.before.before.requires in
+    rule-within _ _ _ p.0.indexed.table p.1 p.0.indexed.starts c.atom-words-of.ensures)
     first-by-requires
-    returns)
+    returns-2)

@@ -22,15 +22,15 @@ use Rattle.unattended.proofs.walk.walk.Statement.{statement}
 use Rattle.unattended.proofs.walk.walk.Tie as tie
 
 abbrev Inv : tie.invariant-loop
-Inv table starts wants asks owners₀ items₀ origins₀ budget ceiling stopped₀ totals₀ picks₀ target₀ keys₀ lows₀ left₀ i₀ owners items origins stopped totals
-    picks target keys lows left i =
+Inv table starts wants owners₀ items₀ origins₀ budget ceiling stopped₀ totals₀ picks₀ target₀ keys₀ left₀ i₀ owners items origins stopped totals picks target
+    keys left i =
     Running ceiling (table_of table) budget (state_in (held owners₀ items₀ origins₀ left₀)) i (state_in (held owners items origins left)) picks target₀ target
     × Workable (held owners items origins left) ceiling × Held (sizes_of table) (state_in (held owners items origins left))
-    × ((length keys ≡ 1024) × (length lows ≡ 1024)) × (length picks ≡ length picks₀) × TrackedIn (sizes_of table) owners items left stopped totals
+    × (length keys ≡ 1024) × (length picks ≡ length picks₀) × TrackedIn (sizes_of table) owners items left stopped totals
 
 abbrev μ : tie.decreases-loop
-μ table starts wants asks owners₀ items₀ origins₀ budget ceiling stopped₀ totals₀ picks₀ target₀ keys₀ lows₀ left₀ i₀ owners items origins stopped totals
-    picks target keys lows left i = budget - i
+μ table starts wants owners₀ items₀ origins₀ budget ceiling stopped₀ totals₀ picks₀ target₀ keys₀ left₀ i₀ owners items origins stopped totals picks target keys
+    left i = budget - i
 
 loop-holds : tie.Need-loop-init Inv μ
 loop-holds c =
@@ -40,7 +40,7 @@ loop-holds c =
       running-start a.ceiling (table_of a.table.now) a.budget start a.picks.now a.target.now,
       s.requires.1.0,
       s.requires.1.1,
-      (search rules, search rules),
+      search rules,
       refl,
       s.requires.1.2,
     )
@@ -48,15 +48,15 @@ loop-holds c =
 -- the search in a turn of the loop
 next-move-requires : tie.Need-next-move-requires Inv μ
 next-move-requires c κs =
-    let l = c.before.before.before.before.before.before.before.loop in
-    let s = c.before.before.before.before.before.before.before.before.before.before.before in
+    let l = c.before.before.before.before.before.before.loop in
+    let s = c.before.before.before.before.before.before.before.before.before.before in
     searchable l.owners l.items l.origins l.at s.args.ceiling l.invariant.1 l.invariant.2 s.requires.0.0 s.requires.0.1 refl l.invariant.5 l.invariant.3
 
 returns : tie.Need-returns Inv μ
 returns c =
     let turn = c.before.before in
-    let l = turn.before.before.before.before.before.before.before.before.loop in
-    let s = turn.before.before.before.before.before.before.before.before.before.before.before.before in
+    let l = turn.before.before.before.before.before.before.before.loop in
+    let s = turn.before.before.before.before.before.before.before.before.before.before.before in
     let a = s.args in
     let T = table_of a.table.now in
     let now = state_in (held l.owners l.items l.origins l.at) in
@@ -72,9 +72,9 @@ loop-again c =
     let noted = c.before.before.before.before.before.before.before.before.before.before.before in
     let turn-if = noted.before.before.before.before in
     let turn = noted.before.before.before.before.before.before in
-    let l = turn.before.before.before.before.before.before.before.before.loop in
-    let test = turn.before.before.before.before.before.before.before.loop-test.true in
-    let s = turn.before.before.before.before.before.before.before.before.before.before.before.before in
+    let l = turn.before.before.before.before.before.before.before.loop in
+    let test = turn.before.before.before.before.before.before.loop-test.true in
+    let s = turn.before.before.before.before.before.before.before.before.before.before.before in
     let a = s.args in
     let T = table_of a.table.now in
     let now = state_in (held l.owners l.items l.origins l.at) in
@@ -92,9 +92,9 @@ loop-again c =
 note-requires : tie.Need-note-requires Inv μ
 note-requires c κs =
     let turn = c.before.before.before.before.before in
-    let l = turn.before.before.before.before.before.before.before.before.loop in
-    let test = turn.before.before.before.before.before.before.before.loop-test.true in
-    let s = turn.before.before.before.before.before.before.before.before.before.before.before.before in
+    let l = turn.before.before.before.before.before.before.before.loop in
+    let test = turn.before.before.before.before.before.before.loop-test.true in
+    let s = turn.before.before.before.before.before.before.before.before.before.before.before in
     let p = s.requires.0 in
     let size = running-length _ _ _ _ l.invariant.0 in
     (omega (arith, test, p.2), omega (arith, test, p.3, l.invariant.4), omega (arith, test, p.4, size))
@@ -104,9 +104,9 @@ make-tracked-requires c κs =
     let note = c.before.before.before.before.before.before.before.before.before in
     let turn-if = note.before.before.before.before in
     let turn = turn-if.before.before in
-    let l = turn.before.before.before.before.before.before.before.before.loop in
-    let test = turn.before.before.before.before.before.before.before.loop-test.true in
-    let s = turn.before.before.before.before.before.before.before.before.before.before.before.before in
+    let l = turn.before.before.before.before.before.before.before.loop in
+    let test = turn.before.before.before.before.before.before.loop-test.true in
+    let s = turn.before.before.before.before.before.before.before.before.before.before.before in
     let a = s.args in
     let T = table_of a.table.now in
     let now = state_in (held l.owners l.items l.origins l.at) in
@@ -125,21 +125,21 @@ make-tracked-requires c κs =
 
 next-move-requires-2 : tie.Need-next-move-requires-2 Inv μ
 next-move-requires-2 c κs =
-    let l = c.before.before.before.before.before.before.before.loop in
-    let s = c.before.before.before.before.before.before.before.before.before.before.before in
+    let l = c.before.before.before.before.before.before.loop in
+    let s = c.before.before.before.before.before.before.before.before.before.before in
     searchable l.owners l.items l.origins l.at s.args.ceiling l.invariant.1 l.invariant.2 s.requires.0.0 s.requires.0.1 refl l.invariant.5 l.invariant.3
 
 returns-2 : tie.Need-returns-2 Inv μ
 returns-2 c =
     let turn = c.before in
-    let l = turn.before.before.before.before.before.before.before.before.loop in
-    let s = turn.before.before.before.before.before.before.before.before.before.before.before.before in
+    let l = turn.before.before.before.before.before.before.before.loop in
+    let s = turn.before.before.before.before.before.before.before.before.before.before.before in
     let a = s.args in
     let T = table_of a.table.now in
     let now = state_in (held l.owners l.items l.origins l.at) in
     let start = state_in (held a.owners.now a.items.now a.origins.now a.start) in
     let f = searched l.owners l.items l.origins l.at a.ceiling l.invariant.1 l.invariant.2 T turn.next-move2.ensures.0 in
-    let none : a.budget - l.i ≡ 0 = omega (arith, turn.before.before.before.before.before.before.before.loop-test.false) in
+    let none : a.budget - l.i ≡ 0 = omega (arith, turn.before.before.before.before.before.before.loop-test.false) in
     let (made, same) = spent-made a.ceiling T a.budget start l.i (a.budget - l.i) now none in
     (running-done a.ceiling T a.budget start l.invariant.0 made same (still-found a.ceiling T now f), l.invariant.4)
 
@@ -151,18 +151,18 @@ walk-spec =
     μ
     loop-holds
     next-move-requires
-    (λ c. c.before.before.before.before.before.before.before.before.before.before.loop.invariant.4)
-    (λ c. running-length _ _ _ _ c.before.before.before.before.before.before.before.before.before.before.loop.invariant.0)
+    (λ c. c.before.before.before.before.before.before.before.before.before.loop.invariant.4)
+    (λ c. running-length _ _ _ _ c.before.before.before.before.before.before.before.before.before.loop.invariant.0)
     returns
     note-requires
     make-tracked-requires
     (λ c. let noted = c.before.before.before.before.before.before.before.before.before.before.before in
-    let turn = noted.before.before.before.before.before.before.before.before.before.before.before.before.before in
+    let turn = noted.before.before.before.before.before.before.before.before.before.before.before.before in
     omega (arith, turn.loop-test.true, turn.before.before.before.before.before.requires.0.2))
     (λ c. let noted = c.before.before.before.before.before.before.before.before.before.before.before in
-    omega (arith, noted.before.before.before.before.before.before.before.before.before.before.before.before.before.loop-test.true))
+    omega (arith, noted.before.before.before.before.before.before.before.before.before.before.before.before.loop-test.true))
     loop-again
     next-move-requires-2
-    (λ c. c.before.before.before.before.before.before.before.before.before.loop.invariant.4)
-    (λ c. running-length _ _ _ _ c.before.before.before.before.before.before.before.before.before.loop.invariant.0)
+    (λ c. c.before.before.before.before.before.before.before.before.loop.invariant.4)
+    (λ c. running-length _ _ _ _ c.before.before.before.before.before.before.before.before.loop.invariant.0)
     returns-2)

@@ -1,4 +1,0 @@
-pub mod Cover
-pub mod Rules
-pub mod Serving
-pub mod Choices

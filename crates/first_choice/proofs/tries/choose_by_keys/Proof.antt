@@ -1,0 +1,33 @@
+-- `choose_by_keys`: the keys made are those of the columns.
+use Rattle.first_choice.proofs.Fits.{groupable-keys}
+use Rattle.first_choice.proofs.tries.choose_by_keys.Statement.{statement}
+use Rattle.first_choice.proofs.tries.choose_by_keys.Tie as tie
+
+keys-by-marks-requires : tie.Need-keys-by-marks-requires
+keys-by-marks-requires c κs =
+    let p = c.before.requires in
+    let g = p.0 in
+    ((g.columns, g.few-ports, p.2, g.looked, g.unmarked), g.stops)
+
+count-and-choose-requires : tie.Need-count-and-choose-requires
+count-and-choose-requires c κs =
+    let s = c.before.before.before in
+    let g = s.requires.0 in
+    let made = c.before.keys-by-marks.ensures in (
+      record {
+        columns = g.columns;
+        long = made.1.0;
+        four = g.four;
+        some = g.some;
+        most = g.most;
+        low = g.low;
+        grouped = rw made.0 (groupable-keys g);
+      },
+      s.requires.1,
+    )
+
+returns : tie.Need-returns
+returns c = let made = c.before.before.keys-by-marks.ensures in (rw made.0 at c.count-and-choose.ensures, made.1.0)
+
+pub choose-by-keys-spec : {M : Type 1} → statement M
+choose-by-keys-spec = tie.close (tie.spec keys-by-marks-requires count-and-choose-requires returns)

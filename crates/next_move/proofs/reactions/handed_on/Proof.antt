@@ -1,0 +1,13 @@
+-- `handed_on` gives what it was handed.
+use mathlib.Core.Path.{sym, ap}
+use Rattle.first_end.specs.declared.First.{First}
+use Rattle.next_move.proofs.reactions.handed_on.Statement.{statement}
+use Rattle.next_move.proofs.reactions.handed_on.Tie as tie
+
+returns : tie.Need-returns
+returns c =
+    let s = c.before.before in
+    ap {B = First} (λ b. record { found = b; mv = s.args.first.mv }) (sym s.requires)
+
+pub handed_on-spec : {M : Type 1} → statement M
+handed_on-spec = tie.close (tie.spec returns)

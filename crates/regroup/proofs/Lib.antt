@@ -1,4 +1,0 @@
-pub mod Spans
-pub mod Numbering
-pub mod Placing
-pub mod Foremost
