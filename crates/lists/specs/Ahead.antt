@@ -41,7 +41,7 @@ module _ {A : Type 0} where
       ahead-done l = ap f (sym (t.none i l)) ∙ a.so_far
 
   -- ---- a loop that tests each element
-  module _ {p : A → Bool} {at : ℕ → A} {rest : ℕ → List A} {n : ℕ} (t : Tails at rest n) {i : ℕ} {goal : Bool} (a : Ahead rest n (all p) i goal) where
+  module _ (p : A → Bool) {at : ℕ → A} {rest : ℕ → List A} {n : ℕ} (t : Tails at rest n) {i : ℕ} {goal : Bool} (a : Ahead rest n (all p) i goal) where
     pub each-fails : i < n → p (at i) ≡ false → false ≡ goal
     each-fails l e = ahead-here t a l false (λ xs. false-and (all p xs) e)
 

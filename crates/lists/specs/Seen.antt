@@ -17,7 +17,8 @@ unseen p (m ∷ ms) = not (p m) && unseen (λ u. eqb u m || p u) ms
 
 pub unseen-ext : {p q : ℕ → Bool} → ((u : ℕ) → p u ≡ q u) → (ms : List ℕ) → unseen p ms ≡ unseen q ms
 unseen-ext e [] = refl
-unseen-ext e (m ∷ ms) = rw (e m, unseen-ext (λ u. ap (λ b. eqb u m || b) (e u)) ms)
+unseen-ext {p = p} {q = q} e (m ∷ ms) =
+    rw (e m, unseen-ext {p = λ x. eqb x m || p x} {q = λ x. eqb x m || q x} (λ u. ap (λ b. eqb u m || b) (e u)) ms)
 
 sort-out : (a b c d : Bool) → not (a || b) && (not c && d) ≡ not (a || c) && (not b && d)
 sort-out true b c d = refl

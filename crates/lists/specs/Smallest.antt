@@ -1,6 +1,6 @@
 -- The smallest of a list of numbers: it is one of them and none is below it.
 use Rattle.std.specs.Prelude.{ℕ, min, ◌≤◌, Bool, true, ◌&&◌, List, [], ◌∷◌, ◌⊎◌, ◌≡◌, refl, leb, eqb}
-use Rattle.std.proofs.Common.{inl, inr, arith, leb-true, leb-false, eqb-true}
+use Rattle.std.proofs.Common.{inl, inr, sym, subst, arith, leb-true, leb-false, eqb-true}
 use Rattle.lists.specs.Lists.{all, least}
 use Rattle.lists.specs.Choices.{by_bool, and_right}
 use Rattle.lists.specs.Members.{Among, all-each}
@@ -16,7 +16,7 @@ least-among n (m ∷ ms) = go (min_cases n (least (m ∷ ms))) (least-among m ms
     go : (min n (least (m ∷ ms)) ≡ n) ⊎ (min n (least (m ∷ ms)) ≡ least (m ∷ ms)) → Among (least (m ∷ ms)) (m ∷ ms)
         → Among (min n (least (m ∷ ms))) (n ∷ m ∷ ms)
     go (inl e) k = inl e
-    go (inr e) k = rw e (inr k)
+    go (inr e) k = subst (λ (x : ℕ). Among x (n ∷ m ∷ ms)) (sym e) (inr k)
 
 pub least-le : (ns : List ℕ) (n : ℕ) → Among n ns → least ns ≤ n
 least-le [] n m = absurd m
