@@ -166,7 +166,7 @@ module _ (t : Table) (right : TableRight t) (ne : begins_emit t ≡ false) (s : 
       go : (us : List Deed) × (u : Deed) × (vs : List Deed) × (ds ≡ us ++ u ∷ vs) × (map act_of us ≡ xs) × (act_of u ≡ x) × (map act_of vs ≡ ys)
           → (count_if (ends_member_of x) (acts t 0 s ms) ≡ 1) × (count_if (ends_member_of x) ys ≡ 1)
       go (us, u, vs, p, a, b, c) =
-          let r = one-block-of t sd (view e) us (view s) u vs g (subst (λ (l : List Deed). LogRuns t 0 (view s) l (view e)) p ran.0) shut (rw b h) in (
+          let r = one-block-of t sd (view e) us (view s) u vs g (subst (λ (l : List Deed). LogRuns t 0 (view s) l (view e)) p ran.0) shut (subst (λ (y : Act). is_inner y ≡ true) (sym b) h) in (
             ap (λ (y : Act). count_if (ends_member_of y) (acts t 0 s ms)) (sym b) ∙ ap (count_if (ends_member_of (act_of u))) acts-are
                 ∙ count_map act_of (ends_member_of (act_of u)) ds
                 ∙ ap (count_if (λ a. ends_member_of (act_of u) (act_of a))) p ∙ r.0,

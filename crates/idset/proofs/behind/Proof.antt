@@ -6,14 +6,14 @@ use Rattle.idset.proofs.Bits.{zeros-fit, zeros-skipped}
 use Rattle.idset.proofs.behind.Statement.{statement}
 use Rattle.idset.proofs.behind.Tie as tie
 
-add-next-2 : tie.Need-overflow-add-next-2
+add-next-2 : tie.Need-overflow_add-next-2
 add-next-2 c = let h : c.before.args.v < 65536 = omega arith in record { fits = zeros-fit c.before.args.v _ h }
 
 returns : tie.Need-returns
-returns c = zeros-skipped _ _ _ c.before.before.before.requires.0 c.before.lower.ensures c.lower2.ensures
+returns c = zeros-skipped _ _ _ c.before.before.before.requires.0 c.before.lower.ensures c.lower-2.ensures
 
-pub behind-spec : {M : Type 1} → statement M
-behind-spec =
+pub behind_spec : {M : Type 1} → statement M
+behind_spec =
     tie.close
     (tie.spec
     (λ c. search rules) (λ c. search rules) (λ c. search rules) (λ c. search rules) (λ c. search rules)

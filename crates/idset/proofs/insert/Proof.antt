@@ -7,6 +7,6 @@ use Rattle.idset.proofs.insert.Tie as tie
 returns : tie.Need-returns
 returns c = store-inserts _ _ c.before.requires.0 c.before.requires.1
 
-pub insert-spec : {M : Type 1} → statement M
-insert-spec =
+pub insert_spec : {M : Type 1} → statement M
+insert_spec =
     tie.close (tie.spec (λ c. search rules) (λ c. search rules) (λ c. search rules) (λ c. search rules) (λ c. search rules) (λ c. search rules) returns)

@@ -4,15 +4,15 @@ use borrow.Author.Tests.{not-true, not-false}
 use Rattle.idset.proofs.insert_if.Statement.{statement}
 use Rattle.idset.proofs.insert_if.Tie as tie
 
-returns : tie.Need-returns
+returns : tie.Need-returns-then-not-b
 returns c =
-    let e = not-true c.before.args.b c.if1.true in
+    let e = not-true c.before.args.b c.if-not-b.true-raw in
     record { size = c.before.requires.1; holds = λ u. rw e }
 
-returns-2 : tie.Need-returns-2
+returns-2 : tie.Need-returns
 returns-2 c =
-    let e = not-false c.before.before.before.args.b c.before.before.if1.false in
+    let e = not-false c.before.before.before.args.b c.before.before.if-not-b.false-raw in
     record { size = c.insert.ensures.size; holds = λ u. rw e (c.insert.ensures.holds u) }
 
-pub insert-if-spec : {M : Type 1} → statement M
-insert-if-spec = tie.close (tie.spec returns (λ c κs. search rules) returns-2)
+pub insert_if_spec : {M : Type 1} → statement M
+insert_if_spec = tie.close (tie.spec returns (λ c κs. search rules) returns-2)

@@ -7,6 +7,6 @@ use Rattle.idset.proofs.remove.Tie as tie
 returns : tie.Need-returns
 returns c = store-removes _ _ c.before.requires.0 c.before.requires.1 c.before.requires.2
 
-pub remove-spec : {M : Type 1} → statement M
-remove-spec =
+pub remove_spec : {M : Type 1} → statement M
+remove_spec =
     tie.close (tie.spec (λ c. search rules) (λ c. search rules) (λ c. search rules) (λ c. search rules) (λ c. search rules) (λ c. search rules) returns)

@@ -8,10 +8,10 @@ returns : tie.Need-returns
 returns c =
     let start = c.before.before.before.before.before.before in
     let a = start.args in
-    copied_at a.from.now a.target.now a.n start.requires.0 a.at start.requires.1 c.before.before.widen-column.ensures
+    copied_at a.from.now a.target.now a.n start.requires.0 a.at start.requires.1 c.before.before.widen_column.ensures
 
-pub widen-column-at-spec : {M : Type 1} → statement M
-widen-column-at-spec =
+pub widen_column_at_spec : {M : Type 1} → statement M
+widen_column_at_spec =
     tie.close
     (tie.spec
     (λ c. search rules)
