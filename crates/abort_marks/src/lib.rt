@@ -1,5 +1,7 @@
 // Whether a transaction has an abort mark (stop mark), of several at once: a pass over the items in chunks of 32 places, from
 // where nobody has looked yet. Most chunks have no abort mark, and of those the owners are not looked at.
+#![tactic(auto)]
+
 ghost use Rattle.std.specs.Prelude.{ℕ, ◌+◌, ◌-◌, ◌%◌, ◌≤◌, ◌<◌, ◌≡◌, true, List, [], ◌∷◌, length};
 ghost use Rattle.lists.specs.Lists.{any, is_in};
 ghost use Rattle.lists.specs.Rows.{rows};

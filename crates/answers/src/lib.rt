@@ -1,4 +1,6 @@
 // The numbers of documents 01 and 02, as code.
+#![tactic(auto)]
+
 ghost use Rattle.std.specs.Prelude.{◌≡◌};
 ghost use Rattle.lists.specs.Lists.{one_if};
 ghost use Rattle.semantics.specs.Answers.{number, answer_of, page_answer, preview_answer, alone_answer};

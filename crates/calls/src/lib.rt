@@ -1,5 +1,7 @@
 // The public calls, on word slices of any length and content. None asks anything of its caller; each
 // says its answer and the target's whole contents by an equation with semantics' Answers.
+#![tactic(auto)]
+
 mod checks;
 mod logs;
 mod moves;

@@ -95,7 +95,7 @@ pub fn run<'a>(
     if let Verdict::Denied(refusal) = checked {
         return Outcome::Refused(refusal);
     }
-    if !log::sizes_ok(log) {
+    if !move_log::sizes_ok(log) {
         return Outcome::Refused(Refusal::LogSizes);
     }
     if target.len() < State::MAX_WORDS {

@@ -4,7 +4,7 @@ ghost use Rattle.semantics.specs.State.{state_sizes_ok, state_of};
 ghost use Rattle.semantics.specs.Serial.{any_open};
 ghost use Rattle.semantics.specs.Answers.{answer_of, serialize, serialize_target};
 
-use log::count_of;
+use move_log::count_of;
 use ready::ready;
 use rules::emits::begins_emit;
 use semantics::{Outcome, Refusal, Verdict};
@@ -36,7 +36,7 @@ pub fn serialize<'a>(
     if let Verdict::Denied(refusal) = checked {
         return Outcome::Refused(refusal);
     }
-    if !log::sizes_ok(log) {
+    if !move_log::sizes_ok(log) {
         return Outcome::Refused(Refusal::LogSizes);
     }
     if target.len() < 1 + 5 * count_of(log) {

@@ -1,4 +1,6 @@
 // The program of document 01. stdin is case (a) of the two-lot plant, stdout 01's seven lines for it.
+#![tactic(auto)]
+
 fn main() {
     report::run();
 }

@@ -1,4 +1,6 @@
 // The public calls for C and Rust: the archive of this crate is the one that buyers link.
+#![tactic(auto)]
+
 ghost use Rattle.std.specs.Prelude.{◌≡◌};
 ghost use Rattle.semantics.specs.Answers.{check_table, check_state, make_move, make_move_target, preview_move, list_moves, list_moves_target, run_log, run_log_target, run_log_tally, serialize, serialize_target, run_unattended, run_unattended_target};
 

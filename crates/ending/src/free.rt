@@ -13,7 +13,7 @@ use state::Extent;
 use words::item;
 
 // What the end of a transaction leaves, and how many member marks (lot marks) it removed.
-#[derive(Drop)]
+#[derive(Clone, Copy)]
 pub struct Ended {
     pub left: Extent,
     pub members: u32,

@@ -7,7 +7,7 @@ use state::Extent;
 use words::item;
 
 // What a transaction owns: anything, an abort mark (stop mark), a message that is on no global port.
-#[derive(Drop)]
+#[derive(Clone, Copy)]
 pub struct Survey {
     pub open: bool,
     pub aborting: bool,

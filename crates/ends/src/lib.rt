@@ -1,4 +1,6 @@
 // The commits and aborts on a page of the list of open moves.
+#![tactic(auto)]
+
 ghost use Rattle.std.specs.Prelude.{◌≡◌, [], ◌+◌, ◌*◌, ◌≤◌, ◌<◌, length, take};
 ghost use Rattle.lists.specs.Lists.{one_if, keep, keep_if};
 ghost use Rattle.lists.specs.Pages.{Paged};

@@ -1,4 +1,6 @@
 // The first choice of places for the ports of a rule, found without the list of all choices.
+#![tactic(auto)]
+
 ghost use Rattle.std.specs.Prelude.{◌≡◌, cond, [], ◌≤◌, eqb, length, take};
 ghost use Rattle.lists.specs.Choosing.{choices_from};
 ghost use Rattle.semantics.specs.declared.Sizes.{Sizes};
@@ -15,7 +17,7 @@ mod tries;
 mod within;
 
 // A choice of places: whether there is one, and its places in order, 0 behind them.
-#[derive(Drop)]
+#[derive(Clone, Copy)]
 pub struct Choice {
     pub found: bool,
     pub picks: [u32; 4],

@@ -1,4 +1,6 @@
 // The first open end: the commit (01's release) with the lowest id, or else the abort (call-off) with the lowest.
+#![tactic(auto)]
+
 mod lowest;
 mod pass;
 
@@ -28,7 +30,7 @@ use words::head::MoveWords;
 const FEW: usize = 64;
 
 // The first move of a list, if there is one; else 0s.
-#[derive(Drop)]
+#[derive(Clone, Copy)]
 pub struct First {
     pub found: bool,
     pub mv: MoveWords,

@@ -1,4 +1,6 @@
 // A rule whose picks are all in one transaction: its choices by keys, group * 512 + port, where the group is the transaction's.
+#![tactic(auto)]
+
 mod counts;
 mod pages;
 

@@ -1,4 +1,6 @@
 // A set of numbers below 65,536, one bit for each: v is bit v % 64 of word v / 64. `[0; WORDS]` is the empty set.
+#![tactic(auto)]
+
 ghost use Rattle.std.specs.Prelude.{◌≡◌, true, ◌≤◌, ◌<◌, min, length};
 ghost use Rattle.idset.specs.IdSet.{has, Inserted, InsertedIf, Removed, Behind};
 

@@ -1,4 +1,6 @@
 // The program's input: bytes to words, and the words' three parts.
+#![tactic(auto)]
+
 ghost use Rattle.std.specs.Prelude.{◌≤◌, min, ◌≡◌};
 
 mod gather;

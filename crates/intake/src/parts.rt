@@ -20,7 +20,7 @@ pub struct Parts {
     pub end: usize,
 }
 
-#[derive(Drop)]
+#[derive(Clone, Copy)]
 struct Cuts {
     state_at: usize,
     log_at: usize,
@@ -61,7 +61,7 @@ fn verdict_of(first: Verdict, log: &[u32], whole: bool) -> Verdict
     if let Verdict::Denied(refusal) = first {
         return Verdict::Denied(refusal);
     }
-    if !log::sizes_ok(log) {
+    if !move_log::sizes_ok(log) {
         return Verdict::Denied(Refusal::LogSizes);
     }
     if !whole {

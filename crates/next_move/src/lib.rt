@@ -1,5 +1,7 @@
 // The first move of the list of open moves, found without the list: the first reaction in the order of rules and picks, or else the
 // first end.
+#![tactic(auto)]
+
 mod reactions;
 mod rule;
 

@@ -1,6 +1,8 @@
 // What each entry offers to the rules: a key, 256 where no rule may take the entry, the port on a global or merge port, and
 // owner * 512 + port on a local port; and how many messages rules may consume from each port. The owner's id is the group, so that
 // nothing has to be looked up. The transactions that have an abort mark are handed in as a set.
+#![tactic(auto)]
+
 mod keys;
 mod outside;
 mod totals;

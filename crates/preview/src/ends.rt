@@ -42,7 +42,7 @@ fn member_of(owner: u16, item: u32, id: u16) -> u32
 }
 
 // How many entries the end of a transaction leaves, and how many member marks it removes.
-#[derive(Drop)]
+#[derive(Clone, Copy)]
 struct Counts {
     entries: u32,
     members: u32,

@@ -1,4 +1,6 @@
 // What a move would leave: its verdict, and figures that are counted. No move is made.
+#![tactic(auto)]
+
 mod ends;
 mod reactions;
 

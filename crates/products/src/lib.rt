@@ -1,4 +1,6 @@
 // What an allowed reaction leaves.
+#![tactic(auto)]
+
 pub mod append;
 mod merge;
 pub mod react;

@@ -1,3 +1,5 @@
 // When a reaction is allowed, by its picks.
+#![tactic(auto)]
+
 pub mod picks;
 pub mod verdict;

@@ -49,7 +49,7 @@ pub fn consume_ports(rule: Rule) -> [u16; 4]
 }
 
 // What a verdict asks of a rule: few figures, since a rule is large and would be copied.
-#[derive(Drop)]
+#[derive(Clone, Copy)]
 pub struct Outline {
     pub ports: [u16; 4],
     pub count: usize,

@@ -1,4 +1,6 @@
 // A table and a state made ready for a call: both checked, with the index of the table's rules.
+#![tactic(auto)]
+
 ghost use Rattle.std.specs.Prelude.{◌≡◌, length};
 ghost use Rattle.ready.specs.Ready.{ReadyAs};
 

@@ -11,7 +11,7 @@ ghost use Rattle.recording.specs.Marks.{Lent};
 ghost use Rattle.recording.specs.Recordings.{words_at, concerned_by, mark_by, MoveNoted, if_grown, Recordable, RecordRoom, RecordedAs};
 
 use crate::ends::note_if_end;
-use log::{count_of, move_at};
+use move_log::{count_of, move_at};
 use run::Ran;
 use semantics::Verdict;
 use state::Extent;

@@ -13,7 +13,7 @@ use Rattle.semantics.specs.Serial.{Act, place_of, replayed}
 use Rattle.state.specs.declared.State.{State}
 use Rattle.words.specs.Origin.{origin_of}
 use Rattle.step.specs.Make.{Indexed, Workable}
-use Rattle.log.specs.Form.{LogSized}
+use Rattle.move_log.specs.Form.{LogSized}
 use Rattle.serial_laws.specs.Acts.{Recorded, Replays, replay_fits}
 
 -- the place of the first entry of the origin in a word

@@ -1,5 +1,7 @@
 // The second pass: the recorded moves again in the serial order, their picks found by origin, ends
 // under the ids that the transactions now have.
+#![tactic(auto)]
+
 ghost use Rattle.std.specs.Prelude.{ℕ, ◌+◌, ◌*◌, ◌≤◌, ◌<◌, ◌≡◌, List, map, length, take, drop, set};
 ghost use Rattle.lists.specs.Padded.{padded};
 ghost use Rattle.lists.specs.Over.{Pasted};
@@ -12,7 +14,7 @@ ghost use Rattle.state.specs.Lent.{Columns};
 ghost use Rattle.step.specs.Make.{Indexed};
 ghost use Rattle.replay.specs.Replay.{place_in, head_again, Words, Readable, Replayable, ReplayedAs};
 
-use log::head_at;
+use move_log::head_at;
 use rules::decode::consumes_at;
 use semantics::Verdict;
 use state::Extent;

@@ -12,7 +12,7 @@ use state::State;
 
 // The verdict on the input. Where it is Allowed, the first line's figures, and the words of so many
 // further lines, four a line: place, answer, entries, next.
-#[derive(Drop)]
+#[derive(Clone, Copy)]
 pub struct Figures {
     pub verdict: Verdict,
     pub moves: u32,

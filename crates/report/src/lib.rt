@@ -1,4 +1,6 @@
 // The program: a table, a state and a log from standard input, and a line for each move of the log.
+#![tactic(auto)]
+
 mod figures;
 mod print;
 

@@ -1,4 +1,6 @@
 // The open reactions by one rule: how many there are, and those on a page.
+#![tactic(auto)]
+
 mod grouped;
 mod plain;
 mod rule;

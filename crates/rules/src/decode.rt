@@ -15,7 +15,7 @@ use table::parts::{atom_words_of, rule_words, sizes_of};
 use words::atom;
 
 // The first count atoms are the rule's, the consumes (takes) first among them.
-#[derive(Drop)]
+#[derive(Clone, Copy)]
 pub struct Rule {
     pub atoms: [Atom; 16],
     pub count: usize,

@@ -20,7 +20,7 @@ use Rattle.semantics.specs.declared.Verdict.TheVariants.{Allowed, Denied}
 use Rattle.wellformed.specs.Step.{completed-same}
 use Rattle.state.specs.declared.State.{State}
 use Rattle.state.specs.Working.{state_in}
-use Rattle.log.specs.Form.{LogSized}
+use Rattle.move_log.specs.Form.{LogSized}
 use Rattle.step.specs.declared.make.Made.{Made}
 use Rattle.step.specs.Make.{Indexed, Workable, MadeAs}
 use Rattle.run.specs.declared.Ran as code

@@ -12,7 +12,7 @@ use Rattle.table.specs.Index.{Starts}
 use Rattle.state.specs.declared.State.{State}
 use Rattle.state.specs.Working.{state_in}
 use Rattle.state.specs.Arrays.{HoldsIn, held_next}
-use Rattle.log.specs.Form.{log-sized}
+use Rattle.move_log.specs.Form.{log-sized}
 use Rattle.step.specs.Make.{Workable, Indexed}
 use Rattle.run.specs.declared.Ran.{Ran}
 use Rattle.run.specs.Runs.{Prepared, RanAs, ran_by}

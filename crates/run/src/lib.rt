@@ -1,17 +1,19 @@
 // The run of a log: its moves in order, each on the state that the one before it left.
+#![tactic(auto)]
+
 pub mod trace;
 
 ghost use Rattle.std.specs.Prelude.{◌+◌, ◌≤◌, ◌<◌, ◌≡◌};
 ghost use Rattle.semantics.specs.Table.{table_of};
 ghost use Rattle.semantics.specs.Log.{move_count, move_at};
-ghost use Rattle.log.specs.Form.{Place};
+ghost use Rattle.move_log.specs.Form.{Place};
 ghost use Rattle.state.specs.Working.{held};
 ghost use Rattle.step.specs.Make.{Workable, MadeAs};
 ghost use Rattle.run.specs.Runs.{Prepared, Runnable};
 ghost use Rattle.tally.specs.Counted.{MoveRoom};
 ghost use Rattle.run.specs.Tallies.{TalliedAs, tallied_at};
 
-use log::{count_of, head_at, move_at};
+use move_log::{count_of, head_at, move_at};
 use semantics::{Tally, Verdict};
 use state::Extent;
 use step::make::{Made, make};
@@ -20,7 +22,7 @@ use words::head::kind_of;
 
 // How far a run came: why the first move not made is refused, its place, and the extent of the state
 // there.
-#[derive(Drop)]
+#[derive(Clone, Copy)]
 pub struct Ran {
     pub verdict: Verdict,
     pub place: u32,
@@ -28,7 +30,7 @@ pub struct Ran {
 }
 
 // A run, and the tally of the moves that it made.
-#[derive(Drop)]
+#[derive(Clone, Copy)]
 pub struct Tallied {
     pub ran: Ran,
     pub tally: Tally,

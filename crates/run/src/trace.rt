@@ -7,7 +7,7 @@ ghost use Rattle.run.specs.Lines.{answer_in, lines_in, Traceable, TracedAs};
 
 use crate::make_at;
 use answers::number_of;
-use log::count_of;
+use move_log::count_of;
 use semantics::Verdict;
 use state::{Extent, State};
 

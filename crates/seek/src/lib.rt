@@ -1,5 +1,7 @@
 // The next message on a port in the columns, by owners. Whether 32 places may have one is told without an early exit, so that
 // several are compared at once; only such a chunk is gone through, and only there is the set looked at.
+#![tactic(auto)]
+
 ghost use Rattle.std.specs.Prelude.{◌≡◌, ◌+◌, ◌≤◌, get_or};
 ghost use Rattle.lists.specs.Lists.{any};
 ghost use Rattle.lists.specs.Rows.{rows};

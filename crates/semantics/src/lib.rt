@@ -1,7 +1,9 @@
 // The types in which document 01 is stated, for the definitions in specs/ and for the code. No code.
 
 // Why something is refused; specs/Answers.antt has the number of each, 01's or 02's.
-#[derive(Drop)]
+#![tactic(auto)]
+
+#[derive(Clone, Copy)]
 pub enum Refusal {
     TableSizes,
     TableContents,
@@ -24,7 +26,7 @@ pub enum Refusal {
 }
 
 // What a single test says.
-#[derive(Drop)]
+#[derive(Clone, Copy)]
 pub enum Verdict {
     Allowed,
     Denied(Refusal),
@@ -33,7 +35,7 @@ pub enum Verdict {
 // What a public call says: a check is passed; words were written; moves were made, the words of the state
 // that they left and the member marks that they removed (02, M-120); the call is refused; or the log's
 // move at a place is.
-#[derive(Drop)]
+#[derive(Clone, Copy)]
 pub enum Outcome {
     Passed,
     Written(u32),
@@ -44,7 +46,7 @@ pub enum Outcome {
 
 // The same in numbers, for C. place and own only with 16, else 0; members only of a move or a run.
 #[repr(C)]
-#[derive(Drop)]
+#[derive(Clone, Copy)]
 pub struct Answer {
     pub number: u32,
     pub words: u32,
@@ -55,7 +57,7 @@ pub struct Answer {
 
 // The tally of a run (02, M-125), as four words in this order: moves made, and members (01's lots) begun,
 // committed and aborted (opened, released and called off).
-#[derive(Drop)]
+#[derive(Clone, Copy)]
 pub struct Tally {
     pub moves: u32,
     pub begun: u32,
@@ -65,7 +67,7 @@ pub struct Tally {
 
 // What the list of open moves says: words of a page written, or why not, and the length of the whole
 // list.
-#[derive(Drop)]
+#[derive(Clone, Copy)]
 pub struct Listed {
     pub outcome: Outcome,
     pub length: u64,
@@ -73,7 +75,7 @@ pub struct Listed {
 
 // The same in numbers, for C.
 #[repr(C)]
-#[derive(Drop)]
+#[derive(Clone, Copy)]
 pub struct Page {
     pub number: u32,
     pub words: u32,
@@ -83,7 +85,7 @@ pub struct Page {
 // What a move that is accepted would leave, by the preview (02, M-115): the entries in all, the next id
 // (01's next ticket), and the id of the transaction that the move concerns, 0 where there is none; and
 // how many member marks it would remove (02, M-120).
-#[derive(Drop)]
+#[derive(Clone, Copy)]
 pub struct Foreseen {
     pub entries: u32,
     pub next: u32,
@@ -92,7 +94,7 @@ pub struct Foreseen {
 }
 
 // What the preview of a move says.
-#[derive(Drop)]
+#[derive(Clone, Copy)]
 pub enum Previewed {
     Accepted(Foreseen),
     Rejected(Refusal),
@@ -100,7 +102,7 @@ pub enum Previewed {
 
 // The same in numbers, for C.
 #[repr(C)]
-#[derive(Drop)]
+#[derive(Clone, Copy)]
 pub struct Preview {
     pub number: u32,
     pub entries: u32,
@@ -111,7 +113,7 @@ pub struct Preview {
 
 // What an unattended run says (02, M-130): words of its log written, or why not, how many moves it made,
 // and whether none is open where it ended. Else its budget is spent.
-#[derive(Drop)]
+#[derive(Clone, Copy)]
 pub struct LeftAlone {
     pub outcome: Outcome,
     pub moves: u32,
@@ -120,7 +122,7 @@ pub struct LeftAlone {
 
 // The same in numbers, for C: still is 1, spent 0.
 #[repr(C)]
-#[derive(Drop)]
+#[derive(Clone, Copy)]
 pub struct Unattended {
     pub number: u32,
     pub words: u32,
@@ -130,7 +132,7 @@ pub struct Unattended {
 
 // 01's G, L, M, R and A: how many global, local and merge ports (plant, batch, joining ports), rules
 // and atoms.
-#[derive(Drop)]
+#[derive(Clone, Copy)]
 pub struct Sizes {
     pub globals: u32,
     pub locals: u32,
@@ -141,7 +143,7 @@ pub struct Sizes {
 
 // What an atom's conditions have to know of its rule: its numbers of consumes (takes) and begins
 // (opens), and its class (0 global, 1 local, 2 merge).
-#[derive(Drop)]
+#[derive(Clone, Copy)]
 pub struct Shape {
     pub consumes: usize,
     pub begins: usize,
@@ -150,7 +152,7 @@ pub struct Shape {
 
 // An atom's value: a constant, or the value received by a consume atom (take) of its rule, from 0.
 // An atom takes 8 bytes, so that a rule is decoded at little cost.
-#[derive(Drop)]
+#[derive(Clone, Copy)]
 pub enum AtomValue {
     Constant(u16),
     Received(u16),
@@ -158,7 +160,7 @@ pub enum AtomValue {
 
 // Roles: 0 consume (take), 1 emit (give), 2 begin (open), 3 body (inside), 4 compensate (call-off),
 // 5 abort (stop).
-#[derive(Drop)]
+#[derive(Clone, Copy)]
 pub struct Atom {
     pub role: u16,
     pub port: u16,

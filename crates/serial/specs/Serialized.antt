@@ -12,7 +12,7 @@ use Rattle.semantics.specs.declared.Refusal.TheVariants.{SerialTooManyEntries}
 use Rattle.semantics.specs.declared.Verdict.TheVariants.{Allowed}
 use Rattle.semantics.specs.declared.Outcome.{Outcome}
 use Rattle.semantics.specs.declared.Outcome.TheVariants.{Written, Refused}
-use Rattle.log.specs.Form.{LogSized}
+use Rattle.move_log.specs.Form.{LogSized}
 use Rattle.serial_laws.specs.Order.{arranged_by}
 use Rattle.order.specs.Keys.{KeysOf}
 use Rattle.table.specs.Index.{Starts}

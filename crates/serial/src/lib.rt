@@ -1,11 +1,13 @@
 // The serial log, in two passes: the log is run and recorded, then its moves are made again in serial
 // order, on entries that are found by their origins.
+#![tactic(auto)]
+
 ghost use Rattle.std.specs.Prelude.{◌+◌, ◌*◌, ◌≤◌, ◌≡◌, length};
 ghost use Rattle.semantics.specs.Log.{move_count};
 ghost use Rattle.state.specs.Arrays.{Arrays};
 ghost use Rattle.serial.specs.Serialized.{Tested, Roomy, SerializedAs, Sortable, SortedAs, Reorderable, ReorderedAs, WrittenAs};
 
-use log::count_of;
+use move_log::count_of;
 use order::keys::keys_of;
 use order::sort::order_of;
 use recording::record::record;

@@ -1,4 +1,6 @@
 // The state: the parts of its words, and the working state that a step changes.
+#![tactic(auto)]
+
 mod owners;
 mod parts;
 
@@ -50,7 +52,7 @@ impl State {
 
 // What columns do not say themselves: how many entries are in use, and N. Before the place unmarked no abort mark (stop
 // mark) stands, so that nobody has to look for one there again; 0 says nothing, and is what all hand on but `step`.
-#[derive(Drop)]
+#[derive(Clone, Copy)]
 pub struct Extent {
     pub len: usize,
     pub next: u32,

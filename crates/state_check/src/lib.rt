@@ -1,4 +1,6 @@
 // The check of a state (01, State): its sizes, then its entries.
+#![tactic(auto)]
+
 mod entries;
 
 ghost use Rattle.std.specs.Prelude.{◌≡◌};

@@ -25,7 +25,7 @@ use words::head;
 use words::head::MoveWords;
 
 // Why a move is refused, the extent of the state that it leaves, and how many member marks it removed.
-#[derive(Drop)]
+#[derive(Clone, Copy)]
 pub struct Made {
     pub verdict: Verdict,
     pub left: Extent,

@@ -1,4 +1,6 @@
 // The transactions that have an abort mark (stop mark), as a set of ids that is kept from move to move.
+#![tactic(auto)]
+
 mod after;
 mod gather;
 

@@ -1,4 +1,6 @@
 // What a reaction changes in the totals by port: told from the words of its rule, atom by atom.
+#![tactic(auto)]
+
 mod freed;
 
 ghost use Rattle.std.specs.Prelude.{ℕ, ◌-◌, ◌≤◌, ◌<◌, ◌≡◌, false, List, [], ◌∷◌, map, ◌⊎◌, length, get_or};

@@ -1,4 +1,6 @@
 // The tally of a run: what an accepted move changes in it, and its words for the caller.
+#![tactic(auto)]
+
 ghost use Rattle.std.specs.Prelude.{◌≤◌, ◌≡◌, cond};
 ghost use Rattle.semantics.specs.Tally.{tally_words};
 ghost use Rattle.tally.specs.Counted.{counted as counted_of, moved_on, Room, MoveRoom};

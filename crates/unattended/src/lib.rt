@@ -1,4 +1,6 @@
 // A plant that goes on alone: the first open move, again and again, within a budget, and the log of the moves made.
+#![tactic(auto)]
+
 mod call;
 mod walk;
 
@@ -18,7 +20,7 @@ use wants::fill_wants;
 use words::copy::copy_words_at;
 
 // How many moves were made, and whether none is open where they ended.
-#[derive(Drop)]
+#[derive(Clone, Copy)]
 pub struct Gone {
     pub made: usize,
     pub still: bool,

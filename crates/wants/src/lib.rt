@@ -1,5 +1,7 @@
 // What each rule wants on its ports, decoded once for a whole run: a rule that lacks messages is passed over at the cost of at
 // most four comparisons, whatever its class.
+#![tactic(auto)]
+
 ghost use Rattle.std.specs.Prelude.{◌≡◌, ℕ, ◌+◌, ◌*◌, ◌≤◌, ◌<◌, length, get_or, take};
 ghost use Rattle.lists.specs.Lists.{one_if};
 ghost use Rattle.lists.specs.Keys.{times_in};

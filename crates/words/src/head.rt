@@ -11,7 +11,7 @@ pub const COMMIT: u32 = 1;
 pub const ABORT: u32 = 2;
 
 // The five words of a move.
-#[derive(Drop)]
+#[derive(Clone, Copy)]
 pub struct MoveWords {
     pub head: u32,
     pub picks: [u32; 4],

@@ -3,8 +3,8 @@ use mathlib.Core.Path.{◌∙◌}
 use native.Mathlib.Omega.{arith}
 use borrow.Author.Rules.{rules}
 use Rattle.lists.specs.Walk.{take-four}
-use Rattle.log.proofs.picks_at.Statement.{statement}
-use Rattle.log.proofs.picks_at.Tie as tie
+use Rattle.move_log.proofs.picks_at.Statement.{statement}
+use Rattle.move_log.proofs.picks_at.Tie as tie
 
 returns : tie.Need-returns
 returns c =

@@ -2,8 +2,8 @@ use mathlib.Core.Path.{refl, sym}
 use native.Mathlib.Omega.{arith}
 use lib.ListN.{get_or-eq_default}
 use borrow.Author.Rules.{rules}
-use Rattle.log.proofs.count_of.Statement.{statement}
-use Rattle.log.proofs.count_of.Tie as tie
+use Rattle.move_log.proofs.count_of.Statement.{statement}
+use Rattle.move_log.proofs.count_of.Tie as tie
 
 cast-result : tie.Need-overflow-cast-result
 cast-result c = omega (arith, c.shared-slice-known.given 0)

@@ -1,8 +1,10 @@
 // A log: its form, and the words of each of its moves.
+#![tactic(auto)]
+
 ghost use Rattle.std.specs.Prelude.{◌+◌, ◌*◌, ◌<◌, ◌≡◌, get_or, take, drop};
 ghost use Rattle.semantics.specs.Log.{move_count, move_at, log_sizes_ok};
 ghost use Rattle.words.specs.Head.{words_in};
-ghost use Rattle.log.specs.Form.{Place};
+ghost use Rattle.move_log.specs.Form.{Place};
 
 use words::head::MoveWords;
 

@@ -1,7 +1,7 @@
 use Rattle.semantics.specs.Log.{log_sizes_ok}
 use borrow.Author.Rules.{rules}
-use Rattle.log.proofs.sizes_ok.Statement.{statement}
-use Rattle.log.proofs.sizes_ok.Tie as tie
+use Rattle.move_log.proofs.sizes_ok.Statement.{statement}
+use Rattle.move_log.proofs.sizes_ok.Tie as tie
 
 returns : tie.Need-returns
 unfolding log_sizes_ok
