@@ -5,16 +5,16 @@ use Rattle.semantics.specs.Answers.{number}
 use Rattle.answers.proofs.number_of.Statement.{statement}
 use Rattle.answers.proofs.number_of.Tie as tie
 
-pub number-of-spec : {M : Type 1} → statement M
-number-of-spec =
+pub number_of_spec : {M : Type 1} → statement M
+number_of_spec =
     tie.close
     (tie.spec
     (λ c. search rules) (λ c. search rules) (λ c. search rules) (λ c. search rules) (λ c. search rules) (λ c. search rules) (λ c. search rules)
     (λ c. search rules) (λ c. search rules) (λ c. search rules) (λ c. search rules) (λ c. search rules) (λ c. search rules) (λ c. search rules)
     (λ c. search rules) (λ c. search rules) (λ c. search rules) (λ c. search rules)
-    (λ c. sym (ap number c.enum_told.given.1)) (λ c. sym (ap number c.enum-told2.given.1)) (λ c. sym (ap number c.enum-told3.given.1))
-    (λ c. sym (ap number c.enum-told4.given.1)) (λ c. sym (ap number c.enum-told5.given.1)) (λ c. sym (ap number c.enum-told6.given.1))
-    (λ c. sym (ap number c.enum-told7.given.1)) (λ c. sym (ap number c.enum-told8.given.1)) (λ c. sym (ap number c.enum-told9.given.1))
-    (λ c. sym (ap number c.enum-told10.given.1)) (λ c. sym (ap number c.enum-told11.given.1)) (λ c. sym (ap number c.enum-told12.given.1))
-    (λ c. sym (ap number c.enum-told13.given.1)) (λ c. sym (ap number c.enum-told14.given.1)) (λ c. sym (ap number c.enum-told15.given.1))
-    (λ c. sym (ap number c.enum-told16.given.1)) (λ c. sym (ap number c.enum-told17.given.1)) (λ c. sym (ap number c.enum-told18.given.1)))
+    (λ c. sym (ap number c.in-TableSizes.is)) (λ c. sym (ap number c.in-TableContents.is)) (λ c. sym (ap number c.in-StateSizes.is))
+    (λ c. sym (ap number c.in-StateContents.is)) (λ c. sym (ap number c.in-MoveForm.is)) (λ c. sym (ap number c.in-TargetTooShort.is))
+    (λ c. sym (ap number c.in-WrongPick.is)) (λ c. sym (ap number c.in-WrongOwner.is)) (λ c. sym (ap number c.in-NoTransaction.is))
+    (λ c. sym (ap number c.in-EndNotAllowed.is)) (λ c. sym (ap number c.in-NoMoreIds.is)) (λ c. sym (ap number c.in-TooManyEntries.is))
+    (λ c. sym (ap number c.in-LogSizes.is)) (λ c. sym (ap number c.in-BeginEmits.is)) (λ c. sym (ap number c.in-TransactionOpen.is))
+    (λ c. sym (ap number c.in-SerialTooManyEntries.is)) (λ c. sym (ap number c.in-TransactionAborting.is)) (λ c. sym (ap number c.in-BudgetTooLarge.is)))

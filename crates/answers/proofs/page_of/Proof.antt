@@ -7,7 +7,7 @@ use Rattle.answers.proofs.page_of.Statement.{statement}
 use Rattle.answers.proofs.page_of.Tie as tie
 
 returns : tie.Need-returns
-returns c = ap {B = Page} (λ (a : Answer). record { number = a.number; words = a.words; length = c.before.args.listed.length }) c.answer-of.ensures
+returns c = ap {B = Page} (λ (a : Answer). record { number = a.number; words = a.words; length = c.args.listed.length }) c.answer_of-answer.ensures
 
-pub page-of-spec : {M : Type 1} → statement M
-page-of-spec = tie.close (tie.spec (λ c κs. search rules) returns)
+pub page_of_spec : {M : Type 1} → statement M
+page_of_spec = tie.close (tie.spec (λ c κs. search rules) returns)

@@ -8,10 +8,10 @@ use Rattle.answers.proofs.unattended_of.Tie as tie
 
 returns : tie.Need-returns
 returns c =
-    let l = c.before.before.args.left in
-    let still = c.one-if.result in
-    ap {B = Unattended} (λ (a : Answer). record { number = a.number; words = a.words; moves = l.moves; still = still }) c.before.answer-of.ensures
-    ∙ rw c.one-if.ensures
+    let l = c.args.left in
+    let still = c.one_if.result in
+    ap {B = Unattended} (λ (a : Answer). record { number = a.number; words = a.words; moves = l.moves; still = still }) c.answer_of-answer.ensures
+    ∙ rw c.one_if.ensures
 
-pub unattended-of-spec : {M : Type 1} → statement M
-unattended-of-spec = tie.close (tie.spec (λ c κs. search rules) (λ c κs. search rules) returns)
+pub unattended_of_spec : {M : Type 1} → statement M
+unattended_of_spec = tie.close (tie.spec (λ c κs. search rules) (λ c κs. search rules) returns)

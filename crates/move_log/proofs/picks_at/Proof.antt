@@ -8,14 +8,14 @@ use Rattle.move_log.proofs.picks_at.Tie as tie
 
 returns : tie.Need-returns
 returns c =
-    let l = c.before.before.before.before.before.before.args.log.now in
-    let i = c.before.before.before.before.before.before.args.i in
-    let n = c.before.before.before.before.count_of.ensures.0 in
-    let p = c.before.before.before.before.before.before.requires in
-    take-four l (1 + c.before.before.before.before.count_of.result + 4 * i) 0 (omega (arith, n, p.sizes.whole, p.within)) ∙ rw n
+    let l = c.args.log.now in
+    let i = c.args.i in
+    let n = c.count_of.ensures.0 in
+    let p = c.requires in
+    take-four l (1 + c.count_of.result + 4 * i) 0 (omega (arith, n, p.sizes.whole, p.within)) ∙ rw n
 
-pub picks-at-spec : {M : Type 1} → statement M
-picks-at-spec =
+pub picks_at_spec : {M : Type 1} → statement M
+picks_at_spec =
     tie.close
     (tie.spec
     (λ c κs. search rules)

@@ -7,29 +7,29 @@ use Rattle.state.proofs.Working.{stored-words}
 use Rattle.state.proofs.store.Statement.{statement}
 use Rattle.state.proofs.store.Tie as tie
 
-slice-write-target-2 : tie.Need-slice-write-target-2
+slice-write-target-2 : tie.Need-bounds-target-1
 slice-write-target-2 c = simp length-set (omega arith)
 
-widen-column-at-requires : tie.Need-widen-column-at-requires
-widen-column-at-requires c κs = let start = c.before.before.before.requires in
+widen-column-at-requires : tie.Need-widen_column_at-requires
+widen-column-at-requires c κs = let start = c.requires in
     (omega (arith, start.0.fits, start.0.owners), simp length-set (omega (arith, start.1)))
 
-copy-words-at-requires : tie.Need-copy-words-at-requires
+copy-words-at-requires : tie.Need-copy_words_at-requires
 copy-words-at-requires c κs =
-    let first = c.before.before.before.before in
-    let start = first.before.before.before.before.requires in
-    (omega (arith, start.0.fits, start.0.items), omega (arith, start.1, simp length-set at first.widen-column-at.ensures.size))
+    let first = c in
+    let start = first.requires in
+    (omega (arith, start.0.fits, start.0.items), omega (arith, start.1, simp length-set at first.widen_column_at.ensures.size))
 
-same_length : tie.Need-same-length
-same_length c = simp length-set at (c.before.before.copy-words-at.ensures.size
-    ∙ c.before.before.before.before.before.before.before.widen-column-at.ensures.size)
+same_length : tie.Need-shape_of-target
+same_length c = simp length-set at (c.copy_words_at.ensures.size
+    ∙ c.widen_column_at.ensures.size)
 
 returns : tie.Need-returns
 returns c =
-    let first = c.before.before.before.before.before.before.before in
-    let start = first.before.before.before.before.requires in
-    λ gs. stored-words _ _ _ _ start.0.owners start.0.items start.0.fits start.1 first.widen-column-at.ensures
-    c.before.before.copy-words-at.ensures
+    let first = c in
+    let start = first.requires in
+    λ gs. stored-words _ _ _ _ start.0.owners start.0.items start.0.fits start.1 first.widen_column_at.ensures
+    c.copy_words_at.ensures
 
 pub store_spec : {M : Type 1} → statement M
 store_spec =

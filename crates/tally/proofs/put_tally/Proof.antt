@@ -6,5 +6,5 @@ use Rattle.tally.proofs.put_tally.Tie as tie
 returns : tie.Need-returns
 returns c = refl
 
-pub put-tally-spec : {M : Type 1} → statement M
-put-tally-spec = tie.close (tie.spec returns)
+pub put_tally_spec : {M : Type 1} → statement M
+put_tally_spec = tie.close (tie.spec returns)

@@ -5,26 +5,26 @@ use Rattle.choices.proofs.Passed.{PassedOver, passed_start, passed-next, passed-
 use Rattle.choices.proofs.find.first_in.Statement.{statement}
 use Rattle.choices.proofs.find.first_in.Tie as tie
 
-abbrev Inv : tie.invariant-loop
+abbrev Inv : tie.invariant-loop-p
 Inv keys from end t p₀ p = (p ≤ end) × PassedOver keys t from p
 
-abbrev μ : tie.decreases-loop
+abbrev μ : tie.decreases-loop-p
 μ keys from end t p₀ p = end - p
 
-few : (c : tie.In-loop Inv μ) → c.before.loop.p < 1024
-few c = omega (arith, c.loop-test.true, c.before.before.requires)
+few : (c : tie.In-loop-p Inv μ) → c.loop-p.p < 1024
+few c = omega (arith, c.loop-p-test.true, c.requires)
 
-pub first-in-spec : {M : Type 1} → statement M
-first-in-spec =
+pub first_in_spec : {M : Type 1} → statement M
+first_in_spec =
     tie.close
     (tie.spec
     Inv
     μ
     (λ c. (c.requires.0, passed_start))
     (λ c. omega (arith, few c))
-    (λ c. omega (arith, few c, c.before.before.requires.2))
-    (λ c. let turn = c.before.before in passed-found turn.before.loop.invariant.1 turn.before.loop.invariant.0 c.if1.true)
-    (λ c. omega (arith, few c.before.before))
-    (λ c. omega (arith, c.before.before.loop-test.true))
-    (λ c. let turn = c.before.before in (omega (arith, turn.loop-test.true), passed-next turn.before.loop.invariant.1 c.if1.false))
-    (λ c. passed-end c.before.loop.invariant.1 c.before.loop.invariant.0 c.loop-test.false))
+    (λ c. omega (arith, few c.before, c.requires.2))
+    (λ c. let turn = c in passed-found turn.loop-p.invariant.1 turn.loop-p.invariant.0 c.if-keys-p.true)
+    (λ c. omega (arith, few c.before.before.before))
+    (λ c. omega (arith, c.loop-p-test.true))
+    (λ c. let turn = c in (omega (arith, turn.loop-p-test.true), passed-next turn.loop-p.invariant.1 c.if-keys-p.false))
+    (λ c. passed-end c.loop-p.invariant.1 c.loop-p.invariant.0 c.loop-p-test.false))

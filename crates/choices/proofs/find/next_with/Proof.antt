@@ -6,17 +6,17 @@ use borrow.Author.Rules.{rules}
 use Rattle.choices.proofs.find.next_with.Statement.{statement}
 use Rattle.choices.proofs.find.next_with.Tie as tie
 
-abbrev Inv : tie.invariant-loop
+abbrev Inv : tie.invariant-loop-at
 Inv keys n from t at₀ at = PassedOver keys t from at
 
-abbrev μ : tie.decreases-loop
+abbrev μ : tie.decreases-loop-at
 μ keys n from t at₀ at = n - at
 
-few : (c : tie.In-loop Inv μ) → c.before.loop.at < 1024
-few c = omega (arith, c.loop-test.true, c.before.before.requires.1)
+few : (c : tie.In-loop-at Inv μ) → c.loop-at.at < 1024
+few c = omega (arith, c.loop-at-test.true, c.requires.1)
 
-pub next-with-spec : {M : Type 1} → statement M
-next-with-spec =
+pub next_with_spec : {M : Type 1} → statement M
+next_with_spec =
     tie.close
     (tie.spec
     Inv
@@ -24,11 +24,11 @@ next-with-spec =
     (λ c. passed_start)
     (λ c. omega (arith, few c))
     (λ c. omega (arith, few c))
-    (λ c κs. (few c, c.before.before.requires.2))
+    (λ c κs. (few c, c.requires.2))
     (λ c κs. search rules)
     (λ c.
-    let turn = c.before.before.before in
-    passed-place turn.before.loop.invariant c.before.before.next-in-chunk.ensures c.before.if1.true turn.loop-test.true c.smaller.ensures)
-    (λ c. let turn = c.before.before in omega (arith, turn.loop-test.true))
-    (λ c. passed-chunk c.before.before.before.loop.invariant c.before.next-in-chunk.ensures c.if1.false)
-    (λ c. passed-past c.before.loop.invariant c.before.before.requires.0 c.loop-test.false))
+    let turn = c in
+    passed-place turn.loop-at.invariant c.next_in_chunk-next.ensures c.if-next-end.true turn.loop-at-test.true c.smaller.ensures)
+    (λ c. let turn = c in omega (arith, turn.loop-at-test.true))
+    (λ c. passed-chunk c.loop-at.invariant c.next_in_chunk-next.ensures c.if-next-end.false)
+    (λ c. passed-past c.loop-at.invariant c.requires.0 c.loop-at-test.false))

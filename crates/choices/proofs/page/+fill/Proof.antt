@@ -28,16 +28,16 @@ fill-at t = and 2 fill-kinds.ps (is 2 fill-kinds.ps μ-fill t) fill.Pre
 abbrev fill-below : ℕ → In 2 fill-kinds.ps
 fill-below t = and 2 fill-kinds.ps (falls 2 fill-kinds.ps ◌<◌ μ-fill t) fill.Pre
 
-abbrev fill-Inv-loop : fill-lts.invariant-loop
+abbrev fill-Inv-loop : fill-lts.invariant-loop-p
 fill-Inv-loop keys n k head picks i first count target₀ at wanted widths t width skip₀ done₀ p₀ target skip done p =
     Stands keys wanted picks n k i head first count at target₀ skip done p target
 
-abbrev fill-μ-loop : fill-lts.decreases-loop
+abbrev fill-μ-loop : fill-lts.decreases-loop-p
 fill-μ-loop keys n k head picks i first count target₀ at wanted widths t width skip₀ done₀ p₀ target skip done p =
     n - p
 
-pub +fill-spec : {M : Type 1} → statement M
-+fill-spec = close μ-fill λ t. fill-lts.spec (
+pub +fill_spec : {M : Type 1} → statement M
++fill_spec = close μ-fill λ t. fill-lts.spec (
   put_reads.Asked,
   put_reads.Learnt,
   next-with-reads.Asked,
@@ -51,112 +51,112 @@ pub +fill-spec : {M : Type 1} → statement M
     fill.Post
     fill-Inv-loop
     fill-μ-loop
-    (λ c. rw c.if2.true (paged-empty _ 5 _ _ _ _))
+    (λ c. rw c.if-count-eq0.true (paged-empty _ 5 _ _ _ _))
     (λ c.
-    let a = c.before.before.before.before.args in
-    leaf-past (take a.n a.keys.now) a.t3 (take a.i a.picks) a.k a.i c.before.before.if1.true a.head a.first a.at
-    a.picks a.target.now a.count c.if3.true)
+    let a = c.args in
+    leaf-past (take a.n a.keys.now) a.wanted (take a.i a.picks) a.k a.i c.if-i-k.true a.head a.first a.at
+    a.picks a.target.now a.count c.if-first-ne0.true)
     (λ c κs. search rules)
     (λ c. search rules)
     (λ c.
-    let a = c.before.before.before.before.before.before.before.before.args in
-    leaf-one (take a.n a.keys.now) a.t3 (take a.i a.picks) a.k a.i c.before.before.before.before.before.before.if1.true
+    let a = c.args in
+    leaf-one (take a.n a.keys.now) a.wanted (take a.i a.picks) a.k a.i c.if-i-k.true
     a.head a.first a.at a.picks a.target.now a.count
-    (omega (arith, c.before.before.before.before.if3.false)) c.before.before.before.before.before.if2.false c.before.before.put.ensures)
+    (omega (arith, c.if-first-ne0.false)) c.if-count-eq0.false c.put.ensures)
     (λ c. search rules)
     (λ c. search rules)
     (λ c. search rules)
     (λ c. search rules)
     (λ c κs. search rules)
     (λ c.
-    let s = c.before.before.before in
+    let s = c in
     let p = s.requires.1 in
-    let v = level-at p.0 p.1.1 (search rules) (search rules) c.before.if1.false in
+    let v = level-at p.0 p.1.1 (search rules) (search rules) c.if-i-k.false in
     let a = s.args in
-    level-start v a.head a.first a.count a.at a.target.now c.next-with.ensures)
-    (λ c. paged-length _ 5 c.before.before.loop.invariant.paging.paged)
+    level-start v a.head a.first a.count a.at a.target.now c.next_with-p.ensures)
+    (λ c. paged-length _ 5 c.loop-p.invariant.paging.paged)
     (λ c.
-    let s = c.before.before.before.before.before.before in
+    let s = c in
     let p = s.requires.1 in
-    let v = level-at p.0 p.1.1 (search rules) (search rules) c.before.before.before.before.if1.false in
+    let v = level-at p.0 p.1.1 (search rules) (search rules) c.if-i-k.false in
     let a = s.args in
-    let turn = c.before in
-    let l = turn.before.loop in
-    level-full v a.head a.first a.count a.at a.target.now l.invariant c.if4.true)
+    let turn = c in
+    let l = turn.loop-p in
+    level-full v a.head a.first a.count a.at a.target.now l.invariant c.if-done-count.true)
     (λ c. search rules)
     (λ c κs. search rules)
     (λ c. search rules)
     (λ c κs. search rules)
-    (λ c. omega (arith, c.next-with2.ensures.low, c.before.before.before.before.loop-test.true))
+    (λ c. omega (arith, c.next_with-p-then-is_picked.ensures.low, c.loop-p-test.true))
     (λ c.
-    let s = c.before.before.before.before.before.before.before.before.before in
+    let s = c in
     let p = s.requires.1 in
-    let v = level-at p.0 p.1.1 (search rules) (search rules) c.before.before.before.before.before.before.before.if1.false in
+    let v = level-at p.0 p.1.1 (search rules) (search rules) c.if-i-k.false in
     let a = s.args in
-    let turn = c.before.before.before.before in
-    let l = turn.before.loop in
-    level-picked v a.head a.first a.count a.at a.target.now l.invariant turn.loop-test.true
-    c.before.before.is-picked.ensures c.before.if5.true
-    c.next-with2.ensures)
+    let turn = c in
+    let l = turn.loop-p in
+    level-picked v a.head a.first a.count a.at a.target.now l.invariant turn.loop-p-test.true
+    c.is_picked.ensures c.if-is_picked.true
+    c.next_with-p-then-is_picked.ensures)
     (λ c. search rules)
     (λ c κs. search rules)
-    (λ c. omega (arith, c.next-with3.ensures.low, c.before.before.before.before.before.loop-test.true))
+    (λ c. omega (arith, c.next_with-p-then-width-skip.ensures.low, c.loop-p-test.true))
     (λ c.
-    let s = c.before.before.before.before.before.before.before.before.before.before in
+    let s = c in
     let p = s.requires.1 in
-    let v = level-at p.0 p.1.1 (search rules) (search rules) c.before.before.before.before.before.before.before.before.if1.false in
+    let v = level-at p.0 p.1.1 (search rules) (search rules) c.if-i-k.false in
     let a = s.args in
-    let turn = c.before.before.before.before.before in
-    let l = turn.before.loop in
-    level-skipped v a.head a.first a.count a.at a.target.now l.invariant turn.loop-test.true
-    c.before.before.before.is-picked.ensures c.before.before.if5.false
-    c.before.if6.true c.next-with3.ensures)
+    let turn = c in
+    let l = turn.loop-p in
+    level-skipped v a.head a.first a.count a.at a.target.now l.invariant turn.loop-p-test.true
+    c.is_picked.ensures c.if-is_picked.false
+    c.if-width-skip.true c.next_with-p-then-width-skip.ensures)
     (λ c. search rules)
     (λ c. search rules)
     (λ c. search rules)
     (λ c. search rules)
-    (λ c. let d = paged-le _ 5 c.before.before.before.before.before.before.before.loop.invariant.paging.paged in search rules)
-    (λ c. let d = paged-le _ 5 c.before.before.before.before.before.before.before.loop.invariant.paging.paged in search rules)
+    (λ c. let d = paged-le _ 5 c.loop-p.invariant.paging.paged in search rules)
+    (λ c. let d = paged-le _ 5 c.loop-p.invariant.paging.paged in search rules)
     (λ c κs.
-    let turn = c.before.before.before.before.before.before in
-    let g = turn.before.loop.invariant.paging.paged in
+    let turn = c in
+    let g = turn.loop-p.invariant.paging.paged in
     let d = paged-le _ 5 g in
     let z = paged-length _ 5 g in
-    omega (arith, c.before.before.before.before.before.if4.false, turn.before.before.before.before.before.requires.1.1.0))
+    omega (arith, c.if-done-count.false, turn.requires.1.1.0))
     (λ c.
-    let turn = c.before.before.before.before.before.before.before.before.before in
-    omega (arith, paged-le _ 5 turn.before.loop.invariant.paging.paged, turn.before.before.before.before.before.requires.1.1.0))
+    let turn = c in
+    omega (arith, paged-le _ 5 turn.loop-p.invariant.paging.paged, turn.requires.1.1.0))
     (λ c. search rules)
     (λ c κs. search rules)
-    (λ c. omega (arith, c.next-with4.ensures.low, c.before.before.before.before.before.before.before.before.before.before.loop-test.true))
+    (λ c. omega (arith, c.next_with-p-then-i-k-2.ensures.low, c.loop-p-test.true))
     (λ c.
-    let s = c.before.before.before.before.before.before.before.before.before.before.before.before.before.before.before in
+    let s = c in
     let p = s.requires.1 in
     let v = level-at p.0 p.1.1 (search rules) (search rules)
-    c.before.before.before.before.before.before.before.before.before.before.before.before.before.if1.false in
+    c.if-i-k.false in
     let a = s.args in
-    let turn = c.before.before.before.before.before.before.before.before.before.before in
-    let l = turn.before.loop in
+    let turn = c in
+    let l = turn.loop-p in
     let room : 1 ≤ a.count - l.done = omega
-    (arith, paged-le _ 5 l.invariant.paging.paged, c.before.before.before.before.before.before.before.before.before.if4.false) in
-    level-last v a.head a.first a.count a.at a.target.now l.invariant turn.loop-test.true
-    c.before.before.before.before.before.before.before.before.is-picked.ensures
-    c.before.before.before.before.before.before.before.if5.false (omega (arith, c.before.before.before.before.before.before.if6.false))
-    c.before.before.before.before.before.if7.true room c.before.before.before.put2.ensures c.next-with4.ensures)
+    (arith, paged-le _ 5 l.invariant.paging.paged, c.if-done-count.false) in
+    level-last v a.head a.first a.count a.at a.target.now l.invariant turn.loop-p-test.true
+    c.is_picked.ensures
+    c.if-is_picked.false (omega (arith, c.if-width-skip.false))
+    c.if-i-k-2.true room c.put-then-i-k-2.ensures c.next_with-p-then-i-k-2.ensures)
     (λ c. search rules)
     (λ c. search rules)
     (λ c. search rules)
     (λ c. search rules)
-    (λ c. let d = paged-le _ 5 c.before.before.before.before.before.before.loop.invariant.paging.paged in search rules)
-    (λ c. let d = paged-le _ 5 c.before.before.before.before.before.before.before.loop.invariant.paging.paged in search rules)
-    (λ c. let d = paged-le _ 5 c.before.before.before.before.before.before.before.loop.invariant.paging.paged in search rules)
+    (λ c. let d = paged-le _ 5 c.loop-p.invariant.paging.paged in search rules)
+    (λ c. let d = paged-le _ 5 c.loop-p.invariant.paging.paged in search rules)
+    (λ c. let d = paged-le _ 5 c.loop-p.invariant.paging.paged in search rules)
     (λ c κs.
-    let s = c.before.before.before.before.before.before.before.before.before.before.before in
+    let s = c in
     let p = s.requires.1 in
-    let v = level-at p.0 p.1.1 (search rules) (search rules) c.before.before.before.before.before.before.before.before.before.if1.false in
+    let v = level-at p.0 p.1.1 (search rules) (search rules) c.if-i-k.false in
     let a = s.args in
-    let turn = c.before.before.before.before.before.before in
-    let l = turn.before.loop in
+    let turn = c in
+    let l = turn.loop-p in
     let z = paged-length _ 5 l.invariant.paging.paged in
     let d = paged-le _ 5 l.invariant.paging.paged in (
       omega arith,
@@ -166,36 +166,36 @@ pub +fill-spec : {M : Type 1} → statement M
           (omega (arith, p.1.0), omega (arith, p.1.0)),
           (
             p.1.1.0,
-            below-used v a.head a.first a.count a.at a.target.now l.invariant turn.loop-test.true
-                c.before.before.before.before.is-picked.ensures
-                c.before.before.before.if5.false,
+            below-used v a.head a.first a.count a.at a.target.now l.invariant turn.loop-p-test.true
+                c.is_picked.ensures
+                c.if-is_picked.false,
           ),
         ),
       ),
     ))
     (λ c.
-    let turn = c.before.before.before.before.before.before.before.before.before in
-    let d = paged-le _ 5 c.before.before.fill.ensures in
-    omega (arith, paged-le _ 5 turn.before.loop.invariant.paging.paged, turn.before.before.before.before.before.requires.1.1.0.0))
+    let turn = c in
+    let d = paged-le _ 5 c.fill-done.ensures in
+    omega (arith, paged-le _ 5 turn.loop-p.invariant.paging.paged, turn.requires.1.1.0.0))
     (λ c. search rules)
     (λ c κs. search rules)
-    (λ c. omega (arith, c.next-with5.ensures.low, c.before.before.before.before.before.before.before.before.before.before.loop-test.true))
+    (λ c. omega (arith, c.next_with-p-else-i-k-2.ensures.low, c.loop-p-test.true))
     (λ c.
-    let s = c.before.before.before.before.before.before.before.before.before.before.before.before.before.before.before in
+    let s = c in
     let p = s.requires.1 in
     let v = level-at p.0 p.1.1 (search rules) (search rules)
-    c.before.before.before.before.before.before.before.before.before.before.before.before.before.if1.false in
+    c.if-i-k.false in
     let a = s.args in
-    let turn = c.before.before.before.before.before.before.before.before.before.before in
-    let l = turn.before.loop in
-    level-below v a.head a.first a.count a.at a.target.now l.invariant turn.loop-test.true
-    c.before.before.before.before.before.before.before.before.is-picked.ensures
-    c.before.before.before.before.before.before.before.if5.false (omega (arith, c.before.before.before.before.before.before.if6.false))
-    c.before.before.before.fill.ensures c.next-with5.ensures)
-    (λ c. paged-length _ 5 c.before.loop.invariant.paging.paged)
+    let turn = c in
+    let l = turn.loop-p in
+    level-below v a.head a.first a.count a.at a.target.now l.invariant turn.loop-p-test.true
+    c.is_picked.ensures
+    c.if-is_picked.false (omega (arith, c.if-width-skip.false))
+    c.fill-done.ensures c.next_with-p-else-i-k-2.ensures)
+    (λ c. paged-length _ 5 c.loop-p.invariant.paging.paged)
     (λ c.
-    let s = c.before.before.before.before.before in
+    let s = c in
     let p = s.requires.1 in
-    let v = level-at p.0 p.1.1 (search rules) (search rules) c.before.before.before.if1.false in
+    let v = level-at p.0 p.1.1 (search rules) (search rules) c.if-i-k.false in
     let a = s.args in
-    level-end v a.head a.first a.count a.at a.target.now c.before.loop.invariant c.loop-test.false)
+    level-end v a.head a.first a.count a.at a.target.now c.loop-p.invariant c.loop-p-test.false)

@@ -5,10 +5,10 @@ use Rattle.choices.proofs.page.is_picked.Statement.{statement}
 use Rattle.choices.proofs.page.is_picked.Tie as tie
 
 returns : tie.Need-returns
-returns c = is-picked-as c.args.t1 (search rules) c.args.i c.args.x c.requires
+returns c = is-picked-as c.args.picks (search rules) c.args.i c.args.x c.requires
 
-pub is-picked-spec : {M : Type 1} → statement M
-is-picked-spec =
+pub is_picked_spec : {M : Type 1} → statement M
+is_picked_spec =
     tie.close
     (tie.spec
     (λ c. search rules)

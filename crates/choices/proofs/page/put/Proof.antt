@@ -7,7 +7,7 @@ use Rattle.choices.proofs.page.put.Statement.{statement}
 use Rattle.choices.proofs.page.put.Tie as tie
 
 returns : tie.Need-returns
-returns c = put_five c.args.target.now c.args.at c.args.head c.args.t4 (search rules)
+returns c = put_five c.args.target.now c.args.at c.args.head c.args.picks (search rules)
 
 pub put_spec : {M : Type 1} → statement M
 put_spec =

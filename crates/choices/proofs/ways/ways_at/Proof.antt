@@ -4,7 +4,7 @@ use Rattle.choices.proofs.ways.ways_at.Statement.{statement}
 use Rattle.choices.proofs.ways.ways_at.Tie as tie
 
 returns : tie.Need-returns
-returns c = (rw c.before.less.ensures.0 at c.one-unless.ensures.0, c.one-unless.ensures.1)
+returns c = (rw c.less.ensures.0 at c.one_unless.ensures.0, c.one_unless.ensures.1)
 
-pub ways-at-spec : {M : Type 1} → statement M
-ways-at-spec = tie.close (tie.spec (λ c κs. search rules) (λ c κs. search rules) returns)
+pub ways_at_spec : {M : Type 1} → statement M
+ways_at_spec = tie.close (tie.spec (λ c κs. search rules) (λ c κs. search rules) returns)

@@ -7,19 +7,19 @@ use Rattle.legal.proofs.atom.atom_ok.Tie as tie
 returns : tie.Need-returns
 unfolding atom_ok
 returns c =
-    let value = c.before.before.before.before.before in
-    let mode = value.before.before in
+    let value = c in
+    let mode = value in
     rw (
-      c.value-ok.ensures,
-      c.before.class_of.ensures,
-      value.value-of.ensures,
-      value.before.port-of.ensures,
-      mode.Mode-of.ensures,
-      mode.before.role-of.ensures,
+      c.value_ok.ensures,
+      c.class_of.ensures,
+      value.value_of-value.ensures,
+      value.port_of-port.ensures,
+      mode.mode_of-mode.ensures,
+      mode.role_of-role.ensures,
     )
 
-pub atom-ok-spec : {M : Type 1} → statement M
-atom-ok-spec =
+pub atom_ok_spec : {M : Type 1} → statement M
+atom_ok_spec =
     tie.close
     (tie.spec
     (λ c κs. search rules)

@@ -5,7 +5,7 @@ use Rattle.legal.proofs.atom.value_ok.Statement.{statement}
 use Rattle.legal.proofs.atom.value_ok.Tie as tie
 
 returns : tie.Need-returns
-returns c = rw c.before.moded-value-of.ensures (value-with-mode c.before.before.args.s _ c.before.before.requires)
+returns c = rw c.moded_value_of-value.ensures (value-with-mode c.args.s _ c.requires)
 
-pub value-ok-spec : {M : Type 1} → statement M
-value-ok-spec = tie.close (tie.spec (λ c κs. search rules) (λ c. search rules) (λ c. search rules) returns)
+pub value_ok_spec : {M : Type 1} → statement M
+value_ok_spec = tie.close (tie.spec (λ c κs. search rules) (λ c. search rules) (λ c. search rules) returns)

@@ -5,9 +5,9 @@ use Rattle.legal.proofs.rule.rest_ok.Statement.{statement}
 use Rattle.legal.proofs.rule.rest_ok.Tie as tie
 
 returns : tie.Need-returns
-returns c = rest-runs _ _ _ c.before.before.run-end.ensures c.before.run-end2.ensures c.run-end3.ensures
+returns c = rest-runs _ _ _ c.run_end-bodies.ensures c.run_end-compensations.ensures c.run_end-aborts.ensures
 
-pub rest-ok-spec : {M : Type 1} → statement M
-rest-ok-spec =
+pub rest_ok_spec : {M : Type 1} → statement M
+rest_ok_spec =
     tie.close
     (tie.spec (λ c κs. search rules) (λ c κs. search rules) (λ c κs. search rules) (λ c. search rules) returns)

@@ -10,30 +10,30 @@ use Rattle.semantics.specs.Table.{atom_ok}
 use Rattle.legal.proofs.rule.run_end.Statement.{statement}
 use Rattle.legal.proofs.rule.run_end.Tie as tie
 
-abbrev Inv : tie.invariant-loop
+abbrev Inv : tie.invariant-loop-i
 Inv ws from role z s i₀ i = Skipping (in_run atom_role (atom_ok z s) role) ws from i
 
-abbrev μ : tie.decreases-loop
+abbrev μ : tie.decreases-loop-i
 μ ws from role z s i₀ i = length ws - i
 
-loop-holds : tie.Need-loop-init Inv μ
+loop-holds : tie.Need-loop-i-init Inv μ
 loop-holds c = skipping-start _ _ _ (search rules)
 
-returns : tie.Need-returns Inv μ
+returns : tie.Need-returns-then-not-in_run Inv μ
 returns c =
-    let l = c.before.before.before.before.loop in
-    skipping-here l.invariant 0 (search rules) (sym c.before.in-run.ensures ∙ not-true _ c.if1.true)
+    let l = c.loop-i in
+    skipping-here l.invariant 0 (search rules) (sym c.in_run.ensures ∙ not-true _ c.if-not-in_run.true-raw)
 
-loop-again : tie.Need-loop-preserved Inv μ
+loop-again : tie.Need-loop-i-preserved Inv μ
 loop-again c =
-    let l = c.before.before.before.before.loop in
-    skipping-next l.invariant 0 (search rules) (sym c.before.in-run.ensures ∙ not-false _ c.if1.false)
+    let l = c.loop-i in
+    skipping-next l.invariant 0 (search rules) (sym c.in_run.ensures ∙ not-false _ c.if-not-in_run.false-raw)
 
-returns-2 : tie.Need-returns-2 Inv μ
-returns-2 c = skipping-done c.before.loop.invariant (search rules)
+returns-2 : tie.Need-returns Inv μ
+returns-2 c = skipping-done c.loop-i.invariant (search rules)
 
-pub run-end-spec : {M : Type 1} → statement M
-run-end-spec =
+pub run_end_spec : {M : Type 1} → statement M
+run_end_spec =
     tie.close
     (tie.spec
     Inv

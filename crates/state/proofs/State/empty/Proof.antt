@@ -9,5 +9,5 @@ use Rattle.state.proofs.State.empty.Tie as tie
 returns : tie.Need-returns
 returns c = holds_of _ refl refl (search rules) (rows_none _ 0)
 
-pub empty-spec : {M : Type 1} → statement M
-empty-spec = tie.close (tie.spec returns)
+pub empty_spec : {M : Type 1} → statement M
+empty_spec = tie.close (tie.spec returns)

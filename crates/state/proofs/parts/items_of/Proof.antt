@@ -8,11 +8,11 @@ use Rattle.state.proofs.parts.items_of.Tie as tie
 
 returns : tie.Need-returns
 returns c =
-    let (n, q) = c.before.entry-count.ensures in
-    let e = items-part c.before.before.before.args.state.now c.before.entry-count.result n in
+    let (n, q) = c.entry_count-n.ensures in
+    let e = items-part c.args.state.now c.entry_count-n.result n in
     record { value = e; size = ap length e ∙ q.items; sizes = q }
 
-pub items-of-spec : {M : Type 1} → statement M
-items-of-spec =
+pub items_of_spec : {M : Type 1} → statement M
+items_of_spec =
     tie.close
     (tie.spec (λ c κs. search rules) (λ c. search rules) (λ c. search rules) (λ c. search rules) (λ c. search rules) (λ c. search rules) returns)

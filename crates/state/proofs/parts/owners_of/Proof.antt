@@ -8,11 +8,11 @@ use Rattle.state.proofs.parts.owners_of.Tie as tie
 
 returns : tie.Need-returns
 returns c =
-    let (n, q) = c.before.entry-count.ensures in
-    let e = owners-part c.before.before.before.args.state.now c.before.entry-count.result n in
+    let (n, q) = c.entry_count-n.ensures in
+    let e = owners-part c.args.state.now c.entry_count-n.result n in
     record { value = e; size = ap length e ∙ q.owners; sizes = q }
 
-pub owners-of-spec : {M : Type 1} → statement M
-owners-of-spec =
+pub owners_of_spec : {M : Type 1} → statement M
+owners_of_spec =
     tie.close
     (tie.spec (λ c κs. search rules) (λ c. search rules) (λ c. search rules) (λ c. search rules) (λ c. search rules) returns)

@@ -8,16 +8,16 @@ use Rattle.semantics.specs.State.{state_sizes_ok}
 use Rattle.state.proofs.parts.sizes_ok.Statement.{statement}
 use Rattle.state.proofs.parts.sizes_ok.Tie as tie
 
-returns : tie.Need-returns
+returns : tie.Need-returns-then-state-lt2
 unfolding state_sizes_ok
-returns c = sym (false-and _ (lt-leb 2 _ c.if1.true))
+returns c = sym (false-and _ (lt-leb 2 _ c.if-state-lt2.true))
 
-returns-2 : tie.Need-returns-2
+returns-2 : tie.Need-returns
 unfolding state_sizes_ok
-returns-2 c = sym (true-and _ (le-leb 2 _ c.before.before.if1.false))
+returns-2 c = sym (true-and _ (le-leb 2 _ c.if-state-lt2.false))
 
-pub sizes-ok-spec : {M : Type 1} → statement M
-sizes-ok-spec =
+pub sizes_ok_spec : {M : Type 1} → statement M
+sizes_ok_spec =
     tie.close
-    (tie.spec returns (λ c. search rules) (λ c. omega (arith, c.shared-slice-known.given 0)) (λ c. search rules)
-    (λ c. omega (arith, c.before.shared-slice-known.given 0)) (λ c. omega (arith, c.before.shared-slice-known.given 0)) returns-2)
+    (tie.spec returns (λ c. search rules) (λ c. omega (arith, c.shared_slice_known-1.given 0)) (λ c. search rules)
+    (λ c. omega (arith, c.shared_slice_known-1.given 0)) (λ c. omega (arith, c.shared_slice_known-1.given 0)) returns-2)
