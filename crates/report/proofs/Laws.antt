@@ -18,7 +18,7 @@ use Rattle.state.specs.Parts.{Loadable, loadable}
 use Rattle.ready.specs.Ready.{ready-table}
 use Rattle.intake.specs.Split.{SplitAs, accepted-input}
 use Rattle.intake.specs.declared.parts.Parts as intake
-use Rattle.log.specs.Form.{log-sized}
+use Rattle.move_log.specs.Form.{log-sized}
 use Rattle.state.specs.declared.State.{State}
 use Rattle.state.specs.Working.{state_in}
 use Rattle.state.specs.Arrays.{HoldsIn}

@@ -18,7 +18,7 @@ use Rattle.semantics.specs.declared.Refusal.TheVariants.{SerialTooManyEntries}
 use Rattle.semantics.specs.declared.Outcome.{Outcome}
 use Rattle.semantics.specs.declared.Outcome.TheVariants.{Written, Refused}
 use Rattle.serializability.specs.Demand3.{demand3}
-use Rattle.log.specs.Form.{log-sized}
+use Rattle.move_log.specs.Form.{log-sized}
 use Rattle.semantics.specs.Move.{Move}
 use Rattle.wellformed.specs.States.{state-given}
 use Rattle.state.specs.declared.State.{State}

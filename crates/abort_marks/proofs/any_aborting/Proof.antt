@@ -15,10 +15,10 @@ use Rattle.abort_marks.proofs.Chunks.{marked-ids, Passing, passing-start, chunk-
 use Rattle.abort_marks.proofs.any_aborting.Statement.{statement}
 use Rattle.abort_marks.proofs.any_aborting.Tie as tie
 
-abbrev Inv : tie.invariant-loop
+abbrev Inv : tie.invariant-loop-from
 Inv owners items unmarked a b c d n from₀ from = Columns owners items n × ((gs : List ℕ) → Passing (a ∷ b ∷ c ∷ d ∷ []) (row_of owners items gs) n from)
 
-abbrev μ : tie.decreases-loop
+abbrev μ : tie.decreases-loop-from
 μ owners items unmarked a b c d n from₀ from = n - from
 
 abbrev ids : tie.Start Inv μ → List ℕ
@@ -32,42 +32,42 @@ by-ids : (c : tie.Start Inv μ) (gs : List ℕ) {r : Bool} → r ≡ any (abort_
     → r ≡ any (λ o. may_abort o (state_of c gs)) (ids c)
 by-ids c gs h = h ∙ marked-ids (ids c) (state_of c gs)
 
-loop-holds : tie.Need-loop-init Inv μ
-loop-holds c = let s = c.before in (s.requires.0, λ gs. passing-start _ _ s.requires.1 c.pass-start.ensures)
+loop-holds : tie.Need-loop-from-init Inv μ
+loop-holds c = let s = c in (s.requires.0, λ gs. passing-start _ _ s.requires.1 c.pass_start-from.ensures)
 
-chunk-aborting-requires : tie.Need-chunk-aborting-requires Inv μ
+chunk-aborting-requires : tie.Need-chunk_aborting-requires Inv μ
 chunk-aborting-requires c κs =
-    let turn = c.before in
-    let v = turn.before.loop.invariant in
-    let e = c.chunk-end.ensures in (
+    let turn = c in
+    let v = turn.loop-from.invariant in
+    let e = c.chunk_end-end.ensures in (
       record { owners = v.0.owners; items = v.0.items; fits = omega (arith, e.within, v.0.fits) },
       omega (arith, e.more),
       e.few,
-      chunk-room _ _ (v.1 []) v.0.fits turn.loop-test.true,
+      chunk-room _ _ (v.1 []) v.0.fits turn.loop-from-test.true,
     )
 
-returns : tie.Need-returns Inv μ
+returns : tie.Need-returns-then-chunk_aborting Inv μ
 returns c gs =
-    let end = c.before.before in
-    let l = end.before.before in
-    by-ids l.before.before gs
-    (passing-found _ _ (l.loop.invariant.1 gs) end.chunk-end.ensures (sym (c.before.chunk-aborting.ensures gs) ∙ c.if1.true))
+    let end = c in
+    let l = end in
+    by-ids l.before.before.before.before.before.before gs
+    (passing-found _ _ (l.loop-from.invariant.1 gs) end.chunk_end-end.ensures (sym (c.chunk_aborting.ensures gs) ∙ c.if-chunk_aborting.true))
 
-loop-again : tie.Need-loop-preserved Inv μ
+loop-again : tie.Need-loop-from-preserved Inv μ
 loop-again c =
-    let end = c.before.before in
-    let v = end.before.before.loop.invariant in
-    let e = end.chunk-end.ensures in
-    (v.0, λ gs. passing-next _ _ (v.1 gs) e end.before.loop-test.true (sym (c.before.chunk-aborting.ensures gs) ∙ c.if1.false))
+    let end = c in
+    let v = end.loop-from.invariant in
+    let e = end.chunk_end-end.ensures in
+    (v.0, λ gs. passing-next _ _ (v.1 gs) e end.loop-from-test.true (sym (c.chunk_aborting.ensures gs) ∙ c.if-chunk_aborting.false))
 
-pub any-aborting-spec : {M : Type 1} → statement M
-any-aborting-spec =
+pub any_aborting_spec : {M : Type 1} → statement M
+any_aborting_spec =
     tie.close
     (tie.spec
     Inv μ (λ c κs. search rules) loop-holds
-    (λ c κs. (c.loop-test.true, c.before.loop.invariant.0.fits))
+    (λ c κs. (c.loop-from-test.true, c.loop-from.invariant.0.fits))
     chunk-aborting-requires
     returns
-    (λ c. let e = c.before.before.chunk-end.ensures in omega (arith, e.more, e.within))
+    (λ c. let e = c.chunk_end-end.ensures in omega (arith, e.more, e.within))
     loop-again
-    (λ c gs. by-ids c.before.before.before gs (passing-done _ _ (c.before.loop.invariant.1 gs) c.loop-test.false)))
+    (λ c gs. by-ids c.before.before.before gs (passing-done _ _ (c.loop-from.invariant.1 gs) c.loop-from-test.false)))

@@ -8,14 +8,14 @@ use Rattle.abort_marks.proofs.Chunks.{unmarked}
 use Rattle.abort_marks.proofs.chunk_aborting.Statement.{statement}
 use Rattle.abort_marks.proofs.chunk_aborting.Tie as tie
 
-returns : tie.Need-returns
+returns : tie.Need-returns-then-not-chunk_marked
 returns c gs =
-    let s = c.before.before in
+    let s = c in
     let a = s.args in
     sym (unmarked (a.a ∷ a.b ∷ a.c ∷ a.d ∷ []) (row_of a.owners.now a.items.now gs) a.from a.end s.requires.1 s.requires.2
-    (sym (c.before.chunk-marked.ensures a.owners.now gs) ∙ not-true _ c.if1.true))
+    (sym (c.chunk_marked.ensures a.owners.now gs) ∙ not-true _ c.if-not-chunk_marked.true-raw))
 
-pub chunk-aborting-spec : {M : Type 1} → statement M
-chunk-aborting-spec =
+pub chunk_aborting_spec : {M : Type 1} → statement M
+chunk_aborting_spec =
     tie.close
-    (tie.spec (λ c κs. search rules) returns (λ c κs. search rules) (λ c gs. c.marked-between.ensures gs))
+    (tie.spec (λ c κs. search rules) returns (λ c κs. search rules) (λ c gs. c.marked_between.ensures gs))

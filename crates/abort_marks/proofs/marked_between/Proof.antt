@@ -11,30 +11,30 @@ use Rattle.abort_marks.specs.Marked.{abort_mark_in}
 use Rattle.abort_marks.proofs.marked_between.Statement.{statement}
 use Rattle.abort_marks.proofs.marked_between.Tie as tie
 
-abbrev Inv : tie.invariant-loop
+abbrev Inv : tie.invariant-loop-i
 Inv owners items from end a b c d found₀ i₀ found i =
     Columns owners items end
     × ((gs : List ℕ) → Finding (abort_mark_in (a ∷ b ∷ c ∷ d ∷ [])) (rows_from (row_of owners items gs) end) end found i
     (any (abort_mark_in (a ∷ b ∷ c ∷ d ∷ [])) (rows_from (row_of owners items gs) end from)))
 
-abbrev μ : tie.decreases-loop
+abbrev μ : tie.decreases-loop-i
 μ owners items from end a b c d found₀ i₀ found i = end - i
 
-loop-holds : tie.Need-loop-init Inv μ
+loop-holds : tie.Need-loop-i-init Inv μ
 loop-holds c = (c.requires.0, λ gs. finding-from _ _ _ _ c.requires.1)
 
-loop-again : tie.Need-loop-preserved Inv μ
+loop-again : tie.Need-loop-i-preserved Inv μ
 loop-again c =
-    let one = c.before.before in
-    let turn = one.before.before in
-    let l = turn.before.loop in
-    (l.invariant.0, λ gs. rw (c.kind-of.ensures, one.one_of.ensures) (finding-next (rows-tails _ _) (l.invariant.1 gs) turn.loop-test.true))
+    let one = c in
+    let turn = one in
+    let l = turn.loop-i in
+    (l.invariant.0, λ gs. rw (c.kind_of.ensures, one.one_of.ensures) (finding-next (rows-tails _ _) (l.invariant.1 gs) turn.loop-i-test.true))
 
 returns : tie.Need-returns Inv μ
-returns c gs = finding-done (rows-tails _ _) (c.before.loop.invariant.1 gs) c.loop-test.false
+returns c gs = finding-done (rows-tails _ _) (c.loop-i.invariant.1 gs) c.loop-i-test.false
 
-pub marked-between-spec : {M : Type 1} → statement M
-marked-between-spec =
+pub marked_between_spec : {M : Type 1} → statement M
+marked_between_spec =
     tie.close
     (tie.spec
     Inv μ loop-holds (λ c. search rules) (λ c. search rules) (λ c κs. search rules) (λ c. search rules) (λ c. search rules) (λ c κs. search rules)

@@ -2,7 +2,7 @@ use Prim.Native.Nat.{ℕ}
 use native.Mathlib.Omega.{arith}
 use lib.ListN.{length-replicate}
 use borrow.Author.Rules.{rules}
-use Rattle.log.specs.Form.{log-sized}
+use Rattle.move_log.specs.Form.{log-sized}
 use Rattle.serial.proofs.serialize_log.Statement.{statement}
 use Rattle.serial.proofs.serialize_log.Tie as tie
 

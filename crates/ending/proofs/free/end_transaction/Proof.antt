@@ -22,7 +22,7 @@ use Rattle.ending.proofs.Freeing.{freed-entry, counts-staying, counts-marks, sta
 use Rattle.ending.proofs.free.end_transaction.Statement.{statement}
 use Rattle.ending.proofs.free.end_transaction.Tie as tie
 
-abbrev Inv : tie.invariant-loop
+abbrev Inv : tie.invariant-loop-i
 Inv owners₀ items₀ origins₀ from id kind n next i₀ w₀ members₀ owners items origins i w members =
     Compacting (λ p e. not (owned id e) || eqb e.kind kind) (freed (λ e. eqb e.kind kind) id)
     (held owners items origins (record { len = n; next = next; unmarked = 0 })) n i w
@@ -30,10 +30,10 @@ Inv owners₀ items₀ origins₀ from id kind n next i₀ w₀ members₀ owner
     × (kind ≤ 1)
     × CountedTo (member_of id) (row_of owners items origins) n i members (count_if (member_of id) (rows (row_of owners₀ items₀ origins₀) 0 n))
 
-abbrev μ : tie.decreases-loop
+abbrev μ : tie.decreases-loop-i
 μ owners₀ items₀ origins₀ from id kind n next i₀ w₀ members₀ owners items origins i w members = n - i
 
-loop-holds : tie.Need-loop-init Inv μ
+loop-holds : tie.Need-loop-i-init Inv μ
 unfolding ended state_in
 loop-holds c =
     let a = c.args in
@@ -47,40 +47,40 @@ loop-holds c =
       members-from a.id _ a.at.len a.from none.within none.none,
     )
 
-loop-again : tie.Need-loop-preserved Inv μ
+loop-again : tie.Need-loop-i-preserved Inv μ
 loop-again c =
-    let within = c.before.before in
-    let turn = within.before.before.before.before.before.before in
-    let l = turn.before.loop in
-    let a = turn.before.before.args in
+    let within = c in
+    let turn = within in
+    let l = turn.loop-i in
+    let a = turn.args in
     let o = get_or l.owners l.i 0 in
     let x = get_or l.items l.i 0 in (
-      compacting-turn _ _ l.invariant.0 turn.loop-test.true _ _ _ _
-          (c.before.same.ensures.0 ∙ ap (λ (k : ℕ). one_if (eqb k a.kind)) within.kind-within.ensures ∙ counts-staying a.id a.kind o x)
-          (λ h. rw (within.before.before.owner-after.ensures, within.before.item-after.ensures)
+      compacting-turn _ _ l.invariant.0 turn.loop-i-test.true _ _ _ _
+          (c.same-w.ensures.0 ∙ ap (λ (k : ℕ). one_if (eqb k a.kind)) within.kind_within-within.ensures ∙ counts-staying a.id a.kind o x)
+          (λ h. rw (within.owner_after.ensures, within.item_after.ensures)
           (freed-entry a.id a.kind o x (get_or l.origins l.i 0) h)),
       l.invariant.1,
-      counted-turn _ l.invariant.2 turn.loop-test.true
-          (c.same2.ensures.0 ∙ ap (λ (k : ℕ). one_if (eqb k 3)) within.kind-within.ensures ∙ counts-marks a.id a.kind o x l.invariant.1)
-          c.same2.ensures.1 _
+      counted-turn _ l.invariant.2 turn.loop-i-test.true
+          (c.same-members.ensures.0 ∙ ap (λ (k : ℕ). one_if (eqb k 3)) within.kind_within-within.ensures ∙ counts-marks a.id a.kind o x l.invariant.1)
+          c.same-members.ensures.1 _
           (λ k m. stored_other l.owners l.items l.origins l.w _ _ _ k (λ e. omega (arith, l.invariant.0.sifting.behind))),
     )
 
 returns : tie.Need-returns Inv μ
 unfolding ended state_in
 returns c =
-    let l = c.before.loop in
-    let done = compacting-done _ _ l.invariant.0 c.loop-test.false 0 in (
+    let l = c.loop-i in
+    let done = compacting-done _ _ l.invariant.0 c.loop-i-test.false 0 in (
       record { arrays = l.invariant.0.arrays; holds = done; looked = not-looked refl },
-      members-done _ _ l.invariant.2 c.loop-test.false 0,
+      members-done _ _ l.invariant.2 c.loop-i-test.false 0,
     )
 
-pub end-transaction-spec : {M : Type 1} → statement M
-end-transaction-spec =
+pub end_transaction_spec : {M : Type 1} → statement M
+end_transaction_spec =
     tie.close
     (tie.spec
     Inv μ loop-holds (λ c. search rules) (λ c. search rules) (λ c. search rules) (λ c. search rules)
     (λ c. search rules) (λ c. search rules) (λ c κs. search rules) (λ c. search rules) (λ c. search rules)
     (λ c κs. search rules) (λ c. search rules) (λ c. search rules) (λ c. search rules) (λ c. search rules)
     (λ c κs. search rules) (λ c κs. search rules) (λ c. search rules) (λ c κs. search rules) (λ c. search rules) (λ c. search rules) (λ c. search rules)
-    loop-again (λ c. let v = c.before.loop.invariant in omega (arith, v.2.few, v.2.within, v.0.small)) returns)
+    loop-again (λ c. let v = c.loop-i.invariant in omega (arith, v.2.few, v.2.within, v.0.small)) returns)

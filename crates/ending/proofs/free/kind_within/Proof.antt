@@ -3,6 +3,6 @@ use borrow.Author.Tests.{eq-eqb, ne_eqb}
 use Rattle.ending.proofs.free.kind_within.Statement.{statement}
 use Rattle.ending.proofs.free.kind_within.Tie as tie
 
-pub kind-within-spec : {M : Type 1} → statement M
-kind-within-spec = tie.close (tie.spec (λ c κs. search rules) (λ c. rw (c.kind-of.ensures, eq-eqb _ _ c.before.if1.true))
-    (λ c. simp (ne_eqb _ _ c.if1.false)))
+pub kind_within_spec : {M : Type 1} → statement M
+kind_within_spec = tie.close (tie.spec (λ c κs. search rules) (λ c. rw (c.kind_of.ensures, eq-eqb _ _ c.if-owner-id.true))
+    (λ c. simp (ne_eqb _ _ c.if-owner-id.false)))

@@ -2,5 +2,5 @@ use borrow.Author.Tests.{eq-eqb, ne_eqb}
 use Rattle.ending.proofs.free.owner_after.Statement.{statement}
 use Rattle.ending.proofs.free.owner_after.Tie as tie
 
-pub owner-after-spec : {M : Type 1} → statement M
-owner-after-spec = tie.close (tie.spec (λ c. simp (eq-eqb _ _ c.if1.true)) (λ c. simp (ne_eqb _ _ c.if1.false)))
+pub owner_after_spec : {M : Type 1} → statement M
+owner_after_spec = tie.close (tie.spec (λ c. simp (eq-eqb _ _ c.if-owner-id.true)) (λ c. simp (ne_eqb _ _ c.if-owner-id.false)))

@@ -4,4 +4,4 @@ use Rattle.ending.proofs.free.same.Statement.{statement}
 use Rattle.ending.proofs.free.same.Tie as tie
 
 pub same_spec : {M : Type 1} → statement M
-same_spec = tie.close (tie.spec (λ c. (simp (eq-eqb _ _ c.if1.true), search rules)) (λ c. (simp (ne_eqb _ _ c.if1.false), search rules)))
+same_spec = tie.close (tie.spec (λ c. (simp (eq-eqb _ _ c.if-a-b.true), search rules)) (λ c. (simp (ne_eqb _ _ c.if-a-b.false), search rules)))

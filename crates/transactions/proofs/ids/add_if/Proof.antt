@@ -8,22 +8,22 @@ use Rattle.transactions.proofs.Collecting.{not-added, added}
 use Rattle.transactions.proofs.ids.add_if.Statement.{statement}
 use Rattle.transactions.proofs.ids.add_if.Tie as tie
 
-returns : tie.Need-returns
+returns : tie.Need-returns-then-not-has
 returns c =
-    let start = c.before.before in
-    rw (sym c.before.has.ensures ∙ not-true _ c.if1.true) (not-added _ _ start.requires.1 start.requires.2)
+    let start = c in
+    rw (sym c.has.ensures ∙ not-true _ c.if-not-has.true-raw) (not-added _ _ start.requires.1 start.requires.2)
 
-member : (c : tie.Else1) → has c.before.before.args.set.now c.before.before.args.v ≡ true
-member c = sym c.before.has.ensures ∙ not-false _ c.if1.false
+member : (c : tie.Else-not-has) → has c.args.set.now c.args.v ≡ true
+member c = sym c.has.ensures ∙ not-false _ c.if-not-has.false-raw
 
-returns-2 : tie.Need-returns-2
+returns-2 : tie.Need-returns
 returns-2 c =
-    let start = c.before.before in
-    rw (member c) (added _ _ _ start.requires.1 (start.requires.3 (member c)))
+    let start = c in
+    rw (member c.before) (added _ _ _ start.requires.1 (start.requires.3 (member c.before)))
 
-pub add-if-spec : {M : Type 1} → statement M
-add-if-spec =
+pub add_if_spec : {M : Type 1} → statement M
+add_if_spec =
     tie.close
     (tie.spec
-    (λ c κs. search rules) returns (λ c. search rules) (λ c. search rules) (λ c. c.before.before.requires.3 (member c))
+    (λ c κs. search rules) returns (λ c. search rules) (λ c. search rules) (λ c. c.requires.3 (member c.before))
     (λ c. search rules) returns-2)

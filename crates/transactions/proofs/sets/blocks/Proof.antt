@@ -3,5 +3,5 @@ use borrow.Author.Rules.{rules}
 use Rattle.transactions.proofs.sets.blocks.Statement.{statement}
 use Rattle.transactions.proofs.sets.blocks.Tie as tie
 
-pub blocks-spec : {M : Type 1} → statement M
-blocks-spec = tie.close (tie.spec (λ c κs. search rules) (λ c κs. search rules) (λ c owner origin. rw (c.port-of.ensures, c.before.kind-of.ensures)))
+pub blocks_spec : {M : Type 1} → statement M
+blocks_spec = tie.close (tie.spec (λ c κs. search rules) (λ c κs. search rules) (λ c owner origin. rw (c.port_of-port.ensures, c.kind_of-kind.ensures)))

@@ -5,11 +5,11 @@ use Rattle.transactions.proofs.sets.enter.Tie as tie
 
 returns : tie.Need-returns
 returns c origin =
-    let second = c.before.before.before in
+    let second = c in
     record {
-      owning = second.before.before.before.insert.ensures;
-      blocking = rw (second.before.blocks2.ensures 0 origin) at second.insert-if.ensures;
-      marking = rw c.before.kind-of.ensures at c.insert-if2.ensures;
+      owning = second.insert.ensures;
+      blocking = rw (second.blocks-2.ensures 0 origin) at second.insert_if.ensures;
+      marking = rw c.kind_of.ensures at c.insert_if-2.ensures;
     }
 
 pub enter_spec : {M : Type 1} → statement M

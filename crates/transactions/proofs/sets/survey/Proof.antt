@@ -9,32 +9,32 @@ use Rattle.transactions.proofs.Gathering.{SetsSoFar, sets-start, sets-next, sets
 use Rattle.transactions.proofs.sets.survey.Statement.{statement}
 use Rattle.transactions.proofs.sets.survey.Tie as tie
 
-abbrev Inv : tie.invariant-loop
+abbrev Inv : tie.invariant-loop-i
 Inv owners items n globals present₀ blocked₀ aborting₀ i₀ present blocked aborting i =
     (length present ≡ 1024)
     × (length blocked ≡ 1024)
     × (length aborting ≡ 1024)
     × ((gs : List ℕ) → SetsSoFar globals (row_of owners items gs) n present blocked aborting i)
 
-abbrev μ : tie.decreases-loop
+abbrev μ : tie.decreases-loop-i
 μ owners items n globals present₀ blocked₀ aborting₀ i₀ present blocked aborting i = n - i
 
-loop-holds : tie.Need-loop-init Inv μ
+loop-holds : tie.Need-loop-i-init Inv μ
 loop-holds c = (c.requires.1.size, c.requires.2.size, c.requires.3.size, λ gs. sets-start c.requires.1 c.requires.2 c.requires.3)
 
-loop-again : tie.Need-loop-preserved Inv μ
+loop-again : tie.Need-loop-i-preserved Inv μ
 loop-again c =
-    let turn = c.before.before.before.before.before.before in
+    let turn = c in
     let t = c.enter.ensures in
-    ((t 0).owning.size, (t 0).blocking.size, (t 0).marking.size, λ gs. sets-next (turn.before.loop.invariant.3 gs) turn.loop-test.true (t _))
+    ((t 0).owning.size, (t 0).blocking.size, (t 0).marking.size, λ gs. sets-next (turn.loop-i.invariant.3 gs) turn.loop-i-test.true (t _))
 
 returns : tie.Need-returns Inv μ
 returns c gs =
-    let v = c.before.loop.invariant in
-    sets-done (v.3 gs) c.loop-test.false v.0 v.1 v.2
+    let v = c.loop-i.invariant in
+    sets-done (v.3 gs) c.loop-i-test.false v.0 v.1 v.2
 
-pub survey-spec : {M : Type 1} → statement M
-survey-spec =
+pub survey_spec : {M : Type 1} → statement M
+survey_spec =
     tie.close
     (tie.spec
     Inv μ loop-holds (λ c. search rules) (λ c. search rules) (λ c. search rules) (λ c. search rules)
