@@ -11,24 +11,24 @@ use Rattle.seek.specs.Seek.{may_fit}
 use Rattle.seek.proofs.chunk_may_fit.Statement.{statement}
 use Rattle.seek.proofs.chunk_may_fit.Tie as tie
 
-abbrev Inv : tie.invariant-loop
+abbrev Inv : tie.invariant-loop-j
 Inv owners items from low high port found₀ j₀ found j =
     let p : ℕ → Bool = λ p. may_fit low high port (get_or owners p 0) (get_or items p 0) in
     Finding p (rows_from (λ j. from + j) 32) 32 found j (any p (rows (λ j. from + j) 0 32))
 
-abbrev μ : tie.decreases-loop
+abbrev μ : tie.decreases-loop-j
 μ owners items from low high port found₀ j₀ found j = 32 - j
 
-few : (c : tie.In-loop Inv μ) → c.before.before.args.from + c.before.loop.j < 1024
-few c = omega (arith, c.loop-test.true, c.before.before.requires.fits)
+few : (c : tie.In-loop-j Inv μ) → c.args.from + c.loop-j.j < 1024
+few c = omega (arith, c.loop-j-test.true, c.requires.fits)
 
-loop-again : tie.Need-loop-preserved Inv μ
+loop-again : tie.Need-loop-j-preserved Inv μ
 loop-again c =
-    let turn = c.before.before.before in
-    rw c.may-fit.ensures (finding-next (rows-tails _ _) turn.before.loop.invariant turn.loop-test.true)
+    let turn = c in
+    rw c.may_fit-found.ensures (finding-next (rows-tails _ _) turn.loop-j.invariant turn.loop-j-test.true)
 
-pub chunk-may-fit-spec : {M : Type 1} → statement M
-chunk-may-fit-spec =
+pub chunk_may_fit_spec : {M : Type 1} → statement M
+chunk_may_fit_spec =
     tie.close
     (tie.spec
     Inv
@@ -36,12 +36,12 @@ chunk-may-fit-spec =
     (λ c. finding-start _ _ _)
     (λ c. omega (arith, few c))
     (λ c. omega (arith, few c))
-    (λ c. omega (arith, few c, c.before.before.requires.owners))
+    (λ c. omega (arith, few c, c.requires.owners))
     (λ c. omega (arith, few c.before))
     (λ c. omega (arith, few c.before))
-    (λ c. omega (arith, few c.before, c.before.before.before.requires.items))
+    (λ c. omega (arith, few c.before, c.requires.items))
     (λ c κs. search rules)
     (λ c. search rules)
     (λ c. search rules)
     loop-again
-    (λ c. finding-done (rows-tails _ _) c.before.loop.invariant c.loop-test.false))
+    (λ c. finding-done (rows-tails _ _) c.loop-j.invariant c.loop-j-test.false))

@@ -7,33 +7,33 @@ use Rattle.seek.specs.Seek.{fits_at, Sought, sought-start, sought-next, sought-f
 use Rattle.seek.proofs.first_in.Statement.{statement}
 use Rattle.seek.proofs.first_in.Tie as tie
 
-abbrev Inv : tie.invariant-loop
+abbrev Inv : tie.invariant-loop-p
 Inv owners items from end low high port stopped p₀ p = (p ≤ end) × Sought (fits_at owners items low high stopped port) from p
 
-abbrev μ : tie.decreases-loop
+abbrev μ : tie.decreases-loop-p
 μ owners items from end low high port stopped p₀ p = end - p
 
-few : (c : tie.In-loop Inv μ) → c.before.loop.p < 1024
-few c = omega (arith, c.loop-test.true, c.before.before.requires.0.fits)
+few : (c : tie.In-loop-p Inv μ) → c.loop-p.p < 1024
+few c = omega (arith, c.loop-p-test.true, c.requires.0.fits)
 
-pub first-in-spec : {M : Type 1} → statement M
-first-in-spec =
+pub first_in_spec : {M : Type 1} → statement M
+first_in_spec =
     tie.close
     (tie.spec
     Inv
     μ
     (λ c. (c.requires.1, sought-start))
     (λ c. omega (arith, few c))
-    (λ c. omega (arith, few c, c.before.before.requires.0.owners))
+    (λ c. omega (arith, few c, c.requires.0.owners))
     (λ c. omega (arith, few c.before))
-    (λ c. omega (arith, few c.before, c.before.before.before.requires.0.items))
+    (λ c. omega (arith, few c.before, c.requires.0.items))
     (λ c κs. search rules)
     (λ c.
-    let l = c.before.before.before.before.before.loop in
-    sought-found l.invariant.1 l.invariant.0 (sym c.before.fits2.ensures ∙ c.if1.true))
+    let l = c.loop-p in
+    sought-found l.invariant.1 l.invariant.0 (sym c.fits.ensures ∙ c.if-fits.true))
     (λ c. omega (arith, few c.before.before.before.before))
-    (λ c. omega (arith, c.before.before.before.before.loop-test.true))
+    (λ c. omega (arith, c.loop-p-test.true))
     (λ c.
-    let turn = c.before.before.before.before in
-    (omega (arith, turn.loop-test.true), sought-next turn.before.loop.invariant.1 (sym c.before.fits2.ensures ∙ c.if1.false)))
-    (λ c. sought-end c.before.loop.invariant.1 c.before.loop.invariant.0 c.loop-test.false))
+    let turn = c in
+    (omega (arith, turn.loop-p-test.true), sought-next turn.loop-p.invariant.1 (sym c.fits.ensures ∙ c.if-fits.false)))
+    (λ c. sought-end c.loop-p.invariant.1 c.loop-p.invariant.0 c.loop-p-test.false))

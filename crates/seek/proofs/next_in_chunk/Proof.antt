@@ -8,11 +8,11 @@ use Rattle.lists.specs.Tests.{false-and}
 use Rattle.seek.proofs.next_in_chunk.Statement.{statement}
 use Rattle.seek.proofs.next_in_chunk.Tie as tie
 
-returns-2 : tie.Need-returns-2
+returns-2 : tie.Need-returns-then-not-chunk_may_fit
 returns-2 c =
-    let s = c.before.before.before in
+    let s = c in
     let a = s.args in
-    let lacks = rows-lack _ (λ j. a.from + j) 0 32 (sym c.before.chunk-may-fit.ensures ∙ not-true _ c.if2.true) in
+    let lacks = rows-lack _ (λ j. a.from + j) 0 32 (sym c.chunk_may_fit.ensures ∙ not-true _ c.if-not-chunk_may_fit.true-raw) in
     record {
       low = s.requires.1;
       high = omega arith;
@@ -22,14 +22,14 @@ returns-2 c =
       here = λ l. absurd (omega arith);
     }
 
-pub next-in-chunk-spec : {M : Type 1} → statement M
-next-in-chunk-spec =
+pub next_in_chunk_spec : {M : Type 1} → statement M
+next_in_chunk_spec =
     tie.close
     (tie.spec
     (λ c. omega (arith, c.requires.0.fits))
-    (λ c κs. let p = c.before.requires in (p.0, p.1))
-    (λ c. c.first-in.ensures)
-    (λ c κs. let p = c.before.requires.0 in record { owners = p.owners; items = p.items; fits = omega (arith, c.if1.false, p.fits) })
+    (λ c κs. let p = c.requires in (p.0, p.1))
+    (λ c. c.first_in.ensures)
+    (λ c κs. let p = c.requires.0 in record { owners = p.owners; items = p.items; fits = omega (arith, c.if-end-from.false, p.fits) })
     returns-2
-    (λ c κs. let p = c.before.before.before.requires in (p.0, p.1))
-    (λ c. c.first-in2.ensures))
+    (λ c κs. let p = c.requires in (p.0, p.1))
+    (λ c. c.first_in-2.ensures))

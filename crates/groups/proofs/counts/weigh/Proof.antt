@@ -13,42 +13,42 @@ use Rattle.groups.proofs.counts.weigh.Tie as tie
 long : (s : tie.Start) → length (thrice s.args.b s.args.c s.args.d s.args.weights.now) ≡ length s.args.weights.now
 long s = thrice-length s.args.b s.args.c s.args.d s.args.weights.now
 
-pub weigh-spec : {M : Type 1} → statement M
-weigh-spec =
+pub weigh_spec : {M : Type 1} → statement M
+weigh_spec =
     tie.close
     (tie.spec
     (λ c. search rules)
     (λ c. search rules)
-    (λ c. omega (arith, c.before.requires.1.1 c.before.args.b))
+    (λ c. omega (arith, c.requires.1.1 c.args.b))
     (λ c. search rules)
     (λ c. search rules)
     (λ c. omega (
       arith,
-      c.before.requires,
-      length-set c.before.args.weights.now c.before.args.b
-          (get_or c.before.args.weights.now c.before.args.b 0 + 1),
+      c.requires,
+      length-set c.args.weights.now c.args.b
+          (get_or c.args.weights.now c.args.b 0 + 1),
     ))
     (λ c.
-    let s = c.before.before in
+    let s = c in
     let a = s.args in
     let l : a.b < length a.weights.now = omega (arith, s.requires) in
     omega (arith, weight-added a.weights.now a.b 1 a.c l, s.requires.1.1 a.c, one-small (eqb a.c a.b)))
     (λ c.
-    let a = c.before.before.args in
-    omega (arith, c.before.before.requires, length-set a.weights.now a.b (get_or a.weights.now a.b 0 + 1)))
+    let a = c.args in
+    omega (arith, c.requires, length-set a.weights.now a.b (get_or a.weights.now a.b 0 + 1)))
     (λ c. search rules)
     (λ c.
-    let a = c.before.before.args in
+    let a = c.args in
     let ys = set a.weights.now a.b (get_or a.weights.now a.b 0 + 1) in
     omega (
       arith,
-      c.before.before.requires,
+      c.requires,
       length-set a.weights.now a.b (get_or a.weights.now a.b 0 + 1),
       length-set ys a.c
           (get_or ys a.c 0 + 1048576),
     ))
     (λ c.
-    let s = c.before.before.before in
+    let s = c in
     let a = s.args in
     let ys = set a.weights.now a.b (get_or a.weights.now a.b 0 + 1) in
     let l : a.b < length a.weights.now = omega (arith, s.requires) in
@@ -63,19 +63,19 @@ weigh-spec =
       one-small (eqb a.d a.c),
     ))
     (λ c.
-    let a = c.before.before.before.args in
+    let a = c.args in
     let ys = set a.weights.now a.b (get_or a.weights.now a.b 0 + 1) in
     omega (
       arith,
-      c.before.before.before.requires,
+      c.requires,
       length-set a.weights.now a.b (get_or a.weights.now a.b 0 + 1),
       length-set ys a.c
           (get_or ys a.c 0 + 1048576),
     ))
     (λ c. search rules)
-    (λ c. omega (arith, c.before.before.before.requires, long c.before.before.before))
+    (λ c. omega (arith, c.requires, long c.before.before.before))
     (λ c.
-    let s = c.before.before.before.before in
+    let s = c in
     let a = s.args in
     let ys = set a.weights.now a.b (get_or a.weights.now a.b 0 + 1) in
     let zs = set ys a.c (get_or ys a.c 0 + 1048576) in
@@ -97,8 +97,8 @@ weigh-spec =
       one-small (eqb a.a a.c),
       one-small (eqb a.a a.d),
     ))
-    (λ c. omega (arith, c.before.before.before.before.requires, long c.before.before.before.before))
+    (λ c. omega (arith, c.requires, long c.before.before.before.before))
     (λ c.
-    let s = c.before.before.before.before in
+    let s = c in
     let (p, q) = s.requires in
     weighed s.args.a s.args.b s.args.c s.args.d s.args.weights.now p.0 p.1 p.2 p.3 q.0 q.1 _ _ _ refl refl refl))

@@ -20,204 +20,204 @@ use borrow.Author.Rules.{rules}
 use Rattle.groups.proofs.pages.group_page.Statement.{statement}
 use Rattle.groups.proofs.pages.group_page.Tie as tie
 
-abbrev Inv : tie.invariant-loop
+abbrev Inv : tie.invariant-loop-p
 Inv keys n k counts head first count target₀ at takes t skip₀ done₀ p₀ target skip done p =
     (p ≤ n) × Paging (choice_words head no_picks 0) 5 (choices_by_group (take n keys) (take k takes))
     (groups_from (take n keys) (get_or takes 0 0) (rest_of takes k) p) first count skip done at target₀ target
 
-abbrev μ : tie.decreases-loop
+abbrev μ : tie.decreases-loop-p
 μ keys n k counts head first count target₀ at takes t skip₀ done₀ p₀ target skip done p = n - p
 
 -- a turn's place, among the keys in use
-inside : (c : tie.In-loop Inv μ) → c.before.loop.p < length (take c.before.before.before.args.n c.before.before.before.args.keys.now)
+inside : (c : tie.In-loop-p Inv μ) → c.loop-p.p < length (take c.args.n c.args.keys.now)
 inside c =
-    let s = c.before.before.before in
+    let s = c in
     let b = s.requires.0.0 in
-    rw (length-take-le s.args.n s.args.keys.now (omega (arith, b.few, b.size))) c.loop-test.true
+    rw (length-take-le s.args.n s.args.keys.now (omega (arith, b.few, b.size))) c.loop-p-test.true
 
 -- .. and its key
-here : (c : tie.In-loop Inv μ) → get_or (take c.before.before.before.args.n c.before.before.before.args.keys.now) c.before.loop.p 0
-    ≡ get_or c.before.before.before.args.keys.now c.before.loop.p 0
-here c = get_or-take c.before.before.before.args.n c.before.before.before.args.keys.now c.before.loop.p 0 c.loop-test.true
+here : (c : tie.In-loop-p Inv μ) → get_or (take c.args.n c.args.keys.now) c.loop-p.p 0
+    ≡ get_or c.args.keys.now c.loop-p.p 0
+here c = get_or-take c.args.n c.args.keys.now c.loop-p.p 0 c.loop-p-test.true
 
-small : (c : tie.In-loop Inv μ) → get_or c.before.before.before.args.keys.now c.before.loop.p 0 < 524288
-small c = c.before.before.before.requires.0.0.below c.before.loop.p c.loop-test.true
+small : (c : tie.In-loop-p Inv μ) → get_or c.args.keys.now c.loop-p.p 0 < 524288
+small c = c.requires.0.0.below c.loop-p.p c.loop-p-test.true
 
-done-le : (c : tie.In-loop Inv μ) → c.before.loop.done ≤ c.before.before.before.args.count
-done-le c = paged-le _ 5 c.before.loop.invariant.1.paged
+done-le : (c : tie.In-loop-p Inv μ) → c.loop-p.done ≤ c.args.count
+done-le c = paged-le _ 5 c.loop-p.invariant.1.paged
 
-loop-holds : tie.Need-loop-init Inv μ
+loop-holds : tie.Need-loop-p-init Inv μ
 loop-holds c =
-    let a = c.before.args in
-    let p = c.before.requires.0 in
-    let four : length a.t3 ≡ 4 = search rules in (
+    let a = c.args in
+    let p = c.requires.0 in
+    let four : length a.takes ≡ 4 = search rules in (
       omega arith,
       paging-pass (choice_words a.head no_picks 0) 5 (five-words a.head no_picks 0 refl)
-          (paging-start (choice_words a.head no_picks 0) 5 (choices_by_group (take a.n a.keys.now) (take a.k a.t3)) a.first a.count
+          (paging-start (choice_words a.head no_picks 0) 5 (choices_by_group (take a.n a.keys.now) (take a.k a.takes)) a.first a.count
           a.at a.target.now)
-          (groups-start-of (take a.n a.keys.now) a.k p.1 p.2 a.t3 four),
+          (groups-start-of (take a.n a.keys.now) a.k p.1 p.2 a.takes four),
     )
 
-returns : tie.Need-returns Inv μ
+returns : tie.Need-returns-then-done-count Inv μ
 returns c =
-    let a = c.before.before.before.before.args in
-    paging-full (choice_words a.head no_picks 0) 5 (five-words a.head no_picks 0 refl) c.before.before.loop.invariant.1 c.if1.true
+    let a = c.args in
+    paging-full (choice_words a.head no_picks 0) 5 (five-words a.head no_picks 0 refl) c.loop-p.invariant.1 c.if-done-count.true
 
-loop-again : tie.Need-loop-preserved Inv μ
+loop-again : tie.Need-loop-p-preserved-then-key-t Inv μ
 loop-again c =
-    let turn = c.before.before.before in
-    let a = turn.before.before.before.args in
-    let l = turn.before.loop in
+    let turn = c in
+    let a = turn.args in
+    let l = turn.loop-p in
     let ks = take a.n a.keys.now in
-    let off : eqb (get_or ks l.p 0 % 512) (get_or a.t3 0 0) ≡ false = rw (here turn) (ne_eqb _ _ c.if2.true) in (
-      omega (arith, turn.loop-test.true),
+    let off : eqb (get_or ks l.p 0 % 512) (get_or a.takes 0 0) ≡ false = rw (here turn) (ne_eqb _ _ c.if-key-t.true) in (
+      omega (arith, turn.loop-p-test.true),
       paging-pass (choice_words a.head no_picks 0) 5 (five-words a.head no_picks 0 refl) l.invariant.1
-          (from-pass (choices_in ks (get_or a.t3 0 0) (rest_of a.t3 a.k)) (λ p. eqb (get_or ks p 0 % 512) (get_or a.t3 0 0)) (length ks) l.p
+          (from-pass (choices_in ks (get_or a.takes 0 0) (rest_of a.takes a.k)) (λ p. eqb (get_or ks p 0 % 512) (get_or a.takes 0 0)) (length ks) l.p
           (inside turn) off),
     )
 
 -- where the key is on the first port, the choices are within its group
-grouped : (c : tie.Else2 Inv μ) → InGroup
-    (take c.before.before.before.before.before.before.args.n c.before.before.before.before.before.before.args.keys.now)
-    c.before.before.before.before.before.before.args.t3
-    c.before.before.before.before.before.before.args.k
-    c.before.before.before.before.loop.p
-    (widths_of c.before.before.before.before.before.before.args.t3
-    (left_in c.before.before.before.before.before.before.args.counts.now
-    (get_or c.before.before.before.before.before.before.args.keys.now c.before.before.before.before.loop.p 0 / 512))
-    c.before.before.before.before.before.before.args.k)
+grouped : (c : tie.Else-key-t Inv μ) → InGroup
+    (take c.args.n c.args.keys.now)
+    c.args.takes
+    c.args.k
+    c.loop-p.p
+    (widths_of c.args.takes
+    (left_in c.args.counts.now
+    (get_or c.args.keys.now c.loop-p.p 0 / 512))
+    c.args.k)
 grouped c =
-    let turn = c.before.before.before in
-    let s = turn.before.before.before in
+    let turn = c in
+    let s = turn in
     let a = s.args in
     let p = s.requires.0 in
-    let four : length a.t3 ≡ 4 = search rules in
-    let first : get_or (take a.n a.keys.now) turn.before.loop.p 0 % 512 ≡ get_or a.t3 0 0 = rw (here turn) (omega (arith, c.if2.false)) in
-    rw (here turn) at (in_group (take a.n a.keys.now) a.k p.1 p.2 a.t3 four p.3 turn.before.loop.p (inside turn)
+    let four : length a.takes ≡ 4 = search rules in
+    let first : get_or (take a.n a.keys.now) turn.loop-p.p 0 % 512 ≡ get_or a.takes 0 0 = rw (here turn) (omega (arith, c.if-key-t.false)) in
+    rw (here turn) at (in_group (take a.n a.keys.now) a.k p.1 p.2 a.takes four p.3 turn.loop-p.p (inside turn)
     (rw (here turn) (small turn)) first)
 
 -- .. and come next
-next : (c : tie.Else2 Inv μ) → groups_from
-    (take c.before.before.before.before.before.before.args.n c.before.before.before.before.before.before.args.keys.now)
-    (get_or c.before.before.before.before.before.before.args.t3 0 0)
-    (rest_of c.before.before.before.before.before.before.args.t3 c.before.before.before.before.before.before.args.k)
-    c.before.before.before.before.loop.p
+next : (c : tie.Else-key-t Inv μ) → groups_from
+    (take c.args.n c.args.keys.now)
+    (get_or c.args.takes 0 0)
+    (rest_of c.args.takes c.args.k)
+    c.loop-p.p
     ≡ choices_in
-    (take c.before.before.before.before.before.before.args.n c.before.before.before.before.before.before.args.keys.now)
-    (get_or c.before.before.before.before.before.before.args.t3 0 0)
-    (rest_of c.before.before.before.before.before.before.args.t3 c.before.before.before.before.before.before.args.k)
-    c.before.before.before.before.loop.p
+    (take c.args.n c.args.keys.now)
+    (get_or c.args.takes 0 0)
+    (rest_of c.args.takes c.args.k)
+    c.loop-p.p
     ++ groups_from
-    (take c.before.before.before.before.before.before.args.n c.before.before.before.before.before.before.args.keys.now)
-    (get_or c.before.before.before.before.before.before.args.t3 0 0)
-    (rest_of c.before.before.before.before.before.before.args.t3 c.before.before.before.before.before.before.args.k)
-    (c.before.before.before.before.loop.p + 1)
+    (take c.args.n c.args.keys.now)
+    (get_or c.args.takes 0 0)
+    (rest_of c.args.takes c.args.k)
+    (c.loop-p.p + 1)
 next c =
-    let turn = c.before.before.before in
-    let a = turn.before.before.before.args in
+    let turn = c in
+    let a = turn.args in
     let ks = take a.n a.keys.now in
-    let q : eqb (get_or ks turn.before.loop.p 0 % 512) (get_or a.t3 0 0) ≡ true = rw (here turn)
-    (eq-eqb (get_or a.keys.now turn.before.loop.p 0 % 512) (get_or a.t3 0 0) (omega (arith, c.if2.false))) in
-    from-here (choices_in ks (get_or a.t3 0 0) (rest_of a.t3 a.k)) (λ p. eqb (get_or ks p 0 % 512) (get_or a.t3 0 0)) (length ks)
-    turn.before.loop.p (inside turn) q
+    let q : eqb (get_or ks turn.loop-p.p 0 % 512) (get_or a.takes 0 0) ≡ true = rw (here turn)
+    (eq-eqb (get_or a.keys.now turn.loop-p.p 0 % 512) (get_or a.takes 0 0) (omega (arith, c.if-key-t.false))) in
+    from-here (choices_in ks (get_or a.takes 0 0) (rest_of a.takes a.k)) (λ p. eqb (get_or ks p 0 % 512) (get_or a.takes 0 0)) (length ks)
+    turn.loop-p.p (inside turn) q
 
-widths-in-requires : tie.Need-widths-in-requires Inv μ
+widths-in-requires : tie.Need-widths_in-below-requires Inv μ
 widths-in-requires c κs =
-    let turn = c.before.before.before in
-    (grouped-sized turn.before.before.before.requires.0.3, small turn)
+    let turn = c in
+    (grouped-sized turn.requires.0.3, small turn)
 
-loop-again-2 : tie.Need-loop-preserved-2 Inv μ
+loop-again-2 : tie.Need-loop-p-preserved-then-width-skip Inv μ
 loop-again-2 c =
-    let first = c.before.before in
-    let turn = first.before.before.before in
-    let a = turn.before.before.before.args in
-    let w = (grouped first).width ∙ sym (ap (λ (x : List ℕ). get_or x 0 0) c.before.widths-in.ensures) in (
-      omega (arith, turn.loop-test.true),
-      rw (← w) (paging-skip (choice_words a.head no_picks 0) 5 (five-words a.head no_picks 0 refl) turn.before.loop.invariant.1
-          (choices_in (take a.n a.keys.now) (get_or a.t3 0 0) (rest_of a.t3 a.k) turn.before.loop.p)
-          (groups_from (take a.n a.keys.now) (get_or a.t3 0 0) (rest_of a.t3 a.k) (turn.before.loop.p + 1)) (next first)
-          (rw w c.if3.true)),
+    let first = c in
+    let turn = first in
+    let a = turn.args in
+    let w = (grouped first).width ∙ sym (ap (λ (x : List ℕ). get_or x 0 0) c.widths_in-below.ensures) in (
+      omega (arith, turn.loop-p-test.true),
+      rw (← w) (paging-skip (choice_words a.head no_picks 0) 5 (five-words a.head no_picks 0 refl) turn.loop-p.invariant.1
+          (choices_in (take a.n a.keys.now) (get_or a.takes 0 0) (rest_of a.takes a.k) turn.loop-p.p)
+          (groups_from (take a.n a.keys.now) (get_or a.takes 0 0) (rest_of a.takes a.k) (turn.loop-p.p + 1)) (next first)
+          (rw w c.if-width-skip.true)),
     )
 
-shifted-requires : tie.Need-shifted-requires Inv μ
+shifted-requires : tie.Need-shifted-wanted-requires Inv μ
 shifted-requires c κs =
-    let turn = c.before.before.before.before.before in
-    (omega (arith, small turn), turn.before.before.before.requires.1.2)
+    let turn = c in
+    (omega (arith, small turn), turn.requires.1.2)
 
-fill-requires : tie.Need-fill-requires Inv μ
+fill-requires : tie.Need-fill-done-requires Inv μ
 fill-requires c κs =
-    let first = c.before.before.before.before in
-    let turn = first.before.before.before in
-    let s = turn.before.before.before in
+    let first = c in
+    let turn = first in
+    let s = turn in
     let b = s.requires.0.0 in
-    let l = turn.before.loop in
+    let l = turn.loop-p in
     let g = grouped first in
     let z = paged-length _ 5 l.invariant.1.paged in
     let k : get_or (take s.args.n s.args.keys.now) l.p 0 ≡ get_or s.args.keys.now l.p 0 = here turn in (
       (s.requires.0.1, s.requires.0.2, b.few, b.size),
       (
         (omega (arith, s.requires.1.0), omega (arith, s.requires.1.1, z, done-le turn)),
-        (rw (c.before.shifted.ensures, ← k, c.before.before.before.widths-in.ensures) g.widths, rw (c.before.shifted.ensures, ← k) g.used),
+        (rw (c.shifted-wanted.ensures, ← k, c.widths_in-below.ensures) g.widths, rw (c.shifted-wanted.ensures, ← k) g.used),
       ),
     )
 
-add_done : tie.Need-overflow-add-done Inv μ
+add_done : tie.Need-overflow_add-done Inv μ
 add_done c =
-    let turn = c.before.before.before.before.before.before.before.before.before.before in
-    omega (arith, paged-le _ 5 c.before.before.fill.ensures, done-le turn, turn.before.before.before.requires.1.0)
+    let turn = c in
+    omega (arith, paged-le _ 5 c.fill-done.ensures, done-le turn, turn.requires.1.0)
 
-loop-again-3 : tie.Need-loop-preserved-3 Inv μ
+loop-again-3 : tie.Need-loop-p-preserved Inv μ
 loop-again-3 c =
-    let first = c.before.before.before.before.before.before.before in
-    let turn = first.before.before.before in
-    let a = turn.before.before.before.args in
-    let l = turn.before.loop in
+    let first = c in
+    let turn = first in
+    let a = turn.args in
+    let l = turn.loop-p in
     let g = grouped first in
     let k : get_or (take a.n a.keys.now) l.p 0 ≡ get_or a.keys.now l.p 0 = here turn in
-    let w = g.width ∙ sym (ap (λ (x : List ℕ). get_or x 0 0) c.before.before.before.before.before.before.widths-in.ensures) in
-    let wrote = g.paged (rw (c.before.before.before.before.shifted.ensures, ← k) at c.before.before.fill.ensures) in
+    let w = g.width ∙ sym (ap (λ (x : List ℕ). get_or x 0 0) c.widths_in-below.ensures) in
+    let wrote = g.paged (rw (c.shifted-wanted.ensures, ← k) at c.fill-done.ensures) in
     let more = paging-more (choice_words a.head no_picks 0) 5 (five-words a.head no_picks 0 refl) l.invariant.1
-    (choices_in (take a.n a.keys.now) (get_or a.t3 0 0) (rest_of a.t3 a.k) l.p)
-    (groups_from (take a.n a.keys.now) (get_or a.t3 0 0) (rest_of a.t3 a.k) (l.p + 1)) _ _ (next first) wrote in
-    let none : l.skip - length (choices_in (take a.n a.keys.now) (get_or a.t3 0 0) (rest_of a.t3 a.k) l.p) ≡ 0 = omega
-    (arith, w, c.before.before.before.before.before.if3.false) in
-    (omega (arith, turn.loop-test.true), rw none at more)
+    (choices_in (take a.n a.keys.now) (get_or a.takes 0 0) (rest_of a.takes a.k) l.p)
+    (groups_from (take a.n a.keys.now) (get_or a.takes 0 0) (rest_of a.takes a.k) (l.p + 1)) _ _ (next first) wrote in
+    let none : l.skip - length (choices_in (take a.n a.keys.now) (get_or a.takes 0 0) (rest_of a.takes a.k) l.p) ≡ 0 = omega
+    (arith, w, c.if-width-skip.false) in
+    (omega (arith, turn.loop-p-test.true), rw none at more)
 
-returns-2 : tie.Need-returns-2 Inv μ
+returns-2 : tie.Need-returns Inv μ
 returns-2 c =
-    let s = c.before.before.before in
+    let s = c in
     let a = s.args in
     let b = s.requires.0.0 in
-    let l = c.before.loop in
+    let l = c.loop-p in
     let ks = take a.n a.keys.now in
-    let past : length ks ≤ l.p = rw (length-take-le a.n a.keys.now (omega (arith, b.few, b.size))) c.loop-test.false in
+    let past : length ks ≤ l.p = rw (length-take-le a.n a.keys.now (omega (arith, b.few, b.size))) c.loop-p-test.false in
     paging-end (choice_words a.head no_picks 0) 5 (five-words a.head no_picks 0 refl) l.invariant.1
-    (from_end (choices_in ks (get_or a.t3 0 0) (rest_of a.t3 a.k)) (λ p. eqb (get_or ks p 0 % 512) (get_or a.t3 0 0)) (length ks) l.p past)
+    (from_end (choices_in ks (get_or a.takes 0 0) (rest_of a.takes a.k)) (λ p. eqb (get_or ks p 0 % 512) (get_or a.takes 0 0)) (length ks) l.p past)
 
-few : (c : tie.In-loop Inv μ) → c.before.loop.p < 1024
-few c = omega (arith, c.loop-test.true, c.before.before.before.requires.0.0.few)
+few : (c : tie.In-loop-p Inv μ) → c.loop-p.p < 1024
+few c = omega (arith, c.loop-p-test.true, c.requires.0.0.few)
 
-pub group-page-spec : {M : Type 1} → statement M
-group-page-spec =
+pub group_page_spec : {M : Type 1} → statement M
+group_page_spec =
     tie.close
     (tie.spec
     Inv
     μ
     (λ c. search rules)
     loop-holds
-    (λ c. paged-length _ 5 c.before.before.loop.invariant.1.paged)
+    (λ c. paged-length _ 5 c.loop-p.invariant.1.paged)
     returns
     (λ c. omega (arith, few c.before))
-    (λ c. omega (arith, few c.before, c.before.before.before.before.requires.0.0.size))
+    (λ c. omega (arith, few c.before, c.requires.0.0.size))
     (λ c. omega (arith, few c.before.before.before))
-    (λ c. omega (arith, c.before.before.before.loop-test.true))
+    (λ c. omega (arith, c.loop-p-test.true))
     loop-again
     widths-in-requires
     (λ c. search rules)
     (λ c. omega (arith, few c.before.before.before.before.before))
-    (λ c. omega (arith, c.before.before.before.before.before.loop-test.true))
+    (λ c. omega (arith, c.loop-p-test.true))
     loop-again-2
-    (λ c. omega (arith, c.before.before.if2.false))
+    (λ c. omega (arith, c.if-key-t.false))
     shifted-requires
     (λ c. omega (arith, few c.before.before.before.before.before.before))
     (λ c. omega (arith, done-le c.before.before.before.before.before.before))
@@ -226,7 +226,7 @@ group-page-spec =
     fill-requires
     add_done
     (λ c. omega (arith, few c.before.before.before.before.before.before.before.before.before.before))
-    (λ c. omega (arith, c.before.before.before.before.before.before.before.before.before.before.loop-test.true))
+    (λ c. omega (arith, c.loop-p-test.true))
     loop-again-3
-    (λ c. paged-length _ 5 c.before.loop.invariant.1.paged)
+    (λ c. paged-length _ 5 c.loop-p.invariant.1.paged)
     returns-2)

@@ -3,11 +3,11 @@ use native.Mathlib.Omega.{arith}
 use Rattle.groups.proofs.pages.group_widths.Statement.{statement}
 use Rattle.groups.proofs.pages.group_widths.Tie as tie
 
-pub group-widths-spec : {M : Type 1} → statement M
-group-widths-spec =
+pub group_widths_spec : {M : Type 1} → statement M
+group_widths_spec =
     tie.close
     (tie.spec
     (λ c. omega (arith, c.requires.1))
     (λ c. omega (arith, c.requires.1, c.requires.0.size))
-    (λ c κs. let p = c.before.requires in p.0.few c.before.args.g p.1)
+    (λ c κs. let p = c.requires in p.0.few c.args.g p.1)
     (λ c. c.widths.ensures))

@@ -5,8 +5,8 @@ use borrow.Author.Rules.{rules}
 use Rattle.groups.proofs.pages.shifted.Statement.{statement}
 use Rattle.groups.proofs.pages.shifted.Tie as tie
 
-pub shifted-spec : {M : Type 1} → statement M
-shifted-spec =
+pub shifted_spec : {M : Type 1} → statement M
+shifted_spec =
     tie.close
     (tie.spec
     (λ c. search rules)
@@ -17,4 +17,4 @@ shifted-spec =
     (λ c. omega (arith, c.requires.0, c.requires.1 2))
     (λ c. search rules)
     (λ c. omega (arith, c.requires.0, c.requires.1 3))
-    (λ c. shifted_as c.args.base c.args.t1 (search rules)))
+    (λ c. shifted_as c.args.base c.args.takes (search rules)))

@@ -8,11 +8,11 @@ use Rattle.table.proofs.parts.atom_words_of.Statement.{statement}
 use Rattle.table.proofs.parts.atom_words_of.Tie as tie
 
 part-requires : tie.Need-part-requires
-part-requires c κs = omega (arith, ap (λ (z : Sizes). z.atoms) c.before.sizes-of.ensures)
+part-requires c κs = omega (arith, ap (λ (z : Sizes). z.atoms) c.sizes_of-z.ensures)
 
 returns : tie.Need-returns
-returns c = c.part.ensures ∙ words-part c.before.before.before.before.args.table.now _
-    (ap (λ (z : Sizes). z.atoms) c.before.before.sizes-of.ensures)
+returns c = c.part.ensures ∙ words-part c.args.table.now _
+    (ap (λ (z : Sizes). z.atoms) c.sizes_of-z.ensures)
 
-pub atom-words-of-spec : {M : Type 1} → statement M
-atom-words-of-spec = tie.close (tie.spec (λ c κs. search rules) (λ c. search rules) (λ c. search rules) part-requires returns)
+pub atom_words_of_spec : {M : Type 1} → statement M
+atom_words_of_spec = tie.close (tie.spec (λ c κs. search rules) (λ c. search rules) (λ c. search rules) part-requires returns)

@@ -8,23 +8,23 @@ use Rattle.table.proofs.Whole.{sizes-wrong, sizes-right}
 use Rattle.table.proofs.verdict.check.Statement.{statement}
 use Rattle.table.proofs.verdict.check.Tie as tie
 
-returns : tie.Need-returns
-returns c = sizes-wrong _ _ c.before.before.before.requires (sym c.before.sizes-ok.ensures ∙ not-true _ c.if1.true)
+returns : tie.Need-returns-then-not-sizes_ok
+returns c = sizes-wrong _ _ c.requires (sym c.sizes_ok.ensures ∙ not-true _ c.if-not-sizes_ok.true-raw)
 
-contents-ok-requires : tie.Need-contents-ok-requires
+contents-ok-requires : tie.Need-contents_ok-requires
 contents-ok-requires c κs =
-    let b = c.before in
-    (table-sized _ (sym b.before.sizes-ok.ensures ∙ not-false _ b.if1.false), b.before.before.before.requires)
+    let b = c in
+    (table-sized _ (sym b.sizes_ok.ensures ∙ not-false _ b.if-not-sizes_ok.false-raw), b.requires)
 
-returns-2 : tie.Need-returns-2
+returns-2 : tie.Need-returns-then-not-contents_ok
 returns-2 c =
-    let b = c.before.before.before in
-    sizes-right _ _ false (sym b.before.sizes-ok.ensures ∙ not-false _ b.if1.false) c.before.contents-ok.ensures (not-true _ c.if2.true)
+    let b = c in
+    sizes-right _ _ false (sym b.sizes_ok.ensures ∙ not-false _ b.if-not-sizes_ok.false-raw) c.contents_ok.ensures (not-true _ c.if-not-contents_ok.true-raw)
 
-returns-3 : tie.Need-returns-3
+returns-3 : tie.Need-returns
 returns-3 c =
-    let b = c.before.before.before in
-    sizes-right _ _ true (sym b.before.sizes-ok.ensures ∙ not-false _ b.if1.false) c.before.contents-ok.ensures (not-false _ c.if2.false)
+    let b = c in
+    sizes-right _ _ true (sym b.sizes_ok.ensures ∙ not-false _ b.if-not-sizes_ok.false-raw) c.contents_ok.ensures (not-false _ c.if-not-contents_ok.false-raw)
 
-pub check-spec : {M : Type 1} → statement M
-check-spec = tie.close (tie.spec (λ c κs. search rules) returns contents-ok-requires returns-2 returns-3)
+pub check_spec : {M : Type 1} → statement M
+check_spec = tie.close (tie.spec (λ c κs. search rules) returns contents-ok-requires returns-2 returns-3)

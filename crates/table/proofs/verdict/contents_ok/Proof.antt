@@ -10,48 +10,48 @@ use Rattle.table.proofs.Whole.{numbers-wrong, cuts, numbers-right}
 use Rattle.table.proofs.verdict.contents_ok.Statement.{statement}
 use Rattle.table.proofs.verdict.contents_ok.Tie as tie
 
-index-rules-requires : tie.Need-index-rules-requires
+index-rules-requires : tie.Need-index_rules-requires
 index-rules-requires c κs =
-    let start = c.before.before.before.before in
-    let n = ap length c.before.Numbers-of.ensures ∙ numbers-length start.args.table.now start.requires.0 in
-    let z = ap (λ (z : Sizes). z.rules) c.before.before.sizes-of.ensures in
+    let start = c in
+    let n = ap length c.numbers_of.ensures ∙ numbers-length start.args.table.now start.requires.0 in
+    let z = ap (λ (z : Sizes). z.rules) c.sizes_of-z.ensures in
     (omega arith, omega (arith, start.requires.0.rules), start.requires.1)
 
-returns : tie.Need-returns
+returns : tie.Need-returns-then-not-index_rules
 returns c =
-    let b = c.before.before.before in
-    numbers-wrong _ b.before.before.before.requires.0 b.before.sizes-of.ensures b.Numbers-of.ensures c.before.index-rules.ensures
-    (not-true _ c.if1.true)
+    let b = c in
+    numbers-wrong _ b.requires.0 b.sizes_of-z.ensures b.numbers_of.ensures c.index_rules.ensures
+    (not-true _ c.if-not-index_rules.true-raw)
 
-rules-ok-requires : tie.Need-rules-ok-requires
+rules-ok-requires : tie.Need-rules_ok-requires
 rules-ok-requires c κs =
-    let n = c.before.before in
-    let b = n.before.before.before in
+    let n = c in
+    let b = n in
     cuts
     _
-    b.before.before.before.requires.0
-    b.before.sizes-of.ensures
-    b.Numbers-of.ensures
-    n.before.index-rules.ensures
-    (not-false _ n.if1.false)
-    c.before.atom-words-of.ensures
+    b.requires.0
+    b.sizes_of-z.ensures
+    b.numbers_of.ensures
+    n.index_rules.ensures
+    (not-false _ n.if-not-index_rules.false-raw)
+    c.atom_words_of.ensures
 
-returns-2 : tie.Need-returns-2
+returns-2 : tie.Need-returns
 returns-2 c =
-    let n = c.before.before.before in
-    let b = n.before.before.before in
+    let n = c in
+    let b = n in
     numbers-right
     _
-    b.before.before.before.requires.0
-    b.before.sizes-of.ensures
-    b.Numbers-of.ensures
-    n.before.index-rules.ensures
-    (not-false _ n.if1.false)
-    c.before.before.atom-words-of.ensures
-    c.rules-ok.ensures
+    b.requires.0
+    b.sizes_of-z.ensures
+    b.numbers_of.ensures
+    n.index_rules.ensures
+    (not-false _ n.if-not-index_rules.false-raw)
+    c.atom_words_of.ensures
+    c.rules_ok.ensures
 
-pub contents-ok-spec : {M : Type 1} → statement M
-contents-ok-spec =
+pub contents_ok_spec : {M : Type 1} → statement M
+contents_ok_spec =
     tie.close
     (tie.spec
     (λ c κs. search rules)

@@ -18,38 +18,38 @@ use Rattle.table.proofs.verdict.rules_ok.Tie as tie
 abbrev right : List ℕ → List ℕ → Sizes → ℕ → Bool
 right words starts z r = rule_ok z (cut starts r words)
 
-abbrev invariant-loop : tie.invariant-loop
+abbrev invariant-loop : tie.invariant-loop-r
 invariant-loop words starts z rules r₀ r = (r ≤ z.rules) × (all_below r (right words starts z) ≡ true)
 
-abbrev decreases-loop : tie.decreases-loop
+abbrev decreases-loop : tie.decreases-loop-r
 decreases-loop words starts z rules r₀ r = z.rules - r
 
-rule-words-requires : tie.Need-rule-words-requires invariant-loop decreases-loop
-rule-words-requires c κs = c.before.before.before.before.requires c.before.loop.r (search rules)
+rule-words-requires : tie.Need-rule_words-requires invariant-loop decreases-loop
+rule-words-requires c κs = c.requires c.loop-r.r (search rules)
 
-returns : tie.Need-returns invariant-loop decreases-loop
+returns : tie.Need-returns-then-not-rule_ok invariant-loop decreases-loop
 returns c =
-    let a = c.before.before.before.before.before.before.before.args in
-    let l = c.before.before.before.before.loop in
-    let answer = c.before.rule-ok.ensures ∙ ap (rule_ok a.z) c.before.before.rule-words.ensures in
-    sym (below_false (right a.words.now a.starts.now a.z) a.z.rules l.r (search rules) (sym answer ∙ not-true _ c.if1.true))
+    let a = c.args in
+    let l = c.loop-r in
+    let answer = c.rule_ok.ensures ∙ ap (rule_ok a.z) c.rule_words.ensures in
+    sym (below_false (right a.words.now a.starts.now a.z) a.z.rules l.r (search rules) (sym answer ∙ not-true _ c.if-not-rule_ok.true-raw))
 
-loop-again : tie.Need-loop-preserved invariant-loop decreases-loop
+loop-again : tie.Need-loop-r-preserved invariant-loop decreases-loop
 loop-again c =
-    let a = c.before.before.before.before.before.before.before.args in
-    let l = c.before.before.before.before.loop in
-    let answer = c.before.rule-ok.ensures ∙ ap (rule_ok a.z) c.before.before.rule-words.ensures in
-    (search rules, below_next (right a.words.now a.starts.now a.z) l.r l.invariant.1 (sym answer ∙ not-false _ c.if1.false))
+    let a = c.args in
+    let l = c.loop-r in
+    let answer = c.rule_ok.ensures ∙ ap (rule_ok a.z) c.rule_words.ensures in
+    (search rules, below_next (right a.words.now a.starts.now a.z) l.r l.invariant.1 (sym answer ∙ not-false _ c.if-not-rule_ok.false-raw))
 
-returns-2 : tie.Need-returns-2 invariant-loop decreases-loop
+returns-2 : tie.Need-returns invariant-loop decreases-loop
 returns-2 c =
-    let a = c.before.before.before.before.args in
-    let l = c.before.loop in
+    let a = c.args in
+    let l = c.loop-r in
     let e : a.z.rules ≡ l.r = omega arith in
     sym (ap (λ (k : ℕ). all_below k (right a.words.now a.starts.now a.z)) e ∙ l.invariant.1)
 
-pub rules-ok-spec : {M : Type 1} → statement M
-rules-ok-spec =
+pub rules_ok_spec : {M : Type 1} → statement M
+rules_ok_spec =
     tie.close
     (tie.spec
     invariant-loop

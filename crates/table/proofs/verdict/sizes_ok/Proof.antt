@@ -7,16 +7,16 @@ use Rattle.semantics.specs.Table.{table_sizes_ok}
 use Rattle.table.proofs.verdict.sizes_ok.Statement.{statement}
 use Rattle.table.proofs.verdict.sizes_ok.Tie as tie
 
-returns : tie.Need-returns
+returns : tie.Need-returns-then-table-lt5
 unfolding table_sizes_ok
-returns c = sym (false-and _ (lt-leb 5 _ c.if1.true))
+returns c = sym (false-and _ (lt-leb 5 _ c.if-table-lt5.true))
 
-returns-2 : tie.Need-returns-2
+returns-2 : tie.Need-returns
 unfolding table_sizes_ok
-returns-2 c = rw (c.before.before.before.sizes-of.ensures, le-leb 5 _ c.before.before.before.before.if1.false)
+returns-2 c = rw (c.sizes_of-z.ensures, le-leb 5 _ c.if-table-lt5.false)
 
-pub sizes-ok-spec : {M : Type 1} → statement M
-sizes-ok-spec =
+pub sizes_ok_spec : {M : Type 1} → statement M
+sizes_ok_spec =
     tie.close
     (tie.spec
     returns
