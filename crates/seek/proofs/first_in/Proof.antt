@@ -24,14 +24,14 @@ first_in_spec =
     μ
     (λ c. (c.requires.1, sought-start))
     (λ c. omega (arith, few c))
-    (λ c. omega (arith, few c, c.requires.0.owners))
-    (λ c. omega (arith, few c.before))
-    (λ c. omega (arith, few c.before, c.requires.0.items))
+    (λ c. omega (arith, few c.before, c.requires.0.owners))
+    (λ c. omega (arith, few c.before.before))
+    (λ c. omega (arith, few c.before.before.before, c.requires.0.items))
     (λ c κs. search rules)
     (λ c.
     let l = c.loop-p in
     sought-found l.invariant.1 l.invariant.0 (sym c.fits.ensures ∙ c.if-fits.true))
-    (λ c. omega (arith, few c.before.before.before.before))
+    (λ c. omega (arith, few c.before.before.before.before.before.before))
     (λ c. omega (arith, c.loop-p-test.true))
     (λ c.
     let turn = c in

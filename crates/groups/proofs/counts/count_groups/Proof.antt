@@ -50,7 +50,7 @@ add-counts : tie.Need-overflow_add-counts Inv μ
 add-counts c =
     let turn = c in
     let (k, first, second, third, fourth, w, h, top) = turn.loop-i.invariant in
-    omega (arith, word_fits h (inside turn) (short turn) _ (here turn) (small turn), weight-small _ _ _ _ w _ (low-port turn))
+    omega (arith, word_fits h (inside turn.before.before.before.before) (short turn.before.before.before.before) _ (here turn.before.before.before.before) (small turn.before.before.before.before), weight-small _ _ _ _ w _ (low-port turn.before.before.before.before))
 
 loop-again : tie.Need-loop-i-preserved Inv μ
 loop-again c =
@@ -63,7 +63,7 @@ loop-again c =
       third,
       fourth,
       w,
-      grouping-next h (inside turn) (short turn) _ (here turn) (small turn) first second third fourth (w.each _ (low-port turn)),
+      grouping-next h (inside turn.before.before.before.before.before) (short turn.before.before.before.before.before) _ (here turn.before.before.before.before.before) (small turn.before.before.before.before.before) first second third fourth (w.each _ (low-port turn.before.before.before.before.before)),
       top-next turn.loop-i.i turn.args.keys.now top low high most,
     )
 
@@ -89,18 +89,18 @@ count_groups_spec =
     let (p, q) = c.requires in
     (p.0, p.1, p.2, p.3, p.4, c.weigh.ensures, grouping-start _ _ _ _ _ _ q.0 q.1, top_start _))
     (λ c. omega (arith, few c))
-    (λ c. omega (arith, few c))
-    (λ c. omega (arith, small c.before))
-    (λ c. search rules)
-    (λ c. search rules)
-    (λ c. search rules)
-    (λ c. omega (arith, small c.before))
-    (λ c. omega (arith, small c.before, c.loop-i.invariant.6.counted.size))
-    add-counts
-    (λ c. omega (arith, small c.before.before, c.loop-i.invariant.6.counted.size))
+    (λ c. omega (arith, few c.before))
     (λ c. omega (arith, small c.before.before))
-    (λ c κs. let turn = c in (turn.loop-i.invariant.7.few, omega (arith, small turn)))
-    (λ c. omega (arith, few c.before.before.before))
+    (λ c. search rules)
+    (λ c. search rules)
+    (λ c. search rules)
+    (λ c. omega (arith, small c.before.before))
+    (λ c. omega (arith, small c.before.before.before, c.loop-i.invariant.6.counted.size))
+    add-counts
+    (λ c. omega (arith, small c.before.before.before.before, c.loop-i.invariant.6.counted.size))
+    (λ c. omega (arith, small c.before.before.before.before))
+    (λ c κs. let turn = c in (turn.loop-i.invariant.7.few, omega (arith, small turn.before.before.before.before)))
+    (λ c. omega (arith, few c.before.before.before.before.before))
     (λ c. omega (arith, c.loop-i-test.true))
     loop-again
     returns)

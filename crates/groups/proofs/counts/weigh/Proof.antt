@@ -73,7 +73,7 @@ weigh_spec =
           (get_or ys a.c 0 + 1048576),
     ))
     (λ c. search rules)
-    (λ c. omega (arith, c.requires, long c.before.before.before))
+    (λ c. omega (arith, c.requires, long c.before.before.before.before))
     (λ c.
     let s = c in
     let a = s.args in
@@ -97,7 +97,7 @@ weigh_spec =
       one-small (eqb a.a a.c),
       one-small (eqb a.a a.d),
     ))
-    (λ c. omega (arith, c.requires, long c.before.before.before.before))
+    (λ c. omega (arith, c.requires, long c.before.before.before.before.before))
     (λ c.
     let s = c in
     let (p, q) = s.requires in

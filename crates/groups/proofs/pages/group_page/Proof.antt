@@ -69,11 +69,11 @@ loop-again c =
     let a = turn.args in
     let l = turn.loop-p in
     let ks = take a.n a.keys.now in
-    let off : eqb (get_or ks l.p 0 % 512) (get_or a.takes 0 0) ≡ false = rw (here turn) (ne_eqb _ _ c.if-key-t.true) in (
+    let off : eqb (get_or ks l.p 0 % 512) (get_or a.takes 0 0) ≡ false = rw (here turn.before.before.before.before) (ne_eqb _ _ c.if-key-t.true) in (
       omega (arith, turn.loop-p-test.true),
       paging-pass (choice_words a.head no_picks 0) 5 (five-words a.head no_picks 0 refl) l.invariant.1
           (from-pass (choices_in ks (get_or a.takes 0 0) (rest_of a.takes a.k)) (λ p. eqb (get_or ks p 0 % 512) (get_or a.takes 0 0)) (length ks) l.p
-          (inside turn) off),
+          (inside turn.before.before.before.before) off),
     )
 
 -- where the key is on the first port, the choices are within its group
@@ -92,9 +92,9 @@ grouped c =
     let a = s.args in
     let p = s.requires.0 in
     let four : length a.takes ≡ 4 = search rules in
-    let first : get_or (take a.n a.keys.now) turn.loop-p.p 0 % 512 ≡ get_or a.takes 0 0 = rw (here turn) (omega (arith, c.if-key-t.false)) in
-    rw (here turn) at (in_group (take a.n a.keys.now) a.k p.1 p.2 a.takes four p.3 turn.loop-p.p (inside turn)
-    (rw (here turn) (small turn)) first)
+    let first : get_or (take a.n a.keys.now) turn.loop-p.p 0 % 512 ≡ get_or a.takes 0 0 = rw (here turn.before.before.before.before) (omega (arith, c.if-key-t.false)) in
+    rw (here turn.before.before.before.before) at (in_group (take a.n a.keys.now) a.k p.1 p.2 a.takes four p.3 turn.loop-p.p (inside turn.before.before.before.before)
+    (rw (here turn.before.before.before.before) (small turn.before.before.before.before)) first)
 
 -- .. and come next
 next : (c : tie.Else-key-t Inv μ) → groups_from
@@ -116,33 +116,33 @@ next c =
     let turn = c in
     let a = turn.args in
     let ks = take a.n a.keys.now in
-    let q : eqb (get_or ks turn.loop-p.p 0 % 512) (get_or a.takes 0 0) ≡ true = rw (here turn)
+    let q : eqb (get_or ks turn.loop-p.p 0 % 512) (get_or a.takes 0 0) ≡ true = rw (here turn.before.before.before.before)
     (eq-eqb (get_or a.keys.now turn.loop-p.p 0 % 512) (get_or a.takes 0 0) (omega (arith, c.if-key-t.false))) in
     from-here (choices_in ks (get_or a.takes 0 0) (rest_of a.takes a.k)) (λ p. eqb (get_or ks p 0 % 512) (get_or a.takes 0 0)) (length ks)
-    turn.loop-p.p (inside turn) q
+    turn.loop-p.p (inside turn.before.before.before.before) q
 
 widths-in-requires : tie.Need-widths_in-below-requires Inv μ
 widths-in-requires c κs =
     let turn = c in
-    (grouped-sized turn.requires.0.3, small turn)
+    (grouped-sized turn.requires.0.3, small turn.before.before.before.before)
 
 loop-again-2 : tie.Need-loop-p-preserved-then-width-skip Inv μ
 loop-again-2 c =
     let first = c in
     let turn = first in
     let a = turn.args in
-    let w = (grouped first).width ∙ sym (ap (λ (x : List ℕ). get_or x 0 0) c.widths_in-below.ensures) in (
+    let w = (grouped first.before.before).width ∙ sym (ap (λ (x : List ℕ). get_or x 0 0) c.widths_in-below.ensures) in (
       omega (arith, turn.loop-p-test.true),
       rw (← w) (paging-skip (choice_words a.head no_picks 0) 5 (five-words a.head no_picks 0 refl) turn.loop-p.invariant.1
           (choices_in (take a.n a.keys.now) (get_or a.takes 0 0) (rest_of a.takes a.k) turn.loop-p.p)
-          (groups_from (take a.n a.keys.now) (get_or a.takes 0 0) (rest_of a.takes a.k) (turn.loop-p.p + 1)) (next first)
+          (groups_from (take a.n a.keys.now) (get_or a.takes 0 0) (rest_of a.takes a.k) (turn.loop-p.p + 1)) (next first.before.before)
           (rw w c.if-width-skip.true)),
     )
 
 shifted-requires : tie.Need-shifted-wanted-requires Inv μ
 shifted-requires c κs =
     let turn = c in
-    (omega (arith, small turn), turn.requires.1.2)
+    (omega (arith, small turn.before.before.before.before.before.before), turn.requires.1.2)
 
 fill-requires : tie.Need-fill-done-requires Inv μ
 fill-requires c κs =
@@ -151,20 +151,20 @@ fill-requires c κs =
     let s = turn in
     let b = s.requires.0.0 in
     let l = turn.loop-p in
-    let g = grouped first in
+    let g = grouped first.before.before.before.before in
     let z = paged-length _ 5 l.invariant.1.paged in
-    let k : get_or (take s.args.n s.args.keys.now) l.p 0 ≡ get_or s.args.keys.now l.p 0 = here turn in (
+    let k : get_or (take s.args.n s.args.keys.now) l.p 0 ≡ get_or s.args.keys.now l.p 0 = here turn.before.before.before.before.before.before.before.before in (
       (s.requires.0.1, s.requires.0.2, b.few, b.size),
       (
-        (omega (arith, s.requires.1.0), omega (arith, s.requires.1.1, z, done-le turn)),
-        (rw (c.shifted-wanted.ensures, ← k, c.widths_in-below.ensures) g.widths, rw (c.shifted-wanted.ensures, ← k) g.used),
+        (omega (arith, s.requires.1.0), omega (arith, s.requires.1.1, z, done-le turn.before.before.before.before.before.before.before.before)),
+        (rw (c.shifted-wanted.ensures, c.widths_in-below.ensures) (rw k at g.widths), rw c.shifted-wanted.ensures (rw k at g.used)),
       ),
     )
 
 add_done : tie.Need-overflow_add-done Inv μ
 add_done c =
     let turn = c in
-    omega (arith, paged-le _ 5 c.fill-done.ensures, done-le turn, turn.requires.1.0)
+    omega (arith, paged-le _ 5 c.fill-done.ensures, done-le turn.before.before.before.before.before.before.before.before.before.before.before, turn.requires.1.0)
 
 loop-again-3 : tie.Need-loop-p-preserved Inv μ
 loop-again-3 c =
@@ -172,13 +172,13 @@ loop-again-3 c =
     let turn = first in
     let a = turn.args in
     let l = turn.loop-p in
-    let g = grouped first in
-    let k : get_or (take a.n a.keys.now) l.p 0 ≡ get_or a.keys.now l.p 0 = here turn in
+    let g = grouped first.before.before.before.before.before.before.before in
+    let k : get_or (take a.n a.keys.now) l.p 0 ≡ get_or a.keys.now l.p 0 = here turn.before.before.before.before.before.before.before.before.before.before.before in
     let w = g.width ∙ sym (ap (λ (x : List ℕ). get_or x 0 0) c.widths_in-below.ensures) in
     let wrote = g.paged (rw (c.shifted-wanted.ensures, ← k) at c.fill-done.ensures) in
     let more = paging-more (choice_words a.head no_picks 0) 5 (five-words a.head no_picks 0 refl) l.invariant.1
     (choices_in (take a.n a.keys.now) (get_or a.takes 0 0) (rest_of a.takes a.k) l.p)
-    (groups_from (take a.n a.keys.now) (get_or a.takes 0 0) (rest_of a.takes a.k) (l.p + 1)) _ _ (next first) wrote in
+    (groups_from (take a.n a.keys.now) (get_or a.takes 0 0) (rest_of a.takes a.k) (l.p + 1)) _ _ (next first.before.before.before.before.before.before.before) wrote in
     let none : l.skip - length (choices_in (take a.n a.keys.now) (get_or a.takes 0 0) (rest_of a.takes a.k) l.p) ≡ 0 = omega
     (arith, w, c.if-width-skip.false) in
     (omega (arith, turn.loop-p-test.true), rw none at more)
@@ -208,24 +208,24 @@ group_page_spec =
     (λ c. paged-length _ 5 c.loop-p.invariant.1.paged)
     returns
     (λ c. omega (arith, few c.before))
-    (λ c. omega (arith, few c.before, c.requires.0.0.size))
-    (λ c. omega (arith, few c.before.before.before))
+    (λ c. omega (arith, few c.before.before, c.requires.0.0.size))
+    (λ c. omega (arith, few c.before.before.before.before))
     (λ c. omega (arith, c.loop-p-test.true))
     loop-again
     widths-in-requires
     (λ c. search rules)
-    (λ c. omega (arith, few c.before.before.before.before.before))
+    (λ c. omega (arith, few c.before.before.before.before.before.before))
     (λ c. omega (arith, c.loop-p-test.true))
     loop-again-2
     (λ c. omega (arith, c.if-key-t.false))
     shifted-requires
-    (λ c. omega (arith, few c.before.before.before.before.before.before))
-    (λ c. omega (arith, done-le c.before.before.before.before.before.before))
-    (λ c. let d = done-le c.before.before.before.before.before.before.before in search rules)
-    (λ c. let d = done-le c.before.before.before.before.before.before.before in search rules)
+    (λ c. omega (arith, few c.before.before.before.before.before.before.before))
+    (λ c. omega (arith, done-le c.before.before.before.before.before.before.before))
+    (λ c. let d = done-le c.before.before.before.before.before.before.before.before in search rules)
+    (λ c. let d = done-le c.before.before.before.before.before.before.before.before in search rules)
     fill-requires
     add_done
-    (λ c. omega (arith, few c.before.before.before.before.before.before.before.before.before.before))
+    (λ c. omega (arith, few c.before.before.before.before.before.before.before.before.before.before.before))
     (λ c. omega (arith, c.loop-p-test.true))
     loop-again-3
     (λ c. paged-length _ 5 c.loop-p.invariant.1.paged)

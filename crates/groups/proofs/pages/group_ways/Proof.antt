@@ -22,7 +22,7 @@ bound c =
 returns : tie.Need-returns
 returns c =
     let a = c.args in
-    (ap (λ (l : List ℕ). on_first a.counts.now a.g * get_or l 0 0) c.group_widths-below.ensures, bound c.before)
+    (ap (λ (l : List ℕ). on_first a.counts.now a.g * get_or l 0 0) c.group_widths-below.ensures, bound c.before.before)
 
 pub group_ways_spec : {M : Type 1} → statement M
 group_ways_spec =
@@ -32,5 +32,5 @@ group_ways_spec =
     (λ c. omega (arith, c.requires.1))
     (λ c. omega (arith, c.requires.1, c.requires.0.size))
     (λ c. search rules)
-    (λ c. record { fits = lt_of_le_of_lt (bound c.before) (lit< tt) })
+    (λ c. record { fits = lt_of_le_of_lt (bound c.before.before) (lit< tt) })
     returns)
