@@ -13,46 +13,46 @@ four : (c : tie.Start) → length c.args.mv.picks ≡ 4
 four c = search rules
 
 -- where a reaction's number was read
-abbrev start : tie.After-sizes-of → tie.Start
+abbrev start : tie.After-sizes_of-sizes → tie.Start
 start c = c.before.before.before.before.before.before
 
-abbrev a-reaction : (c : tie.After-sizes-of) → tie.After-kind-of
+abbrev a-reaction : (c : tie.After-sizes_of-sizes) → tie.After-kind_of
 a-reaction c = c.before.before.before
 
-returns : tie.Need-returns
+returns : tie.Need-returns-then-kind_of-ne-REACT
 returns c =
-    let kind = c.before.before in
-    let start = kind.before.before.before in
-    c.end-form.ensures
-    ∙ form-end _ start.args.mv.head start.args.mv.picks (four start) (λ e. c.before.if1.true (kind.kind-of.ensures ∙ e))
+    let kind = c in
+    let start = kind in
+    c.end_form.ensures
+    ∙ form-end _ start.args.mv.head start.args.mv.picks (four start.before.before.before.before.before) (λ e. c.if-kind_of-ne-REACT.true (kind.kind_of.ensures ∙ e))
 
-returns-2 : tie.Need-returns-2
+returns-2 : tie.Need-returns-then-sizes-number
 returns-2 c =
-    let sizes = c.before.before in
-    let m = (start sizes).args.mv in
-    form-no-rule _ sizes.sizes-of.ensures m.head m.picks (four (start sizes))
-    (sym (a-reaction sizes).kind-of.ensures ∙ sizes.before.before.if1.false) (rw sizes.before.number_of_lem.ensures at c.if2.true)
+    let sizes = c in
+    let m = (start sizes.before.before).args.mv in
+    form-no-rule _ sizes.sizes_of-sizes.ensures m.head m.picks (four (start sizes.before.before))
+    (sym (a-reaction sizes.before.before).kind_of.ensures ∙ sizes.if-kind_of-ne-REACT.false) (rw sizes.number_of-number.ensures at c.if-sizes-number.true)
 
-consumes-at-requires : tie.Need-consumes-at-requires
+consumes-at-requires : tie.Need-consumes_at-requires
 consumes-at-requires c κs =
-    let sizes = c.before.before in
-    let p = (start sizes).requires in
-    (p.table, below-rules (start sizes).args.table.now sizes.sizes-of.ensures c.if2.false, p.starts)
+    let sizes = c in
+    let p = (start sizes.before.before).requires in
+    (p.table, below-rules (start sizes.before.before).args.table.now sizes.sizes_of-sizes.ensures c.if-sizes-number.false, p.starts)
 
-returns-3 : tie.Need-returns-3
+returns-3 : tie.Need-returns
 returns-3 c =
-    let sizes = c.before.before.before.before in
-    let number = sizes.before.number_of_lem.ensures in
-    let m = (start sizes).args.mv in
-    c.unused-zero.ensures
-    ∙ ap (λ (k : ℕ). all is_zero (drop k m.picks)) (rw number at c.before.consumes-at.ensures.0)
-    ∙ form-rule _ sizes.sizes-of.ensures m.head m.picks (four (start sizes))
-    (sym (a-reaction sizes).kind-of.ensures ∙ sizes.before.before.if1.false) (rw number at c.before.before.if2.false)
+    let sizes = c in
+    let number = sizes.number_of-number.ensures in
+    let m = (start sizes.before.before.before.before).args.mv in
+    c.unused_zero.ensures
+    ∙ ap (λ (k : ℕ). all is_zero (drop k m.picks)) (rw number at c.consumes_at.ensures.0)
+    ∙ form-rule _ sizes.sizes_of-sizes.ensures m.head m.picks (four (start sizes.before.before.before.before))
+    (sym (a-reaction sizes.before.before.before.before).kind_of.ensures ∙ sizes.if-kind_of-ne-REACT.false) (rw number at c.if-sizes-number.false)
 
-pub form-ok-spec : {M : Type 1} → statement M
-form-ok-spec =
+pub form_ok_spec : {M : Type 1} → statement M
+form_ok_spec =
     tie.close
     (tie.spec
     (λ c κs. search rules) (λ c κs. search rules) returns (λ c κs. search rules)
-    (λ c κs. (well-formed _ c.before.before.before.before.before.requires.table).sizes.long) returns-2
-    consumes-at-requires (λ c κs. c.consumes-at.ensures.1) returns-3)
+    (λ c κs. (well-formed _ c.requires.table).sizes.long) returns-2
+    consumes-at-requires (λ c κs. c.consumes_at.ensures.1) returns-3)

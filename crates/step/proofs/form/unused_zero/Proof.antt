@@ -25,9 +25,9 @@ tested a b c d (suc (suc (suc (suc (suc k))))) h = absurd (omega arith)
 returns : tie.Need-returns
 returns c =
     let a = c.args in
-    let four : length a.t1 ≡ 4 = search rules in
-    tested (get_or a.t1 0 0) (get_or a.t1 1 0) (get_or a.t1 2 0) (get_or a.t1 3 0) a.k c.requires
-    ∙ sym (ap (λ ps. all is_zero (drop a.k ps)) (four-places a.t1 four))
+    let four : length a.picks ≡ 4 = search rules in
+    tested (get_or a.picks 0 0) (get_or a.picks 1 0) (get_or a.picks 2 0) (get_or a.picks 3 0) a.k c.requires
+    ∙ sym (ap (λ ps. all is_zero (drop a.k ps)) (four-places a.picks four))
 
-pub unused-zero-spec : {M : Type 1} → statement M
-unused-zero-spec = tie.close (tie.spec (λ c. search rules) (λ c. search rules) (λ c. search rules) (λ c. search rules) returns)
+pub unused_zero_spec : {M : Type 1} → statement M
+unused_zero_spec = tie.close (tie.spec (λ c. search rules) (λ c. search rules) (λ c. search rules) (λ c. search rules) returns)

@@ -4,16 +4,16 @@ use mathlib.Core.Path.{sym, ◌∙◌}
 use Rattle.step.proofs.make.make.Statement.{statement}
 use Rattle.step.proofs.make.make.Tie as tie
 
-make-reaction-requires : tie.Need-make-reaction-requires
+make-reaction-requires : tie.Need-make_reaction-requires
 make-reaction-requires c κs =
-    let kind = c.before.before.before.before in
-    (kind.before.before.requires, sym kind.kind-of.ensures ∙ c.before.before.before.if1.true)
+    let kind = c in
+    (kind.requires, sym kind.kind_of.ensures ∙ c.if-kind_of-eq-REACT.true)
 
-make-end-requires : tie.Need-make-end-requires
+make-end-requires : tie.Need-make_end-requires
 make-end-requires c κs =
-    let kind = c.before.before.before.before in
-    let able = kind.before.before.requires in
-    (able.indexed.table, (able.workable, λ e. c.before.before.before.if1.false (kind.kind-of.ensures ∙ e)))
+    let kind = c in
+    let able = kind.requires in
+    (able.indexed.table, (able.workable, λ e. c.if-kind_of-eq-REACT.false (kind.kind_of.ensures ∙ e)))
 
 pub make_spec : {M : Type 1} → statement M
-make_spec = tie.close (tie.spec (λ c κs. search rules) make-reaction-requires (λ c. c.make-reaction.ensures) make-end-requires (λ c. c.make-end.ensures _))
+make_spec = tie.close (tie.spec (λ c κs. search rules) make-reaction-requires (λ c. c.make_reaction.ensures) make-end-requires (λ c. c.make_end.ensures _))
