@@ -9,48 +9,48 @@ use Rattle.ends.proofs.EndsSoFar.{EndsSoFar, ends-start, ends-room, ends-few, en
 use Rattle.ends.proofs.ends.Statement.{statement}
 use Rattle.ends.proofs.ends.Tie as tie
 
-abbrev Inv : tie.invariant-loop
+abbrev Inv : tie.invariant-loop-i
 Inv ids m set wanted kind first count target₀ at length₀ written₀ i₀ target length written i =
     EndsSoFar (agrees wanted set) kind ids m first count at target₀ target length written i
 
-abbrev μ : tie.decreases-loop
+abbrev μ : tie.decreases-loop-i
 μ ids m set wanted kind first count target₀ at length₀ written₀ i₀ target length written i = m - i
 
-loop-holds : tie.Need-loop-init Inv μ
+loop-holds : tie.Need-loop-i-init Inv μ
 loop-holds c = ends-start _ _ _ _ _ _ _ _
 
-put-if-requires : tie.Need-put-if-requires Inv μ
+put-if-requires : tie.Need-put_if-written-requires Inv μ
 put-if-requires c κs =
-    let start = c.before.before.before.before.before.before in
-    (start.requires.0.2, ends-room c.before.before.before.before.loop.invariant start.requires.1.1)
+    let start = c in
+    (start.requires.0.2, ends-room c.loop-i.invariant start.requires.1.1)
 
-add-written : tie.Need-overflow-add-written Inv μ
+add-written : tie.Need-overflow_add-written Inv μ
 add-written c =
-    let f = ends-few c.before.before.before.before.before.before.before.loop.invariant in
-    let g = paged-le _ 5 c.before.before.put_if.ensures in
+    let f = ends-few c.loop-i.invariant in
+    let g = paged-le _ 5 c.put_if-written.ensures in
     search rules
 
-loop-again : tie.Need-loop-preserved Inv μ
+loop-again : tie.Need-loop-i-preserved Inv μ
 loop-again c =
-    let turn = c.before.before.before.before.before.before.before in
-    let start = turn.before.before.before in
+    let turn = c in
+    let start = turn in
     let enough : start.args.m ≤ length start.args.ids.now = omega (arith, start.requires.0.0, start.requires.0.1) in
-    ends_next turn.before.loop.invariant enough turn.loop-test.true c.before.before.before.before.before.agrees.ensures
-    c.before.before.before.put_if.ensures c.one-if.ensures.0
+    ends_next turn.loop-i.invariant enough turn.loop-i-test.true c.agrees-hit.ensures
+    c.put_if-written.ensures c.one_if-length.ensures.0
 
 returns : tie.Need-returns Inv μ
 returns c =
-    let start = c.before.before.before in
+    let start = c in
     let enough : start.args.m ≤ length start.args.ids.now = omega (arith, start.requires.0.0, start.requires.0.1) in
-    ends-done c.before.loop.invariant enough c.loop-test.false start.requires.0.0
+    ends-done c.loop-i.invariant enough c.loop-i-test.false start.requires.0.0
 
-pub ends-spec : {M : Type 1} → statement M
-ends-spec =
+pub ends_spec : {M : Type 1} → statement M
+ends_spec =
     tie.close
     (tie.spec
     Inv μ loop-holds (λ c. search rules) (λ c. search rules) (λ c κs. search rules)
-    (λ c. let f = ends-few c.before.before.before.loop.invariant in search rules)
-    (λ c. let f = ends-few c.before.before.before.before.loop.invariant in search rules)
-    (λ c. let f = ends-few c.before.before.before.before.loop.invariant in search rules)
+    (λ c. let f = ends-few c.loop-i.invariant in search rules)
+    (λ c. let f = ends-few c.loop-i.invariant in search rules)
+    (λ c. let f = ends-few c.loop-i.invariant in search rules)
     put-if-requires add-written (λ c κs. search rules) (λ c. search rules) (λ c. search rules) (λ c. search rules) loop-again
-    (λ c. paged-length _ 5 c.before.loop.invariant.paging.paged) returns)
+    (λ c. paged-length _ 5 c.loop-i.invariant.paging.paged) returns)

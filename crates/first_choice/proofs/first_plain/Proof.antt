@@ -13,17 +13,17 @@ use Rattle.first_choice.proofs.first_plain.Statement.{statement}
 use Rattle.first_choice.proofs.first_plain.Tie as tie
 
 choose-requires : tie.Need-choose-requires
-choose-requires c κs = let p = c.before.requires in (p.0, omega arith, p.2, p.3, (refl, (refl, (refl, (refl, tt)))))
+choose-requires c κs = let p = c.requires in (p.0, omega arith, p.2, p.3, (refl, (refl, (refl, (refl, tt)))))
 
 returns : tie.Need-returns
 returns c z of d =
-    let s = c.before.before in
+    let s = c in
     let a = s.args in
     let ks = column_keys z a.stopped.now a.owners.now a.items.now a.n in
     let h = columns-plain z a.stopped.now a.owners.now a.items.now a.n a.takes.now a.k
     (omega (arith, s.requires.2, s.requires.3)) s.requires.1 of d in
-    c.choose.ensures ks a.takes.now (rw c.before.last-owner.ensures h) (used-none ks)
+    c.choose.ensures ks a.takes.now (rw c.last_owner.ensures h) (used-none ks)
     ∙ first_alone (choices_from ks [] (take a.k a.takes.now))
 
-pub first-plain-spec : {M : Type 1} → statement M
-first-plain-spec = tie.close (tie.spec (λ c κs. search rules) choose-requires returns)
+pub first_plain_spec : {M : Type 1} → statement M
+first_plain_spec = tie.close (tie.spec (λ c κs. search rules) choose-requires returns)

@@ -5,7 +5,7 @@ use Rattle.lists.specs.Choices.{cond-true, cond-false}
 use Rattle.first_choice.proofs.last_owner.Statement.{statement}
 use Rattle.first_choice.proofs.last_owner.Tie as tie
 
-pub last-owner-spec : {M : Type 1} → statement M
-last-owner-spec =
+pub last_owner_spec : {M : Type 1} → statement M
+last_owner_spec =
     tie.close
-    (tie.spec (λ c. sym (cond-true _ _ (eq-eqb _ _ c.if1.true))) (λ c. sym (cond-false _ _ (ne_eqb _ _ c.if1.false))))
+    (tie.spec (λ c. sym (cond-true _ _ (eq-eqb _ _ c.if-class-eq0.true))) (λ c. sym (cond-false _ _ (ne_eqb _ _ c.if-class-eq0.false))))

@@ -7,32 +7,32 @@ use Rattle.first_end.proofs.end_of_any.Statement.{statement}
 use Rattle.first_end.proofs.end_of_any.Tie as tie
 
 -- where the first that may be committed is known
-abbrev start : tie.After-first-free → tie.Start
+abbrev start : tie.After-first_free-free → tie.Start
 start c = c.before.before.before.before
 
-returns : tie.Need-returns
+returns : tie.Need-returns-then-free-lt65536
 returns c gs T ceiling ports few =
-    let f = c.before.before in
-    let s = start f in
+    let f = c in
+    let s = start f.before.before in
     let a = s.args in
     c.end_of.ensures
-    ∙ free-first a.owners.now a.items.now gs a.at s.pre.1 s.pre.2 T ceiling few a.globals ports
-    (f.before.before.gather-blocked.ensures gs) (f.first-free.ensures a.items.now gs) c.before.if1.true
+    ∙ free-first a.owners.now a.items.now gs a.at s.requires.1 s.requires.2 T ceiling few a.globals ports
+    (f.gather_blocked.ensures gs) (f.first_free-free.ensures a.items.now gs) c.if-free-lt65536.true
 
-returns-2 : tie.Need-returns-2
+returns-2 : tie.Need-returns
 returns-2 c gs T ceiling ports few =
-    let f = c.before.before in
-    let s = start f in
+    let f = c in
+    let s = start f.before.before in
     let a = s.args in
-    c.first-abort.ensures gs T ceiling few
-    ∙ none_free a.owners.now a.items.now gs a.at s.pre.1 s.pre.2 T ceiling few a.globals ports
-    (f.before.before.gather-blocked.ensures gs) (f.first-free.ensures a.items.now gs) c.before.if1.false
+    c.first_abort.ensures gs T ceiling few
+    ∙ none_free a.owners.now a.items.now gs a.at s.requires.1 s.requires.2 T ceiling few a.globals ports
+    (f.gather_blocked.ensures gs) (f.first_free-free.ensures a.items.now gs) c.if-free-lt65536.false
 
-pub end-of-any-spec : {M : Type 1} → statement M
-end-of-any-spec =
+pub end_of_any_spec : {M : Type 1} → statement M
+end_of_any_spec =
     tie.close
     (tie.spec
-    (λ c κs. (c.before.requires.0, zeros-empty))
+    (λ c κs. (c.requires.0, zeros-empty))
     (λ c κs. search rules)
     (λ c κs. search rules)
     returns

@@ -6,51 +6,51 @@ use Rattle.first_end.proofs.FirstEnds.{no-owner, all-stopped, outside-first}
 use Rattle.first_end.proofs.first_end.Statement.{statement}
 use Rattle.first_end.proofs.first_end.Tie as tie
 
-returns : tie.Need-returns
+returns : tie.Need-returns-then-lowest-ge65536
 returns c gs T ceiling ports few =
-    let o = c.before.before in
-    let s = o.before in
+    let o = c in
+    let s = o in
     let a = s.args in
-    c.no-end.ensures
+    c.no_end.ensures
     ∙ no-owner a.owners.now a.items.now gs a.at s.requires.1 s.requires.2 T ceiling few
-    (o.lowest-owner.ensures a.items.now gs) c.before.if1.true
+    (o.lowest_owner-lowest.ensures a.items.now gs) c.if-lowest-ge65536.true
 
 -- where the first without an abort mark is known
-abbrev start : tie.After-lowest-unstopped → tie.Start
+abbrev start : tie.After-lowest_unstopped-free → tie.Start
 start c = c.before.before.before
 
-returns-2 : tie.Need-returns-2
+returns-2 : tie.Need-returns-then-free-ge65536
 returns-2 c gs T ceiling ports few =
-    let u = c.before.before in
-    let s = start u in
+    let u = c in
+    let s = start u.before.before in
     let a = s.args in
-    c.first-abort.ensures gs T ceiling few
-    ∙ all-stopped a.owners.now a.items.now gs a.at s.pre.1 s.pre.2 T ceiling few a.globals ports
-    (s.pre.3 gs) (u.lowest-unstopped.ensures a.items.now gs) c.before.if2.true
+    c.first_abort.ensures gs T ceiling few
+    ∙ all-stopped a.owners.now a.items.now gs a.at s.requires.1 s.requires.2 T ceiling few a.globals ports
+    (s.requires.3 gs) (u.lowest_unstopped-free.ensures a.items.now gs) c.if-free-ge65536.true
 
-returns-3 : tie.Need-returns-3
+returns-3 : tie.Need-returns-then-not-has_inside
 returns-3 c gs T ceiling ports few =
-    let b = c.before.before in
-    let u = b.before.before in
-    let s = start u in
+    let b = c in
+    let u = b in
+    let s = start u.before.before.before.before in
     let a = s.args in
     c.end_of.ensures
-    ∙ outside-first a.owners.now a.items.now gs a.at s.pre.1 s.pre.2 T ceiling few a.globals ports
-    (s.pre.3 gs) (u.lowest-unstopped.ensures a.items.now gs) b.before.if2.false
-    (sym (b.has-inside.ensures gs) ∙ not-true _ c.before.if3.true)
+    ∙ outside-first a.owners.now a.items.now gs a.at s.requires.1 s.requires.2 T ceiling few a.globals ports
+    (s.requires.3 gs) (u.lowest_unstopped-free.ensures a.items.now gs) b.if-free-ge65536.false
+    (sym (b.has_inside.ensures gs) ∙ not-true _ c.if-not-has_inside.true-raw)
 
-end-of-few-requires : tie.Need-end-of-few-requires
+end-of-few-requires : tie.Need-end_of_few-requires
 end-of-few-requires c κs =
-    let b = c.before.before in
-    let u = b.before.before in
-    let s = start u in
+    let b = c in
+    let u = b in
+    let s = start u.before.before.before.before in
     let items = s.args.items.now in (
-      s.pre,
-      (search rules, u.lowest-unstopped.ensures items, λ gs. sym (b.has-inside.ensures gs) ∙ not-false _ c.before.if3.false),
+      s.requires,
+      (search rules, u.lowest_unstopped-free.ensures items, λ gs. sym (b.has_inside.ensures gs) ∙ not-false _ c.if-not-has_inside.false-raw),
     )
 
-pub first-end-spec : {M : Type 1} → statement M
-first-end-spec =
+pub first_end_spec : {M : Type 1} → statement M
+first_end_spec =
     tie.close
     (tie.spec
     (λ c κs. search rules)
@@ -64,6 +64,6 @@ first-end-spec =
     (λ c κs. search rules)
     returns-3
     end-of-few-requires
-    (λ c. c.end-of-few.ensures)
+    (λ c. c.end_of_few.ensures)
     (λ c κs. search rules)
-    (λ c. c.end-of-any.ensures))
+    (λ c. c.end_of_any.ensures))

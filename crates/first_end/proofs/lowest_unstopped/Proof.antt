@@ -7,20 +7,20 @@ use Rattle.first_end.proofs.FirstEnds.{lowest-stays, lowest-holder}
 use Rattle.first_end.proofs.lowest_unstopped.Statement.{statement}
 use Rattle.first_end.proofs.lowest_unstopped.Tie as tie
 
-returns : tie.Need-returns
+returns : tie.Need-returns-then-not-has
 returns c ws gs =
-    let s = c.before.before in
+    let s = c in
     let a = s.args in
     let g = s.requires.0 in
     lowest-stays a.owners.now ws gs a.at g.2 g.3 (λ v. not (has a.stopped.now v)) (s.requires.1.1 ws gs) s.requires.1.0
-    (ap not (sym c.before.has.ensures) ∙ c.if1.true)
+    (ap not (sym c.has.ensures) ∙ c.if-not-has.true-raw)
 
-returns-2 : tie.Need-returns-2
+returns-2 : tie.Need-returns
 returns-2 c ws gs =
-    let s = c.before.before.before in
+    let s = c in
     let a = s.args in
     let g = s.requires.0 in
-    lowest-holder a.owners.now ws gs a.at g.2 g.3 0 (λ v. not (has a.stopped.now v)) (c.first-free.ensures ws gs)
+    lowest-holder a.owners.now ws gs a.at g.2 g.3 0 (λ v. not (has a.stopped.now v)) (c.first_free.ensures ws gs)
 
-pub lowest-unstopped-spec : {M : Type 1} → statement M
-lowest-unstopped-spec = tie.close (tie.spec (λ c κs. search rules) returns (λ c κs. search rules) returns-2)
+pub lowest_unstopped_spec : {M : Type 1} → statement M
+lowest_unstopped_spec = tie.close (tie.spec (λ c κs. search rules) returns (λ c κs. search rules) returns-2)

@@ -7,20 +7,20 @@ use Rattle.first_end.proofs.Commits.{stopped-blocked, outside-commits}
 use Rattle.first_end.proofs.may_commit.Statement.{statement}
 use Rattle.first_end.proofs.may_commit.Tie as tie
 
-returns : tie.Need-returns
+returns : tie.Need-returns-then-has
 returns c gs T ports =
-    let s = c.before.before in
+    let s = c in
     let a = s.args in
-    stopped-blocked T (state_from a.owners.now a.items.now gs a.at) ports (s.requires.3 gs) a.id (sym c.before.has.ensures ∙ c.if1.true)
+    stopped-blocked T (state_from a.owners.now a.items.now gs a.at) ports (s.requires.3 gs) a.id (sym c.has.ensures ∙ c.if-has.true)
 
-returns-2 : tie.Need-returns-2
+returns-2 : tie.Need-returns
 returns-2 c gs T ports =
-    let h = c.before.before in
-    let s = h.before in
+    let h = c in
+    let s = h in
     let a = s.args in
-    ap not (c.has-inside.ensures gs)
+    ap not (c.has_inside.ensures gs)
     ∙ outside-commits T (state_from a.owners.now a.items.now gs a.at) ports (s.requires.3 gs) a.id s.requires.1
-    (sym h.has.ensures ∙ c.before.if1.false)
+    (sym h.has.ensures ∙ c.if-has.false)
 
-pub may-commit-spec : {M : Type 1} → statement M
-may-commit-spec = tie.close (tie.spec (λ c κs. search rules) returns (λ c. search rules) (λ c κs. search rules) returns-2)
+pub may_commit_spec : {M : Type 1} → statement M
+may_commit_spec = tie.close (tie.spec (λ c κs. search rules) returns (λ c. search rules) (λ c κs. search rules) returns-2)

@@ -6,22 +6,22 @@ use Rattle.offers.proofs.KeyRows.{row-keys, keys-small}
 use Rattle.offers.proofs.keys_by_marks.Statement.{statement}
 use Rattle.offers.proofs.keys_by_marks.Tie as tie
 
-returns : tie.Need-returns
+returns : tie.Need-returns-then-none_stopped
 returns c =
-    let t = c.before.before in
-    let s = t.before.before in
+    let t = c in
+    let s = t in
     let a = s.args in
-    let e = all-outside a.owners.now a.items.now [] a.at.len (s.requires.1 []) (t.before.none-stopped.ensures t.if1.true) in
-    let h = rw e at c.keys-free.ensures in
+    let e = all-outside a.owners.now a.items.now [] a.at.len (s.requires.1 []) (t.none_stopped.ensures t.if-none_stopped.true) in
+    let h = rw e at c.keys_free.ensures in
     (row-keys h s.requires.0.0.fits, (h.filled.size, keys-small h))
 
-returns-2 : tie.Need-returns-2
+returns-2 : tie.Need-returns
 returns-2 c =
-    let h = c.keys-outside.ensures in
-    (row-keys h c.before.before.before.before.requires.0.0.fits, (h.filled.size, keys-small h))
+    let h = c.keys_outside.ensures in
+    (row-keys h c.requires.0.0.fits, (h.filled.size, keys-small h))
 
-pub keys-by-marks-spec : {M : Type 1} → statement M
-keys-by-marks-spec =
+pub keys_by_marks_spec : {M : Type 1} → statement M
+keys_by_marks_spec =
     tie.close
     (tie.spec
     (λ c κs. search rules) (λ c κs. search rules) returns (λ c κs. search rules) returns-2)

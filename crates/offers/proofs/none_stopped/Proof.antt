@@ -8,8 +8,8 @@ use Rattle.offers.proofs.none_stopped.Tie as tie
 
 returns : tie.Need-returns
 returns c h j l =
-    let e : c.unmarked-until.result ≡ c.before.args.at.len = eqb-true _ _ h in
-    c.unmarked-until.ensures.1 j (omega (arith, e, l))
+    let e : c.unmarked_until.result ≡ c.args.at.len = eqb-true _ _ h in
+    c.unmarked_until.ensures.1 j (omega (arith, e, l))
 
-pub none-stopped-spec : {M : Type 1} → statement M
-none-stopped-spec = tie.close (tie.spec (λ c κs. search rules) (λ c. search rules) returns)
+pub none_stopped_spec : {M : Type 1} → statement M
+none_stopped_spec = tie.close (tie.spec (λ c κs. search rules) (λ c. search rules) returns)

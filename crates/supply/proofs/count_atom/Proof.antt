@@ -7,38 +7,38 @@ use Rattle.supply.proofs.Totals.{one-there, counted-less, counted-more, counted_
 use Rattle.supply.proofs.count_atom.Statement.{statement}
 use Rattle.supply.proofs.count_atom.Tie as tie
 
-sub-totals : tie.Need-overflow-sub-totals
+sub-totals : tie.Need-overflow_sub-totals
 sub-totals c =
-    let role = c.before.before in
-    let s = role.before.before in
-    one-there _ s.args.totals.now role.before.port-of.ensures (sym role.role-of.ensures ∙ c.before.if1.true) s.requires.1
+    let role = c in
+    let s = role in
+    one-there _ s.args.totals.now role.port_of-port.ensures (sym role.role_of.ensures ∙ c.if-role_of-eq0.true) s.requires.1
 
-returns : tie.Need-returns
+returns : tie.Need-returns-then-role_of-eq0
 returns c =
-    let role = c.before.before in
-    let s = role.before.before in
-    counted-less _ _ _ _ role.before.port-of.ensures s.requires.0 (sym role.role-of.ensures ∙ c.before.if1.true) s.requires.1
+    let role = c in
+    let s = role in
+    counted-less _ _ _ _ role.port_of-port.ensures s.requires.0 (sym role.role_of.ensures ∙ c.if-role_of-eq0.true) s.requires.1
 
-returns-2 : tie.Need-returns-2
+returns-2 : tie.Need-returns-then-not-supplies_any
 returns-2 c =
-    let role = c.before.before.before in
-    counted_none _ _ _ _ role.before.before.requires.0 (λ e. c.before.before.if1.false (role.role-of.ensures ∙ e))
-    (sym c.before.supplies-any.ensures ∙ not-true _ c.if2.true)
+    let role = c in
+    counted_none _ _ _ _ role.requires.0 (λ e. c.if-role_of-eq0.false (role.role_of.ensures ∙ e))
+    (sym c.supplies_any.ensures ∙ not-true _ c.if-not-supplies_any.true-raw)
 
-add-totals : tie.Need-overflow-add-totals
+add-totals : tie.Need-overflow_add-totals
 add-totals c =
-    let s = c.before.before.before.before.before.before in
-    rw c.before.before.before.before.before.port-of.ensures (omega (arith, s.requires.2))
+    let s = c in
+    rw c.port_of-port.ensures (omega (arith, s.requires.2))
 
-returns-3 : tie.Need-returns-3
+returns-3 : tie.Need-returns
 returns-3 c =
-    let role = c.before.before.before.before in
-    counted-more _ _ _ _ role.before.port-of.ensures role.before.before.requires.0
-    (λ e. c.before.before.before.if1.false (role.role-of.ensures ∙ e))
-    (sym c.before.before.supplies-any.ensures ∙ not-false _ c.before.if2.false)
+    let role = c in
+    counted-more _ _ _ _ role.port_of-port.ensures role.requires.0
+    (λ e. c.if-role_of-eq0.false (role.role_of.ensures ∙ e))
+    (sym c.supplies_any.ensures ∙ not-false _ c.if-not-supplies_any.false-raw)
 
-pub count-atom-spec : {M : Type 1} → statement M
-count-atom-spec =
+pub count_atom_spec : {M : Type 1} → statement M
+count_atom_spec =
     tie.close
     (tie.spec
     (λ c κs. search rules)

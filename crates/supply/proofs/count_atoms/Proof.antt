@@ -6,32 +6,32 @@ use Rattle.supply.proofs.Totals.{CountingAtoms, counting-start, counting-next, c
 use Rattle.supply.proofs.count_atoms.Statement.{statement}
 use Rattle.supply.proofs.count_atoms.Tie as tie
 
-abbrev Inv : tie.invariant-loop
+abbrev Inv : tie.invariant-loop-i
 Inv ws globals global aborts totals₀ i₀ totals i = CountingAtoms globals global aborts ws totals₀ totals i
 
-abbrev μ : tie.decreases-loop
+abbrev μ : tie.decreases-loop-i
 μ ws globals global aborts totals₀ i₀ totals i = length ws - i
 
-loop-holds : tie.Need-loop-init Inv μ
-loop-holds c = counting-start _ _ _ _ _ c.before.requires.size
+loop-holds : tie.Need-loop-i-init Inv μ
+loop-holds c = counting-start _ _ _ _ _ c.requires.size
 
-count-atom-requires : tie.Need-count-atom-requires Inv μ
+count-atom-requires : tie.Need-count_atom-requires Inv μ
 count-atom-requires c κs =
-    let turn = c.before.before in
-    let inv = turn.before.loop.invariant in
-    let given = turn.before.before.before.requires in
-    (inv.so_far.size, counting-low inv turn.loop-test.true given, counting-high inv turn.loop-test.true given)
+    let turn = c in
+    let inv = turn.loop-i.invariant in
+    let given = turn.requires in
+    (inv.so_far.size, counting-low inv turn.loop-i-test.true given, counting-high inv turn.loop-i-test.true given)
 
-loop-again : tie.Need-loop-preserved Inv μ
+loop-again : tie.Need-loop-i-preserved Inv μ
 loop-again c =
-    let turn = c.before.before.before in
-    counting-next turn.before.loop.invariant turn.loop-test.true c.count-atom.ensures
+    let turn = c in
+    counting-next turn.loop-i.invariant turn.loop-i-test.true c.count_atom.ensures
 
 returns : tie.Need-returns Inv μ
-returns c = counting-done c.before.loop.invariant c.loop-test.false
+returns c = counting-done c.loop-i.invariant c.loop-i-test.false
 
-pub count-atoms-spec : {M : Type 1} → statement M
-count-atoms-spec =
+pub count_atoms_spec : {M : Type 1} → statement M
+count_atoms_spec =
     tie.close
     (tie.spec
     Inv

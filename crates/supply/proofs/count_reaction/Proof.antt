@@ -6,40 +6,40 @@ use Rattle.supply.proofs.Reaction.{words-some, words-enough, words-after}
 use Rattle.supply.proofs.count_reaction.Statement.{statement}
 use Rattle.supply.proofs.count_reaction.Tie as tie
 
-rule-words-requires : tie.Need-rule-words-requires
+rule-words-requires : tie.Need-rule_words-ws-requires
 rule-words-requires c κs =
-    let p = c.before.before.before.requires in
-    rule-within _ _ _ p.0 p.1 p.2 c.atom-words-of.ensures
+    let p = c.requires in
+    rule-within _ _ _ p.0 p.1 p.2 c.atom_words_of.ensures
 
-last-aborts-requires : tie.Need-last-aborts-requires
+last-aborts-requires : tie.Need-last_aborts-aborts-requires
 last-aborts-requires c κs =
-    let words = c.before in
-    let p = words.before.before.before.before.requires in
-    words-some _ _ _ p.0 p.1 p.2 words.before.atom-words-of.ensures words.before.before.sizes-of.ensures words.rule-words.ensures
+    let words = c in
+    let p = words.requires in
+    words-some _ _ _ p.0 p.1 p.2 words.atom_words_of.ensures words.sizes_of-z.ensures words.rule_words-ws.ensures
 
-count-atoms-requires : tie.Need-count-atoms-requires
+count-atoms-requires : tie.Need-count_atoms-requires
 count-atoms-requires c κs =
-    let p = c.before.before.before.before.before.before.before.requires in
-    let words = c.before.before.before in
-    words-enough _ _ _ p.0 p.1 p.2 words.before.atom-words-of.ensures words.before.before.sizes-of.ensures words.rule-words.ensures
+    let p = c.requires in
+    let words = c in
+    words-enough _ _ _ p.0 p.1 p.2 words.atom_words_of.ensures words.sizes_of-z.ensures words.rule_words-ws.ensures
     p.3.2
 
 returns : tie.Need-returns
 returns c =
-    let p = c.before.before.before.before.before.before.before.before.requires in
-    let words = c.before.before.before.before in (
-      c.count-atoms.ensures.size,
+    let p = c.requires in
+    let words = c in (
+      c.count_atoms.ensures.size,
       λ s ps i reacts calm.
-          words-after _ _ _ p.0 p.1 p.2 words.before.atom-words-of.ensures words.before.before.sizes-of.ensures words.rule-words.ensures
-          reacts c.before.before.before.rule-class.ensures c.before.before.last-aborts.ensures c.count-atoms.ensures calm i,
+          words-after _ _ _ p.0 p.1 p.2 words.atom_words_of.ensures words.sizes_of-z.ensures words.rule_words-ws.ensures
+          reacts c.rule_class-class.ensures c.last_aborts-aborts.ensures c.count_atoms.ensures calm i,
     )
 
-pub count-reaction-spec : {M : Type 1} → statement M
-count-reaction-spec =
+pub count_reaction_spec : {M : Type 1} → statement M
+count_reaction_spec =
     tie.close
     (tie.spec
-    (λ c κs. (well-formed _ c.before.requires.0).sizes.long)
-    (λ c κs. (well-formed _ c.before.before.requires.0).sizes)
+    (λ c κs. (well-formed _ c.requires.0).sizes.long)
+    (λ c κs. (well-formed _ c.requires.0).sizes)
     rule-words-requires
     (λ c κs. search rules)
     last-aborts-requires

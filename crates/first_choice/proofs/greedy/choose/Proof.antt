@@ -12,40 +12,40 @@ use Rattle.first_choice.proofs.Picking.{Picking, picking-none, picking-next, pic
 use Rattle.first_choice.proofs.greedy.choose.Statement.{statement}
 use Rattle.first_choice.proofs.greedy.choose.Tie as tie
 
-abbrev Inv : tie.invariant-loop
+abbrev Inv : tie.invariant-loop-i
 Inv owners items n stopped low high ports k first from picks₀ i₀ picks i =
     (i ≤ k) × (length picks ≡ 4)
     × ((ks wanted : List _) → FitKeys owners items stopped ports n k low high ks wanted → Used ks (take from wanted) (take from picks₀)
     → Picking ks wanted k (choices_after ks (take from picks₀) (drop from (take k wanted))) picks i)
 
-abbrev μ : tie.decreases-loop
+abbrev μ : tie.decreases-loop-i
 μ owners items n stopped low high ports k first from picks₀ i₀ picks i = k - i
 
-loop-holds : tie.Need-loop-init Inv μ
+loop-holds : tie.Need-loop-i-init Inv μ
 loop-holds c =
     (c.requires.1, search rules, λ ks wanted h u. record { within = c.requires.1; four = search rules; used = u; zeros = c.requires.4; first = refl })
 
-returns : tie.Need-returns Inv μ
+returns : tie.Need-returns-then-p-n Inv μ
 returns c ks wanted h u =
-    let turn = c.before.before.before in
-    picking-none h turn.before.before.requires.2 (turn.before.loop.invariant.2 ks wanted h u) turn.loop-test.true c.before.first-free.ensures
-    c.if1.true
+    let turn = c in
+    picking-none h turn.requires.2 (turn.loop-i.invariant.2 ks wanted h u) turn.loop-i-test.true c.first_free-p.ensures
+    c.if-p-n.true
 
-loop-again : tie.Need-loop-preserved Inv μ
+loop-again : tie.Need-loop-i-preserved Inv μ
 loop-again c =
-    let other = c.before in
-    let turn = other.before.before.before in
-    let l = turn.before.loop in (
-      omega (arith, turn.loop-test.true),
+    let other = c in
+    let turn = other in
+    let l = turn.loop-i in (
+      omega (arith, turn.loop-i-test.true),
       search rules,
       λ ks wanted h u.
-          rw c.placed.ensures
-          (picking-next h turn.before.before.requires.2 (l.invariant.2 ks wanted h u) turn.loop-test.true other.before.first-free.ensures
-          other.if1.false),
+          rw c.placed-more.ensures
+          (picking-next h turn.requires.2 (l.invariant.2 ks wanted h u) turn.loop-i-test.true other.first_free-p.ensures
+          other.if-p-n.false),
     )
 
-returns-2 : tie.Need-returns-2 Inv μ
-returns-2 c ks wanted h u = picking-done h c.before.before.requires.2 (c.before.loop.invariant.2 ks wanted h u) c.loop-test.false
+returns-2 : tie.Need-returns Inv μ
+returns-2 c ks wanted h u = picking-done h c.requires.2 (c.loop-i.invariant.2 ks wanted h u) c.loop-i-test.false
 
 pub choose_spec : {M : Type 1} → statement M
 choose_spec =

@@ -9,33 +9,33 @@ use Rattle.first_choice.proofs.Picking.{Searching, searching-start, searching-pa
 use Rattle.first_choice.proofs.greedy.first_free.Statement.{statement}
 use Rattle.first_choice.proofs.greedy.first_free.Tie as tie
 
-abbrev Inv : tie.invariant-loop
+abbrev Inv : tie.invariant-loop-from
 Inv owners items n stopped low high port picks i from₀ from = Searching (fits_at owners items low high stopped port) (take i picks) n from
 
-abbrev μ : tie.decreases-loop
+abbrev μ : tie.decreases-loop-from
 μ owners items n stopped low high port picks i from₀ from = n - from
 
-returns : tie.Need-returns Inv μ
+returns : tie.Need-returns-then-p-n Inv μ
 returns c =
-    let found = c.before in
-    searching-end (searching-passed found.before.before.loop.invariant found.next-fit.ensures) (omega (arith, c.if1.true))
+    let found = c in
+    searching-end (searching-passed found.loop-from.invariant found.next_fit-p.ensures) (omega (arith, c.if-p-n.true))
 
-returns-2 : tie.Need-returns-2 Inv μ
+returns-2 : tie.Need-returns-then-not-is_picked Inv μ
 returns-2 c =
-    let other = c.before.before in
-    let found = other.before in
-    searching-found found.before.before.loop.invariant found.next-fit.ensures other.if1.false c.before.is-picked.ensures
-    (not-true _ c.if2.true)
+    let other = c in
+    let found = other in
+    searching-found found.loop-from.invariant found.next_fit-p.ensures other.if-p-n.false c.is_picked.ensures
+    (not-true _ c.if-not-is_picked.true-raw)
 
-loop-again : tie.Need-loop-preserved Inv μ
+loop-again : tie.Need-loop-from-preserved Inv μ
 loop-again c =
-    let other = c.before.before in
-    let found = other.before in
-    searching-on found.before.before.loop.invariant found.next-fit.ensures other.if1.false c.before.is-picked.ensures
-    (not-false _ c.if2.false)
+    let other = c in
+    let found = other in
+    searching-on found.loop-from.invariant found.next_fit-p.ensures other.if-p-n.false c.is_picked.ensures
+    (not-false _ c.if-not-is_picked.false-raw)
 
-pub first-free-spec : {M : Type 1} → statement M
-first-free-spec =
+pub first_free_spec : {M : Type 1} → statement M
+first_free_spec =
     tie.close
     (tie.spec
     Inv
@@ -49,4 +49,4 @@ first-free-spec =
     (λ c. search rules)
     (λ c. search rules)
     loop-again
-    (λ c. searching-end c.before.loop.invariant c.loop-test.false))
+    (λ c. searching-end c.loop-from.invariant c.loop-from-test.false))

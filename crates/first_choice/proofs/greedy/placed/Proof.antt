@@ -30,13 +30,13 @@ four-set (a ∷ b ∷ c ∷ d ∷ x ∷ xs) e i p l = absurd (omega arith)
 
 returns : tie.Need-returns
 returns c =
-    let s = c.before.before.before.before in
-    let four : length s.args.t1 ≡ 4 = search rules in
-    rw (c.either4.ensures, c.before.either3.ensures, c.before.before.either2.ensures, c.before.before.before.either.ensures)
-    (four-set s.args.t1 four s.args.i s.args.p s.requires)
+    let s = c in
+    let four : length s.args.picks ≡ 4 = search rules in
+    rw (c.either-4.ensures, c.either-3.ensures, c.either-2.ensures, c.either.ensures)
+    (four-set s.args.picks four s.args.i s.args.p s.requires)
 
-pub placed-spec : {M : Type 1} → statement M
-placed-spec =
+pub placed_spec : {M : Type 1} → statement M
+placed_spec =
     tie.close
     (tie.spec
     (λ c. search rules)

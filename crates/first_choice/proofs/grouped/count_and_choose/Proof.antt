@@ -11,27 +11,27 @@ use Rattle.first_choice.proofs.grouped.count_and_choose.Tie as tie
 long : (c : tie.Start) → c.args.n ≤ length c.args.keys.now
 long c = omega (arith, c.requires.0.columns.fits, c.requires.0.long)
 
-count-groups-requires : tie.Need-count-groups-requires
+count-groups-requires : tie.Need-count_groups-requires
 count-groups-requires c κs =
-    let made = c.before.before.before.before.before.before in
-    let s = made.before in
+    let made = c in
+    let s = made in
     let a = s.args in
     let b = s.requires.0 in (
-      (rw made.low-keys.ensures (lows-below a.keys.now a.n b.columns.fits (long s)), b.low 0, b.low 1, b.low 2, b.low 3),
+      (rw made.low_keys-lows.ensures (lows-below a.keys.now a.n b.columns.fits (long s.before.before.before.before.before.before.before.before)), b.low 0, b.low 1, b.low 2, b.low 3),
       (search rules, λ g. get_or-replicate-any 1024 g 0),
     )
 
-first-counted-requires : tie.Need-first-counted-requires
+first-counted-requires : tie.Need-first_counted-requires
 first-counted-requires c κs =
-    let made = c.before.before.before.before.before.before.before.before in
-    let s = made.before in
+    let made = c in
+    let s = made in
     let a = s.args in
-    let lows = made.low-keys.ensures in
-    let g = rw (lows, lows-first a.keys.now a.n s.requires.0.columns.fits (long s)) at c.before.count-groups.ensures.0 in
+    let lows = made.low_keys-lows.ensures in
+    let g = rw (lows, lows-first a.keys.now a.n s.requires.0.columns.fits (long s.before.before.before.before.before.before.before.before.before.before)) at c.count_groups.ensures.0 in
     (s.requires, g)
 
-pub count-and-choose-spec : {M : Type 1} → statement M
-count-and-choose-spec =
+pub count_and_choose_spec : {M : Type 1} → statement M
+count_and_choose_spec =
     tie.close
     (tie.spec
     (λ c κs. (c.requires.0.columns.fits, c.requires.0.long))

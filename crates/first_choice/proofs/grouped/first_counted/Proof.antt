@@ -9,58 +9,58 @@ use Rattle.first_choice.proofs.Places.{Standing, standing-start, standing-next, 
 use Rattle.first_choice.proofs.grouped.first_counted.Statement.{statement}
 use Rattle.first_choice.proofs.grouped.first_counted.Tie as tie
 
-abbrev Inv : tie.invariant-loop
+abbrev Inv : tie.invariant-loop-p
 Inv owners items n stopped keys takes k counts from p₀ p =
     Standing owners items stopped takes n k (take n keys) (first_choice (begin_from (take n keys) (get_or takes 0 0) (drop 1 (take k takes)) from)) p
 
-abbrev μ : tie.decreases-loop
+abbrev μ : tie.decreases-loop-p
 μ owners items n stopped keys takes k counts from p₀ p = n - p
 
-abbrev start : tie.In-loop Inv μ → tie.Start Inv μ
-start turn = turn.before.before.before.before
+abbrev start : tie.In-loop-p Inv μ → tie.Start Inv μ
+start turn = turn.before.before.before.before.before
 
-choose-counted-requires : tie.Need-choose-counted-requires Inv μ
+choose-counted-requires : tie.Need-choose_counted-choice-requires Inv μ
 choose-counted-requires c κs =
     let s = start c in
-    let l = c.before.loop in
-    (s.pre.0.0, (s.pre.1, (c.loop-test.true, l.invariant.on c.loop-test.true)))
+    let l = c.loop-p in
+    (s.requires.0.0, (s.requires.1, (c.loop-p-test.true, l.invariant.on c.loop-p-test.true)))
 
-returns : tie.Need-returns Inv μ
+returns : tie.Need-returns-then-choice Inv μ
 returns c =
-    let found = c.before in
-    let turn = found.before.before in
-    let h = (start turn).requires.0.0.grouped in
+    let found = c in
+    let turn = found in
+    let h = (start turn.before.before.before).requires.0.0.grouped in
     c.passed_on.ensures
-    ∙ standing-found h turn.before.loop.invariant turn.loop-test.true found.before.choose-counted.ensures found.if1.true
+    ∙ standing-found h turn.loop-p.invariant turn.loop-p-test.true found.choose_counted-choice.ensures found.if-choice.true
 
-loop-again : tie.Need-loop-preserved Inv μ
+loop-again : tie.Need-loop-p-preserved Inv μ
 loop-again c =
-    let other = c.before.before in
-    let turn = other.before.before in
-    let h = (start turn).requires.0.0.grouped in
-    standing-next h turn.before.loop.invariant turn.loop-test.true other.before.choose-counted.ensures other.if1.false
-    c.next-fit2.ensures
+    let other = c in
+    let turn = other in
+    let h = (start turn.before.before.before.before.before).requires.0.0.grouped in
+    standing-next h turn.loop-p.invariant turn.loop-p-test.true other.choose_counted-choice.ensures other.if-choice.false
+    c.next_fit-p-in-loop-p.ensures
 
-next-fit-requires-2 : tie.Need-next-fit-requires-2 Inv μ
+next-fit-requires-2 : tie.Need-next_fit-p-requires-in-loop-p Inv μ
 next-fit-requires-2 c κs =
-    let turn = c.before.before.before in
-    ((start turn).requires.0.0.columns, omega (arith, turn.loop-test.true))
+    let turn = c in
+    ((start turn.before.before.before.before).requires.0.0.columns, omega (arith, turn.loop-p-test.true))
 
-pub first-counted-spec : {M : Type 1} → statement M
-first-counted-spec =
+pub first_counted_spec : {M : Type 1} → statement M
+first_counted_spec =
     tie.close
     (tie.spec
     Inv
     μ
     (λ c. search rules)
-    (λ c κs. (c.before.requires.0.0.columns, c.before.requires.0.1))
-    (λ c. standing-start c.before.before.requires.0.0.grouped c.next-fit.ensures)
+    (λ c κs. (c.requires.0.0.columns, c.requires.0.1))
+    (λ c. standing-start c.requires.0.0.grouped c.next_fit-p.ensures)
     choose-counted-requires
-    (λ c κs. c.if1.true)
+    (λ c κs. c.if-choice.true)
     returns
-    (λ c. let turn = c.before.before in omega (arith, turn.loop-test.true, (start turn).requires.0.0.columns.fits))
+    (λ c. let turn = c in omega (arith, turn.loop-p-test.true, (start turn.before.before).requires.0.0.columns.fits))
     (λ c. search rules)
     next-fit-requires-2
-    (λ c. omega (arith, c.next-fit2.ensures.low, c.before.before.before.before.loop-test.true))
+    (λ c. omega (arith, c.next_fit-p-in-loop-p.ensures.low, c.loop-p-test.true))
     loop-again
-    (λ c. standing-end c.before.before.before.before.requires.0.0.grouped c.before.loop.invariant c.loop-test.false))
+    (λ c. standing-end c.requires.0.0.grouped c.loop-p.invariant c.loop-p-test.false))

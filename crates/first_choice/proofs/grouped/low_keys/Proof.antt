@@ -9,31 +9,31 @@ use Rattle.first_choice.proofs.Buckets.{low_keys}
 use Rattle.first_choice.proofs.grouped.low_keys.Statement.{statement}
 use Rattle.first_choice.proofs.grouped.low_keys.Tie as tie
 
-abbrev Inv : tie.invariant-loop
+abbrev Inv : tie.invariant-loop-i
 Inv keys n lows₀ i₀ lows i = (i ≤ n) × (lows ≡ padded 1024 0 (low_keys (take i keys)))
 
-abbrev μ : tie.decreases-loop
+abbrev μ : tie.decreases-loop-i
 μ keys n lows₀ i₀ lows i = n - i
 
-loop-again : tie.Need-loop-preserved Inv μ
+loop-again : tie.Need-loop-i-preserved Inv μ
 loop-again c =
-    let turn = c.before in
-    let s = turn.before.before in
-    let l = turn.before.loop in (
-      omega (arith, turn.loop-test.true),
-      fill-padded (λ x. x % 524288) s.args.keys.now 1024 l.i 0 0 (omega (arith, turn.loop-test.true, s.requires))
-          (omega (arith, turn.loop-test.true, s.requires)) l.invariant.1,
+    let turn = c in
+    let s = turn in
+    let l = turn.loop-i in (
+      omega (arith, turn.loop-i-test.true),
+      fill-padded (λ x. x % 524288) s.args.keys.now 1024 l.i 0 0 (omega (arith, turn.loop-i-test.true, s.requires))
+          (omega (arith, turn.loop-i-test.true, s.requires)) l.invariant.1,
     )
 
 returns : tie.Need-returns Inv μ
 returns c =
-    let l = c.before.loop in
-    let s = c.before.before in
-    let e : l.i ≡ s.args.n = omega (arith, l.invariant.0, c.loop-test.false) in
+    let l = c.loop-i in
+    let s = c in
+    let e : l.i ≡ s.args.n = omega (arith, l.invariant.0, c.loop-i-test.false) in
     l.invariant.1 ∙ ap (λ (j : ℕ). padded 1024 0 (low_keys (take j s.args.keys.now))) e
 
-pub low-keys-spec : {M : Type 1} → statement M
-low-keys-spec =
+pub low_keys_spec : {M : Type 1} → statement M
+low_keys_spec =
     tie.close
     (tie.spec
     Inv

@@ -3,17 +3,17 @@ use Rattle.first_choice.proofs.Fits.{groupable-keys}
 use Rattle.first_choice.proofs.tries.choose_by_keys.Statement.{statement}
 use Rattle.first_choice.proofs.tries.choose_by_keys.Tie as tie
 
-keys-by-marks-requires : tie.Need-keys-by-marks-requires
+keys-by-marks-requires : tie.Need-keys_by_marks-requires
 keys-by-marks-requires c κs =
-    let p = c.before.requires in
+    let p = c.requires in
     let g = p.0 in
     ((g.columns, g.few-ports, p.2, g.looked, g.unmarked), g.stops)
 
-count-and-choose-requires : tie.Need-count-and-choose-requires
+count-and-choose-requires : tie.Need-count_and_choose-requires
 count-and-choose-requires c κs =
-    let s = c.before.before.before in
+    let s = c in
     let g = s.requires.0 in
-    let made = c.before.keys-by-marks.ensures in (
+    let made = c.keys_by_marks.ensures in (
       record {
         columns = g.columns;
         long = made.1.0;
@@ -27,7 +27,7 @@ count-and-choose-requires c κs =
     )
 
 returns : tie.Need-returns
-returns c = let made = c.before.before.keys-by-marks.ensures in (rw made.0 at c.count-and-choose.ensures, made.1.0)
+returns c = let made = c.keys_by_marks.ensures in (rw made.0 at c.count_and_choose.ensures, made.1.0)
 
-pub choose-by-keys-spec : {M : Type 1} → statement M
-choose-by-keys-spec = tie.close (tie.spec keys-by-marks-requires count-and-choose-requires returns)
+pub choose_by_keys_spec : {M : Type 1} → statement M
+choose_by_keys_spec = tie.close (tie.spec keys-by-marks-requires count-and-choose-requires returns)

@@ -12,96 +12,96 @@ use Rattle.first_choice.proofs.Fits.{groupable-keys}
 use Rattle.first_choice.proofs.tries.first_grouped.Statement.{statement}
 use Rattle.first_choice.proofs.tries.first_grouped.Tie as tie
 
-abbrev Inv : tie.invariant-loop
+abbrev Inv : tie.invariant-loop-p
 Inv z owners items at stopped takes k keys₀ n most tries₀ p₀ keys tries p =
     (tries ≤ most) × (length keys ≡ 1024)
     × Standing owners items stopped takes n k (column_keys z stopped owners items n)
     (first_choice (choices_by_group (column_keys z stopped owners items n) (take k takes))) p
 
-abbrev μ : tie.decreases-loop
+abbrev μ : tie.decreases-loop-p
 μ z owners items at stopped takes k keys₀ n most tries₀ p₀ keys tries p = n - p
 
-abbrev start : tie.In-loop Inv μ → tie.Start Inv μ
-start turn = turn.before.before.before.before.before
+abbrev start : tie.In-loop-p Inv μ → tie.Start Inv μ
+start turn = turn.before.before.before.before.before.before
 
 keyed : (s : tie.Start Inv μ)
     → GroupKeys s.args.owners.now s.args.items.now s.args.stopped.now s.args.takes.now s.args.at.len s.args.k
     (column_keys s.args.z s.args.stopped.now s.args.owners.now s.args.items.now s.args.at.len)
 keyed s = groupable-keys s.requires.0
 
-loop-holds : tie.Need-loop-init Inv μ
+loop-holds : tie.Need-loop-p-init Inv μ
 loop-holds c =
-    let s = c.before.before.before in
+    let s = c in
     let a = s.args in
     let some : 1 ≤ length a.takes.now = omega (arith, s.requires.0.four) in
     let whole = by-group (column_keys a.z a.stopped.now a.owners.now a.items.now a.at.len) a.k s.requires.0.some a.takes.now some in
-    (omega arith, s.requires.1, rw (← whole) (standing-start (keyed s) c.next-fit.ensures))
+    (omega arith, s.requires.1, rw (← whole) (standing-start (keyed s.before.before.before.before) c.next_fit-p.ensures))
 
-choose-by-keys-requires : tie.Need-choose-by-keys-requires Inv μ
+choose-by-keys-requires : tie.Need-choose_by_keys-requires Inv μ
 choose-by-keys-requires c κs =
-    let turn = c.before.before in
-    let l = turn.before.loop in
-    ((start turn).requires.0, l.invariant.2.within, l.invariant.1)
+    let turn = c in
+    let l = turn.loop-p in
+    ((start turn.before.before).requires.0, l.invariant.2.within, l.invariant.1)
 
-returns : tie.Need-returns Inv μ
+returns : tie.Need-returns-then-tries-most Inv μ
 returns c =
-    let l = c.before.before.before.before.loop in
-    (c.choose-by-keys.ensures.0 ∙ l.invariant.2.first, c.choose-by-keys.ensures.1)
+    let l = c.loop-p in
+    (c.choose_by_keys.ensures.0 ∙ l.invariant.2.first, c.choose_by_keys.ensures.1)
 
-choose-within-requires : tie.Need-choose-within-requires Inv μ
+choose-within-requires : tie.Need-choose_within-choice-requires Inv μ
 choose-within-requires c κs =
-    let g = (start c.before).pre.0 in
-    let low = c.before.loop-test.true in
-    (g.columns, g.some, g.most, low, g.four, c.before.before.loop.invariant.2.on low)
+    let g = (start c.before).requires.0 in
+    let low = c.loop-p-test.true in
+    (g.columns, g.some, g.most, low, g.four, c.loop-p.invariant.2.on low)
 
-returns-2 : tie.Need-returns-2 Inv μ
+returns-2 : tie.Need-returns-then-choice Inv μ
 returns-2 c =
-    let found = c.before in
-    let turn = found.before.before.before in
-    let h = keyed (start turn) in
-    let l = turn.before.loop in (
+    let found = c in
+    let turn = found in
+    let h = keyed (start turn.before.before.before.before) in
+    let l = turn.loop-p in (
       c.passed_on.ensures
-          ∙ standing-found h l.invariant.2 turn.loop-test.true (found.before.choose-within.ensures _ h) found.if2.true,
+          ∙ standing-found h l.invariant.2 turn.loop-p-test.true (found.choose_within-choice.ensures _ h) found.if-choice.true,
       l.invariant.1,
     )
 
-next-fit-requires-2 : tie.Need-next-fit-requires-2 Inv μ
+next-fit-requires-2 : tie.Need-next_fit-p-requires-in-loop-p Inv μ
 next-fit-requires-2 c κs =
-    let turn = c.before.before.before.before in
-    ((start turn).requires.0.columns, omega (arith, turn.loop-test.true))
+    let turn = c in
+    ((start turn.before.before.before.before.before).requires.0.columns, omega (arith, turn.loop-p-test.true))
 
-loop-again : tie.Need-loop-preserved Inv μ
+loop-again : tie.Need-loop-p-preserved Inv μ
 loop-again c =
-    let other = c.before.before in
-    let turn = other.before.before.before in
-    let h = keyed (start turn) in
-    let l = turn.before.loop in (
-      omega (arith, l.invariant.0, other.before.before.if1.false),
+    let other = c in
+    let turn = other in
+    let h = keyed (start turn.before.before.before.before.before.before) in
+    let l = turn.loop-p in (
+      omega (arith, l.invariant.0, other.if-tries-most.false),
       l.invariant.1,
-      standing-next h l.invariant.2 turn.loop-test.true (other.before.choose-within.ensures _ h) other.if2.false c.next-fit2.ensures,
+      standing-next h l.invariant.2 turn.loop-p-test.true (other.choose_within-choice.ensures _ h) other.if-choice.false c.next_fit-p-in-loop-p.ensures,
     )
 
-pub first-grouped-spec : {M : Type 1} → statement M
-first-grouped-spec =
+pub first_grouped_spec : {M : Type 1} → statement M
+first_grouped_spec =
     tie.close
     (tie.spec
     Inv
     μ
     (λ c κs. search rules)
     (λ c. search rules)
-    (λ c κs. (c.before.before.requires.0.columns, omega arith))
+    (λ c κs. (c.requires.0.columns, omega arith))
     loop-holds
     choose-by-keys-requires
     returns
     choose-within-requires
-    (λ c κs. c.if2.true)
+    (λ c κs. c.if-choice.true)
     returns-2
-    (λ c. let l = c.before.before.before.before in omega (arith, l.loop.invariant.0, l.before.before.before.Tries-of.ensures))
+    (λ c. let l = c in omega (arith, l.loop-p.invariant.0, l.tries_of-most.ensures))
     (λ c.
-    let turn = c.before.before.before in
-    omega (arith, turn.loop-test.true, (start turn).requires.0.columns.fits))
+    let turn = c in
+    omega (arith, turn.loop-p-test.true, (start turn.before.before.before).requires.0.columns.fits))
     (λ c. search rules)
     next-fit-requires-2
-    (λ c. omega (arith, c.next-fit2.ensures.low, c.before.before.before.before.before.loop-test.true))
+    (λ c. omega (arith, c.next_fit-p-in-loop-p.ensures.low, c.loop-p-test.true))
     loop-again
-    (λ c. (standing-end (keyed c.before.before.before.before.before) c.before.loop.invariant.2 c.loop-test.false, c.before.loop.invariant.1)))
+    (λ c. (standing-end (keyed c.before.before.before.before.before.before) c.loop-p.invariant.2 c.loop-p-test.false, c.loop-p.invariant.1)))

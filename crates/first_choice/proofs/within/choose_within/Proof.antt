@@ -11,7 +11,7 @@ use Rattle.first_choice.proofs.within.choose_within.Tie as tie
 
 returns : tie.Need-returns
 returns c ks h =
-    let s = c.before.before in
+    let s = c in
     let a = s.args in
     let some : 1 ≤ length a.takes.now = omega (arith, s.requires.4) in
     let low : a.p < length ks = omega (arith, h.size, s.requires.3) in
@@ -19,12 +19,12 @@ returns c ks h =
     c.choose.ensures ks _ (h.within a.p s.requires.3 s.requires.5) (within-used ks a.takes.now a.k a.p some low on)
     ∙ ap first_choice (within-choices ks a.takes.now a.k a.p some low on)
 
-pub choose-within-spec : {M : Type 1} → statement M
-choose-within-spec =
+pub choose_within_spec : {M : Type 1} → statement M
+choose_within_spec =
     tie.close
     (tie.spec
     (λ c. omega (arith, c.requires.3, c.requires.0.fits))
     (λ c. omega (arith, c.requires.3, c.requires.0.fits, c.requires.0.owners))
-    (λ c. omega (arith, c.before.requires.3, c.before.requires.0.fits))
-    (λ c κs. let p = c.before.requires in (p.0, p.1, p.2, p.4, (refl, (refl, (refl, tt)))))
+    (λ c. omega (arith, c.requires.3, c.requires.0.fits))
+    (λ c κs. let p = c.requires in (p.0, p.1, p.2, p.4, (refl, (refl, (refl, tt)))))
     returns)

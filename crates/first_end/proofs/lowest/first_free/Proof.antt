@@ -10,27 +10,27 @@ use Rattle.first_end.specs.OpenEnds.{free_of}
 use Rattle.first_end.proofs.lowest.first_free.Statement.{statement}
 use Rattle.first_end.proofs.lowest.first_free.Tie as tie
 
-abbrev Inv : tie.invariant-loop
+abbrev Inv : tie.invariant-loop-i
 Inv owners n blocked low₀ i₀ low i = (ws gs : List ℕ) → LowestSoFar (free_of blocked) (λ e. e.owner) 65536 (row_of owners ws gs) n low i
     (lowest_key (free_of blocked) (λ e. e.owner) 65536 65536 (rows (row_of owners ws gs) 0 n))
 
-abbrev μ : tie.decreases-loop
+abbrev μ : tie.decreases-loop-i
 μ owners n blocked low₀ i₀ low i = n - i
 
-loop-holds : tie.Need-loop-init Inv μ
+loop-holds : tie.Need-loop-i-init Inv μ
 loop-holds c ws gs = lowest_start _ _ _ _ _ _
 
-loop-again : tie.Need-loop-preserved Inv μ
+loop-again : tie.Need-loop-i-preserved Inv μ
 loop-again c ws gs =
-    let turn = c.before.before in
-    let l = turn.before.loop in
-    lowest-next _ _ _ (l.invariant ws gs) turn.loop-test.true (c.lower-free.ensures (get_or ws l.i 0) (get_or gs l.i 0))
+    let turn = c in
+    let l = turn.loop-i in
+    lowest-next _ _ _ (l.invariant ws gs) turn.loop-i-test.true (c.lower_free-low.ensures (get_or ws l.i 0) (get_or gs l.i 0))
 
 returns : tie.Need-returns Inv μ
-returns c ws gs = lowest-done _ _ _ (c.before.loop.invariant ws gs) c.loop-test.false
+returns c ws gs = lowest-done _ _ _ (c.loop-i.invariant ws gs) c.loop-i-test.false
 
-pub first-free-spec : {M : Type 1} → statement M
-first-free-spec =
+pub first_free_spec : {M : Type 1} → statement M
+first_free_spec =
     tie.close
     (tie.spec
     Inv μ loop-holds (λ c. search rules) (λ c. search rules) (λ c κs. search rules) (λ c. search rules) (λ c. search rules)

@@ -10,27 +10,27 @@ use Rattle.transactions.specs.Sets.{stops}
 use Rattle.first_end.proofs.lowest.first_marked.Statement.{statement}
 use Rattle.first_end.proofs.lowest.first_marked.Tie as tie
 
-abbrev Inv : tie.invariant-loop
+abbrev Inv : tie.invariant-loop-i
 Inv owners items n low₀ i₀ low i = (gs : List ℕ) → LowestSoFar stops (λ e. e.owner) 65536 (row_of owners items gs) n low i
     (lowest_key stops (λ e. e.owner) 65536 65536 (rows (row_of owners items gs) 0 n))
 
-abbrev μ : tie.decreases-loop
+abbrev μ : tie.decreases-loop-i
 μ owners items n low₀ i₀ low i = n - i
 
-loop-holds : tie.Need-loop-init Inv μ
+loop-holds : tie.Need-loop-i-init Inv μ
 loop-holds c gs = lowest_start _ _ _ _ _ _
 
-loop-again : tie.Need-loop-preserved Inv μ
+loop-again : tie.Need-loop-i-preserved Inv μ
 loop-again c gs =
-    let turn = c.before.before.before in
-    let l = turn.before.loop in
-    lowest-next _ _ _ (l.invariant gs) turn.loop-test.true (c.lower-marked.ensures (get_or gs l.i 0))
+    let turn = c in
+    let l = turn.loop-i in
+    lowest-next _ _ _ (l.invariant gs) turn.loop-i-test.true (c.lower_marked-low.ensures (get_or gs l.i 0))
 
 returns : tie.Need-returns Inv μ
-returns c gs = lowest-done _ _ _ (c.before.loop.invariant gs) c.loop-test.false
+returns c gs = lowest-done _ _ _ (c.loop-i.invariant gs) c.loop-i-test.false
 
-pub first-marked-spec : {M : Type 1} → statement M
-first-marked-spec =
+pub first_marked_spec : {M : Type 1} → statement M
+first_marked_spec =
     tie.close
     (tie.spec
     Inv μ loop-holds (λ c. search rules) (λ c. search rules) (λ c. search rules) (λ c. search rules)

@@ -8,8 +8,8 @@ use Rattle.first_end.proofs.lowest.lower_owner.Tie as tie
 
 returns : tie.Need-returns
 returns c item origin =
-    let a = c.before.before.args in
-    ap (λ (k : ℕ). k + 1) c.lower-short.ensures ∙ lower-by-one _ a.low a.owner a.above (search rules) c.before.one_lower.ensures
+    let a = c.args in
+    ap (λ (k : ℕ). k + 1) c.lower_short.ensures ∙ lower-by-one _ a.low a.owner a.above (search rules) c.one_lower.ensures
 
-pub lower-owner-spec : {M : Type 1} → statement M
-lower-owner-spec = tie.close (tie.spec (λ c κs. search rules) (λ c κs. search rules) returns)
+pub lower_owner_spec : {M : Type 1} → statement M
+lower_owner_spec = tie.close (tie.spec (λ c κs. search rules) (λ c κs. search rules) returns)

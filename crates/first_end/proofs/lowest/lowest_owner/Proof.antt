@@ -10,30 +10,30 @@ use Rattle.first_end.specs.OpenEnds.{is_above}
 use Rattle.first_end.proofs.lowest.lowest_owner.Statement.{statement}
 use Rattle.first_end.proofs.lowest.lowest_owner.Tie as tie
 
-abbrev Inv : tie.invariant-loop
+abbrev Inv : tie.invariant-loop-i
 Inv owners n above low₀ i₀ low i = (low < 65536)
     × ((ws gs : List ℕ) → LowestSoFar (is_above above) (λ e. e.owner) 65536 (row_of owners ws gs) n (low + 1) i
     (lowest_key (is_above above) (λ e. e.owner) 65536 65536 (rows (row_of owners ws gs) 0 n)))
 
-abbrev μ : tie.decreases-loop
+abbrev μ : tie.decreases-loop-i
 μ owners n above low₀ i₀ low i = n - i
 
-loop-holds : tie.Need-loop-init Inv μ
+loop-holds : tie.Need-loop-i-init Inv μ
 loop-holds c = (search rules, λ ws gs. lowest_start _ _ _ _ _ _)
 
-loop-again : tie.Need-loop-preserved Inv μ
+loop-again : tie.Need-loop-i-preserved Inv μ
 loop-again c =
-    let turn = c.before.before in
-    let l = turn.before.loop in (
+    let turn = c in
+    let l = turn.loop-i in (
       search rules,
-      λ ws gs. lowest-next _ _ _ (l.invariant.1 ws gs) turn.loop-test.true (c.lower-owner.ensures (get_or ws l.i 0) (get_or gs l.i 0)),
+      λ ws gs. lowest-next _ _ _ (l.invariant.1 ws gs) turn.loop-i-test.true (c.lower_owner-low.ensures (get_or ws l.i 0) (get_or gs l.i 0)),
     )
 
 returns : tie.Need-returns Inv μ
-returns c ws gs = lowest-done _ _ _ (c.before.loop.invariant.1 ws gs) c.loop-test.false
+returns c ws gs = lowest-done _ _ _ (c.loop-i.invariant.1 ws gs) c.loop-i-test.false
 
-pub lowest-owner-spec : {M : Type 1} → statement M
-lowest-owner-spec =
+pub lowest_owner_spec : {M : Type 1} → statement M
+lowest_owner_spec =
     tie.close
     (tie.spec
     Inv μ loop-holds (λ c. search rules) (λ c. search rules) (λ c κs. search rules) (λ c. search rules) (λ c. search rules)

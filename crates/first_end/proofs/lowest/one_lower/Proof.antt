@@ -6,15 +6,15 @@ use Rattle.lists.specs.Choices.{cond-true, cond-false}
 use Rattle.first_end.proofs.lowest.one_lower.Statement.{statement}
 use Rattle.first_end.proofs.lowest.one_lower.Tie as tie
 
-returns : tie.Need-returns
+returns : tie.Need-returns-then-above-owner
 returns c =
-    let a = c.before.args in
-    omega (arith, c.if1.true, cond-true a.owner 65536 (lt-ltb a.above a.owner c.if1.true))
+    let a = c.args in
+    omega (arith, c.if-above-owner.true, cond-true a.owner 65536 (lt-ltb a.above a.owner c.if-above-owner.true))
 
-returns-2 : tie.Need-returns-2
+returns-2 : tie.Need-returns-else-above-owner
 returns-2 c =
-    let a = c.before.args in
-    omega (arith, cond-false a.owner 65536 (le-ltb a.above a.owner c.if1.false))
+    let a = c.args in
+    omega (arith, cond-false a.owner 65536 (le-ltb a.above a.owner c.if-above-owner.false))
 
-pub one-lower-spec : {M : Type 1} → statement M
-one-lower-spec = tie.close (tie.spec (λ c. search rules) returns returns-2)
+pub one_lower_spec : {M : Type 1} → statement M
+one_lower_spec = tie.close (tie.spec (λ c. search rules) returns returns-2)

@@ -12,32 +12,32 @@ use Rattle.transactions.specs.Gathered.{Gathering, gathering-start, gathering-ne
 use Rattle.first_end.proofs.pass.gather_blocked.Statement.{statement}
 use Rattle.first_end.proofs.pass.gather_blocked.Tie as tie
 
-abbrev Inv : tie.invariant-loop
+abbrev Inv : tie.invariant-loop-i
 Inv owners items n globals blocked₀ i₀ blocked i =
     (length blocked ≡ 1024) × ((gs : List ℕ) → Gathering (λ v e. owned v e && blocks globals e) (row_of owners items gs) n blocked i)
 
-abbrev μ : tie.decreases-loop
+abbrev μ : tie.decreases-loop-i
 μ owners items n globals blocked₀ i₀ blocked i = n - i
 
-loop-holds : tie.Need-loop-init Inv μ
+loop-holds : tie.Need-loop-i-init Inv μ
 loop-holds c = (c.requires.1.size, λ gs. gathering-start c.requires.1)
 
-loop-again : tie.Need-loop-preserved Inv μ
+loop-again : tie.Need-loop-i-preserved Inv μ
 loop-again c =
-    let turn = c.before.before.before.before in
-    let l = turn.before.loop in
-    let a = turn.before.before.args in
+    let turn = c in
+    let l = turn.loop-i in
+    let a = turn.args in
     let row : List ℕ → Entry = λ gs. row_of a.owners.now a.items.now gs l.i in
-    let t = c.enter-if.ensures in (
+    let t = c.enter_if.ensures in (
       (t 0).size,
-      λ gs. gathering-next (l.invariant.1 gs) turn.loop-test.true (owner-put (row gs) (blocks a.globals (row gs)) (t (get_or gs l.i 0))),
+      λ gs. gathering-next (l.invariant.1 gs) turn.loop-i-test.true (owner-put (row gs) (blocks a.globals (row gs)) (t (get_or gs l.i 0))),
     )
 
 returns : tie.Need-returns Inv μ
-returns c gs = record { are = gathering-done (c.before.loop.invariant.1 gs) c.loop-test.false }
+returns c gs = record { are = gathering-done (c.loop-i.invariant.1 gs) c.loop-i-test.false }
 
-pub gather-blocked-spec : {M : Type 1} → statement M
-gather-blocked-spec =
+pub gather_blocked_spec : {M : Type 1} → statement M
+gather_blocked_spec =
     tie.close
     (tie.spec
     Inv μ loop-holds (λ c. search rules) (λ c. search rules) (λ c. search rules) (λ c. search rules)

@@ -14,31 +14,31 @@ use Rattle.first_end.proofs.FirstIds.{inside-by-item}
 use Rattle.first_end.proofs.pass.has_inside.Statement.{statement}
 use Rattle.first_end.proofs.pass.has_inside.Tie as tie
 
-abbrev Inv : tie.invariant-loop
+abbrev Inv : tie.invariant-loop-i
 Inv owners items n id globals outside found₀ i₀ found i =
     (gs : List ℕ) → Finding (λ e. owned id e && is_inside globals e) (rows_from (row_of owners items gs) n) n found i
     (any (λ e. owned id e && is_inside globals e) (rows (row_of owners items gs) 0 n))
 
-abbrev μ : tie.decreases-loop
+abbrev μ : tie.decreases-loop-i
 μ owners items n id globals outside found₀ i₀ found i = n - i
 
-loop-holds : tie.Need-loop-init Inv μ
+loop-holds : tie.Need-loop-i-init Inv μ
 loop-holds c gs = finding-start _ _ _
 
-loop-again : tie.Need-loop-preserved Inv μ
+loop-again : tie.Need-loop-i-preserved Inv μ
 loop-again c gs =
-    let turn = c.before.before.before in
-    let l = turn.before.loop in
-    let first = turn.before.before in
-    let item = get_or first.before.args.items.now l.i 0 in
-    rw (c.kind-of.ensures, inside-by-item item _ first.before.args.globals (first.messages-end.ensures item))
-    (finding-next (rows-tails _ _) (l.invariant gs) turn.loop-test.true)
+    let turn = c in
+    let l = turn.loop-i in
+    let first = turn in
+    let item = get_or first.args.items.now l.i 0 in
+    rw (c.kind_of-kind.ensures, inside-by-item item _ first.args.globals (first.messages_end-outside.ensures item))
+    (finding-next (rows-tails _ _) (l.invariant gs) turn.loop-i-test.true)
 
 returns : tie.Need-returns Inv μ
-returns c gs = finding-done (rows-tails _ _) (c.before.loop.invariant gs) c.loop-test.false
+returns c gs = finding-done (rows-tails _ _) (c.loop-i.invariant gs) c.loop-i-test.false
 
-pub has-inside-spec : {M : Type 1} → statement M
-has-inside-spec =
+pub has_inside_spec : {M : Type 1} → statement M
+has_inside_spec =
     tie.close
     (tie.spec
     Inv μ (λ c κs. search rules) loop-holds (λ c. search rules) (λ c. search rules) (λ c. search rules) (λ c. search rules)

@@ -8,8 +8,8 @@ use Rattle.offers.proofs.outside.key_outside.Tie as tie
 
 returns : tie.Need-returns
 returns c =
-    let set = c.before.before.args.stopped.now in
-    (λ origin. c.key-if.ensures.0 (λ v. not (has set v)) origin (ap not (sym c.before.has.ensures)), c.key-if.ensures.1)
+    let set = c.args.stopped.now in
+    (λ origin. c.key_if.ensures.0 (λ v. not (has set v)) origin (ap not (sym c.has-there.ensures)), c.key_if.ensures.1)
 
-pub key-outside-spec : {M : Type 1} → statement M
-key-outside-spec = tie.close (tie.spec (λ c κs. search rules) (λ c κs. search rules) returns)
+pub key_outside_spec : {M : Type 1} → statement M
+key_outside_spec = tie.close (tie.spec (λ c κs. search rules) (λ c κs. search rules) returns)

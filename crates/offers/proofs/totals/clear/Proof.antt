@@ -5,10 +5,10 @@ use Rattle.lists.specs.Filled.{Filled, filled_none, filled_more, filled-all}
 use Rattle.offers.proofs.totals.clear.Statement.{statement}
 use Rattle.offers.proofs.totals.clear.Tie as tie
 
-abbrev Inv : tie.invariant-loop
+abbrev Inv : tie.invariant-loop-i
 Inv totals₀ i₀ totals i = Filled 0 (λ p. 0) 512 i totals
 
-abbrev μ : tie.decreases-loop
+abbrev μ : tie.decreases-loop-i
 μ totals₀ i₀ totals i = 512 - i
 
 pub clear_spec : {M : Type 1} → statement M
@@ -21,5 +21,5 @@ clear_spec =
     (λ c. search rules)
     (λ c. search rules)
     (λ c. search rules)
-    (λ c. filled_more 0 c.before.loop.invariant c.loop-test.true)
-    (λ c. filled-all 0 c.before.loop.invariant c.loop-test.false))
+    (λ c. filled_more 0 c.loop-i.invariant c.loop-i-test.true)
+    (λ c. filled-all 0 c.loop-i.invariant c.loop-i-test.false))

@@ -9,39 +9,39 @@ use Rattle.offers.proofs.KeyTally.{KeyTally, port-start, port-few, port-next, po
 use Rattle.offers.proofs.totals.count_outside.Statement.{statement}
 use Rattle.offers.proofs.totals.count_outside.Tie as tie
 
-abbrev Inv : tie.invariant-loop
+abbrev Inv : tie.invariant-loop-i
 Inv z owners items n stopped totals₀ i₀ totals i = KeyTally (row_key z (λ v. not (has stopped v)) owners items) n i totals
 
-abbrev μ : tie.decreases-loop
+abbrev μ : tie.decreases-loop-i
 μ z owners items n stopped totals₀ i₀ totals i = n - i
 
-few : (c : tie.In-loop Inv μ) → c.before.loop.i < 1024
-few c = omega (arith, c.loop-test.true, c.before.before.requires.0.fits)
+few : (c : tie.In-loop-i Inv μ) → c.loop-i.i < 1024
+few c = omega (arith, c.loop-i-test.true, c.requires.0.fits)
 
-count-one-requires : tie.Need-count-one-requires Inv μ
+count-one-requires : tie.Need-count_one-requires Inv μ
 count-one-requires c κs =
-    let turn = c.before.before.before.before in
-    (turn.before.loop.invariant.size, port-few turn.before.loop.invariant turn.before.before.requires.0.fits _)
+    let turn = c in
+    (turn.loop-i.invariant.size, port-few turn.loop-i.invariant turn.requires.0.fits _)
 
-loop-again : tie.Need-loop-preserved Inv μ
+loop-again : tie.Need-loop-i-preserved Inv μ
 loop-again c =
-    let turn = c.before.before.before.before.before in
-    port-next turn.before.loop.invariant turn.loop-test.true (c.before.before.key-outside.ensures.0 0) c.count-one.ensures
+    let turn = c in
+    port-next turn.loop-i.invariant turn.loop-i-test.true (c.key_outside-key.ensures.0 0) c.count_one.ensures
 
-pub count-outside-spec : {M : Type 1} → statement M
-count-outside-spec =
+pub count_outside_spec : {M : Type 1} → statement M
+count_outside_spec =
     tie.close
     (tie.spec
     Inv
     μ
     (λ c. port-start _ _ c.requires.2)
     (λ c. omega (arith, few c))
-    (λ c. omega (arith, few c, c.before.before.requires.0.owners))
-    (λ c. omega (arith, few c.before))
-    (λ c. omega (arith, few c.before, c.before.before.before.requires.0.items))
+    (λ c. omega (arith, few c.before, c.requires.0.owners))
+    (λ c. omega (arith, few c.before.before))
+    (λ c. omega (arith, few c.before.before.before, c.requires.0.items))
     (λ c κs. search rules)
     count-one-requires
     (λ c. search rules)
     (λ c. search rules)
     loop-again
-    (λ c. port-done c.before.loop.invariant c.loop-test.false))
+    (λ c. port-done c.loop-i.invariant c.loop-i-test.false))

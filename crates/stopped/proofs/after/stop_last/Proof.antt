@@ -25,30 +25,30 @@ empty f e = rw (e, rows_none)
 none : (v : ℕ) → owned v nothing && stops nothing ≡ false
 none v = and-right-false (owned v nothing) refl
 
-returns : tie.Need-returns
+returns : tie.Need-returns-then-n-eq0
 returns c =
-    let s = c.before in
+    let s = c in
     let row : List ℕ → ℕ → Entry = λ gs. row_of s.args.owners.now s.args.items.now gs in (
-      λ gs t i σ r ps h e are. last-added h i e (empty (row gs) c.if1.true) are s.requires.1 (λ v. rw (none v)),
-      λ gs t i σ r ps h e. last-tells h i e (empty (row gs) c.if1.true) refl,
+      λ gs t i σ r ps h e are. last-added h i e (empty (row gs) c.if-n-eq0.true) are s.requires.1 (λ v. rw (none v)),
+      λ gs t i σ r ps h e. last-tells h i e (empty (row gs) c.if-n-eq0.true) refl,
     )
 
-returns-2 : tie.Need-returns-2
+returns-2 : tie.Need-returns
 returns-2 c =
-    let a = c.before.before.before.before.before in
-    let s = a.before in
+    let a = c in
+    let s = a in
     let row : List ℕ → ℕ → Entry = λ gs. row_of s.args.owners.now s.args.items.now gs in
     let n = s.args.n in
-    let some : 0 < n = omega (arith, a.if1.false) in
-    let put = c.before.stop-if.ensures in
+    let some : 0 < n = omega (arith, a.if-n-eq0.false) in
+    let put = c.stop_if.ensures in
     let at : List ℕ → Entry = λ gs. row gs (n - 1) in (
       λ gs t i σ r ps h e are. last-added h i e (last-rows nothing (row gs) n some) are (put 0).size
           (owner-put (at gs) (stops (at gs)) (put (get_or gs (n - 1) 0))),
       λ gs t i σ r ps h e. last-tells h i e (last-rows nothing (row gs) n some) (c.is_stop.ensures (get_or gs (n - 1) 0)),
     )
 
-pub stop-last-spec : {M : Type 1} → statement M
-stop-last-spec =
+pub stop_last_spec : {M : Type 1} → statement M
+stop_last_spec =
     tie.close
     (tie.spec
     returns (λ c. search rules) (λ c. search rules) (λ c. search rules) (λ c. search rules) (λ c. search rules) (λ c. search rules)

@@ -6,8 +6,8 @@ use Rattle.stopped.proofs.after.unstop.Tie as tie
 
 remove-requires : tie.Need-remove-requires
 remove-requires c κs =
-    let (size, there) = c.before.requires in
+    let (size, there) = c.requires in
     (member-small _ _ size there, size, there)
 
-pub unstop-spec : {M : Type 1} → statement M
-unstop-spec = tie.close (tie.spec remove-requires (λ c t i s are. abort-removes t s _ are c.remove.ensures i))
+pub unstop_spec : {M : Type 1} → statement M
+unstop_spec = tie.close (tie.spec remove-requires (λ c t i s are. abort-removes t s _ are c.remove.ensures i))

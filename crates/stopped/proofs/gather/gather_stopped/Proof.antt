@@ -12,30 +12,30 @@ use Rattle.transactions.specs.Gathered.{Gathering, gathering-start, gathering-ne
 use Rattle.stopped.proofs.gather.gather_stopped.Statement.{statement}
 use Rattle.stopped.proofs.gather.gather_stopped.Tie as tie
 
-abbrev Inv : tie.invariant-loop
+abbrev Inv : tie.invariant-loop-i
 Inv owners items n stopped₀ i₀ stopped i =
     (length stopped ≡ 1024) × ((gs : List ℕ) → Gathering (λ v e. owned v e && stops e) (row_of owners items gs) n stopped i)
 
-abbrev μ : tie.decreases-loop
+abbrev μ : tie.decreases-loop-i
 μ owners items n stopped₀ i₀ stopped i = n - i
 
-loop-holds : tie.Need-loop-init Inv μ
+loop-holds : tie.Need-loop-i-init Inv μ
 loop-holds c = (c.requires.1.size, λ gs. gathering-start c.requires.1)
 
-loop-again : tie.Need-loop-preserved Inv μ
+loop-again : tie.Need-loop-i-preserved Inv μ
 loop-again c =
-    let turn = c.before.before.before.before in
-    let l = turn.before.loop in
-    let a = turn.before.before.args in
+    let turn = c in
+    let l = turn.loop-i in
+    let a = turn.args in
     let row : List ℕ → Entry = λ gs. row_of a.owners.now a.items.now gs l.i in
-    let t = c.stop-if.ensures in
-    ((t 0).size, λ gs. gathering-next (l.invariant.1 gs) turn.loop-test.true (owner-put (row gs) (stops (row gs)) (t (get_or gs l.i 0))))
+    let t = c.stop_if.ensures in
+    ((t 0).size, λ gs. gathering-next (l.invariant.1 gs) turn.loop-i-test.true (owner-put (row gs) (stops (row gs)) (t (get_or gs l.i 0))))
 
 returns : tie.Need-returns Inv μ
-returns c gs = record { size = c.before.loop.invariant.0; are = gathering-done (c.before.loop.invariant.1 gs) c.loop-test.false }
+returns c gs = record { size = c.loop-i.invariant.0; are = gathering-done (c.loop-i.invariant.1 gs) c.loop-i-test.false }
 
-pub gather-stopped-spec : {M : Type 1} → statement M
-gather-stopped-spec =
+pub gather_stopped_spec : {M : Type 1} → statement M
+gather_stopped_spec =
     tie.close
     (tie.spec
     Inv μ loop-holds (λ c. search rules) (λ c. search rules) (λ c. search rules) (λ c. search rules)

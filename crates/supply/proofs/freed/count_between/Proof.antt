@@ -9,41 +9,41 @@ use Rattle.supply.proofs.Freeing.{Freeing, freeing-start, freeing-next, freeing-
 use Rattle.supply.proofs.freed.count_between.Statement.{statement}
 use Rattle.supply.proofs.freed.count_between.Tie as tie
 
-abbrev Inv : tie.invariant-loop
+abbrev Inv : tie.invariant-loop-i
 Inv owners items from end id kind totals₀ i₀ totals i =
     Columns owners items end × ((gs : List ℕ) → Freeing id kind (row_of owners items gs) end from i totals₀ totals)
 
-abbrev μ : tie.decreases-loop
+abbrev μ : tie.decreases-loop-i
 μ owners items from end id kind totals₀ i₀ totals i = end - i
 
-loop-holds : tie.Need-loop-init Inv μ
+loop-holds : tie.Need-loop-i-init Inv μ
 loop-holds c = (c.requires.0, λ gs. freeing-start _ _ _ _ _ c.requires.1 c.requires.2)
 
-add-totals : tie.Need-overflow-add-totals Inv μ
+add-totals : tie.Need-overflow_add-totals Inv μ
 add-totals c =
-    let at = c.before.before.before.before in
-    let turn = at.before.before in
-    let small : at.port-of.result < 256 = omega (arith, at.port-of.ensures) in
-    let fits = freeing-fits _ _ _ (turn.before.loop.invariant.1 []) turn.loop-test.true at.port-of.ensures small in
-    let one = c.before.one-if.ensures in
+    let at = c in
+    let turn = at in
+    let small : at.port_of-port.result < 256 = omega (arith, at.port_of-port.ensures) in
+    let fits = freeing-fits _ _ _ (turn.loop-i.invariant.1 []) turn.loop-i-test.true at.port_of-port.ensures small in
+    let one = c.one_if-more.ensures in
     omega (arith, fits, one)
 
-loop-again : tie.Need-loop-preserved Inv μ
+loop-again : tie.Need-loop-i-preserved Inv μ
 loop-again c =
-    let at = c.before.before.before.before in
-    let turn = at.before.before in
-    let v = turn.before.loop.invariant in
-    let small : at.port-of.result < 256 = omega (arith, at.port-of.ensures) in (
+    let at = c in
+    let turn = at in
+    let v = turn.loop-i.invariant in
+    let small : at.port_of-port.result < 256 = omega (arith, at.port_of-port.ensures) in (
       v.0,
-      λ gs. freeing-next _ _ _ (v.1 gs) turn.loop-test.true at.port-of.ensures small
-          c.before.before.kind-of.ensures c.before.one-if.ensures.0,
+      λ gs. freeing-next _ _ _ (v.1 gs) turn.loop-i-test.true at.port_of-port.ensures small
+          c.kind_of.ensures c.one_if-more.ensures.0,
     )
 
 returns : tie.Need-returns Inv μ
-returns c gs = freeing-done _ _ _ (c.before.loop.invariant.1 gs) c.loop-test.false
+returns c gs = freeing-done _ _ _ (c.loop-i.invariant.1 gs) c.loop-i-test.false
 
-pub count-between-spec : {M : Type 1} → statement M
-count-between-spec =
+pub count_between_spec : {M : Type 1} → statement M
+count_between_spec =
     tie.close
     (tie.spec
     Inv
