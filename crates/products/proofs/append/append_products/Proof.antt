@@ -12,60 +12,60 @@ use Rattle.products.proofs.Appending.{Making, few-made, making-start, making-nex
 use Rattle.products.proofs.append.append_products.Statement.{statement}
 use Rattle.products.proofs.append.append_products.Tie as tie
 
-abbrev Inv : tie.invariant-loop
+abbrev Inv : tie.invariant-loop-q
 Inv owners₀ items₀ origins₀ home maker rule received n next class from made q₀ owners items origins q =
     Making rule next home maker (map value_of received) n q owners items origins
     (rows (row_of owners₀ items₀ origins₀) 0 n ++ products_from rule.class next home (map value_of received) maker 0 (making_atoms rule))
 
-abbrev μ : tie.decreases-loop
+abbrev μ : tie.decreases-loop-q
 μ owners₀ items₀ origins₀ home maker rule received n next class from made q₀ owners items origins q = made - q
 
-sub-made : tie.Need-overflow-sub-made Inv μ
-sub-made c = omega (arith, consumes-within c.args.t5 c.requires.1.1.0.rule)
+sub-made : tie.Need-overflow_sub-made Inv μ
+sub-made c = omega (arith, consumes-within c.args.rule c.requires.1.1.0.rule)
 
-loop-holds : tie.Need-loop-init Inv μ
-loop-holds c = making-start c.args.t5 _ c.args.home c.args.maker _ _ _ _ _ c.requires.1.1.0 c.requires.0 c.requires.1.0
+loop-holds : tie.Need-loop-q-init Inv μ
+loop-holds c = making-start c.args.rule _ c.args.home c.args.maker _ _ _ _ _ c.requires.1.1.0 c.requires.0 c.requires.1.0
 
 -- the atom at hand is one of the rule's
-within : (c : tie.In-loop Inv μ) → let x = c.before.before.args.t5 in x.consumes + c.before.loop.q < x.count
+within : (c : tie.In-loop-q Inv μ) → let x = c.args.rule in x.consumes + c.loop-q.q < x.count
 within c =
-    let x = c.before.before.args.t5 in
-    omega (arith, consumes-within x c.before.before.requires.1.1.0.rule, c.loop-test.true)
+    let x = c.args.rule in
+    omega (arith, consumes-within x c.requires.1.1.0.rule, c.loop-q-test.true)
 
-owner-made-requires : tie.Need-owner-made-requires Inv μ
+owner-made-requires : tie.Need-owner_made-requires Inv μ
 owner-made-requires c κs =
-    let start = c.before.before.before in
+    let start = c in
     let ready = start.requires.1.1.0 in
-    λ global other. start.requires.1.1.1 (ready.begun _ (product-among start.args.t5 ready.rule _ (within c.before)) global other)
+    λ global other. start.requires.1.1.1 (ready.begun _ (product-among start.args.rule ready.rule _ (within c.before)) global other)
 
-item-made-requires : tie.Need-item-made-requires Inv μ
+item-made-requires : tie.Need-item_made-requires Inv μ
 item-made-requires c κs =
-    let start = c.before.before.before.before.before in
-    let x = start.args.t5 in
+    let start = c in
+    let x = start.args.rule in
     let ready = start.requires.1.1.0 in
-    let m = atom-among x ready.rule _ (within c.before.before.before) in
+    let m = atom-among x ready.rule _ (within c.before.before.before.before) in
     (ready.narrow _ m, (λ e. start.requires.1.1.1 (begins-by x ready.rule _ m e)), search rules)
 
-loop-again : tie.Need-loop-preserved Inv μ
+loop-again : tie.Need-loop-q-preserved Inv μ
 loop-again c =
-    let l = c.before.before.before.before.before.before in
-    let a = l.before.args in
-    rw c.origin-of.ensures
-    (making-next a.t5 _ a.home a.maker _ l.loop.invariant c.before.before.before.before.before.loop-test.true _ _
-    c.before.before.before.owner-made.ensures c.before.item-made.ensures)
+    let l = c in
+    let a = l.args in
+    rw c.origin_of.ensures
+    (making-next a.rule _ a.home a.maker _ l.loop-q.invariant c.loop-q-test.true _ _
+    c.owner_made.ensures c.item_made.ensures)
 
 returns : tie.Need-returns Inv μ
 returns c =
-    let a = c.before.before.before.args in
-    rw c.next-after.ensures (making-done a.t5 _ a.home a.maker _ c.before.before.loop.invariant c.before.loop-test.false _)
+    let a = c.args in
+    rw c.next_after.ensures (making-done a.rule _ a.home a.maker _ c.loop-q.invariant c.loop-q-test.false _)
 
-pub append-products-spec : {M : Type 1} → statement M
-append-products-spec =
+pub append_products_spec : {M : Type 1} → statement M
+append_products_spec =
     tie.close
     (tie.spec Inv μ sub-made loop-holds (λ c. search rules) (λ c. search rules) (λ c. search rules) (λ c. search rules) owner-made-requires
     (λ c. search rules) (λ c. search rules) item-made-requires (λ c. search rules) (λ c. search rules) (λ c. search rules)
-    (λ c κs. let start = c.before.before.before.before.before.before in
+    (λ c κs. let start = c in
     let ready = start.requires.1.1.0 in
-    (ready.makers, few-made ready c.before.before.before.before.loop-test.true))
+    (ready.makers, few-made ready c.loop-q-test.true))
     (λ c. search rules) (λ c. search rules) (λ c. search rules) (λ c. search rules) loop-again (λ c. search rules)
-    (λ c κs. c.before.before.requires.1.1.0.limit) returns)
+    (λ c κs. c.requires.1.1.0.limit) returns)

@@ -4,8 +4,8 @@ use native.Mathlib.Numerals.{add-one}
 use Rattle.products.proofs.append.next_after.Statement.{statement}
 use Rattle.products.proofs.append.next_after.Tie as tie
 
-returns : tie.Need-returns
-returns c = rw (c.if1.true, add-one)
+returns : tie.Need-returns-then-begins
+returns c = rw (c.if-begins.true, add-one)
 
-pub next-after-spec : {M : Type 1} → statement M
-next-after-spec = tie.close (tie.spec (λ c. search rules) returns (λ c. search rules))
+pub next_after_spec : {M : Type 1} → statement M
+next_after_spec = tie.close (tie.spec (λ c. search rules) returns (λ c. search rules))

@@ -8,11 +8,11 @@ use Rattle.products.proofs.append.owner_made.Statement.{statement}
 use Rattle.products.proofs.append.owner_made.Tie as tie
 
 -- the id of what is begun is narrow
-cast-result : tie.Need-overflow-cast-result
+cast-result : tie.Need-overflow_cast-result
 cast-result c =
-    let a = c.before.args in
-    let (global, other) = and_both (eqb a.class 0) (not (eqb a.role 1)) c.if1.true in
-    omega (arith, c.before.requires (eqb-true a.class 0 global) (eqb-false a.role 1 (not-true _ other)))
+    let a = c.args in
+    let (global, other) = and_both (eqb a.class 0) (not (eqb a.role 1)) c.if-class-role.true in
+    omega (arith, c.requires (eqb-true a.class 0 global) (eqb-false a.role 1 (not-true _ other)))
 
-pub owner-made-spec : {M : Type 1} → statement M
-owner-made-spec = tie.close (tie.spec cast-result (λ c. rw c.if1.true) (λ c. rw c.if1.false))
+pub owner_made_spec : {M : Type 1} → statement M
+owner_made_spec = tie.close (tie.spec cast-result (λ c. rw c.if-class-role.true) (λ c. rw c.if-class-role.false))

@@ -19,45 +19,45 @@ facts c =
 in_place : (c : tie.Start) → Places 1024 (take c.args.rule.consumes c.args.picks)
 in_place c p m = let l = (facts c).in_place p m in omega (arith, c.requires.fits)
 
-owners-at-requires : tie.Need-owners-at-requires
-owners-at-requires c κs = (search rules, search rules, in_place c.before)
+owners-at-requires : tie.Need-owners_at-found-requires
+owners-at-requires c κs = (search rules, search rules, in_place c)
 
-items-at-requires : tie.Need-items-at-requires
-items-at-requires c κs = (search rules, search rules, in_place c.before.before.before)
+items-at-requires : tie.Need-items_at-received-requires
+items-at-requires c κs = (search rules, search rules, in_place c.before)
 
 remove-requires : tie.Need-remove-requires
 remove-requires c κs =
-    let start = c.before.before.before.before.before.before.before.before in
-    let f = facts start in
+    let start = c in
+    let f = facts start.before.before.before.before.before.before in
     (start.requires.arrays, start.requires.fits, search rules, search rules, f.different, f.in_place)
 
-append-products-requires : tie.Need-append-products-requires
+append-products-requires : tie.Need-append_products-requires
 append-products-requires c κs =
-    let merged = c.before.before.before in
-    let removed = merged.before.before.before in
-    let start = removed.before.before.before.before.before.before.before.before.before in
-    let f = facts start in
+    let merged = c in
+    let removed = merged in
+    let start = removed in
+    let f = facts start.before.before.before.before.before.before.before.before.before.before.before.before.before in
     let a = removed.remove.ensures.0 in
     (record { owners = merged.merge.ensures.0; items = a.items; origins = a.origins }, (f.room, (start.requires.ready, f.id)))
 
 returns : tie.Need-returns
 returns c =
-    let merged = c.before.before.before.before in
-    let removed = merged.before.before.before in
-    let found = removed.before.before.before.before in
-    let received = found.before in
-    let start = received.before.before.before.before in
+    let merged = c in
+    let removed = merged in
+    let found = removed in
+    let received = found in
+    let start = received in
     let a = start.args in
     let l = removed.remove.new in
-    reacted-holds a.rule start.requires.ready.rule a.picks (four start) a.owners.now a.items.now a.origins.now a.at
-    start.requires.verdict a.maker found.smallest.result
-    l.0 l.1.0 l.1.1.0 merged.merge.new.0 received.before.before.owners-at.ensures received.items_at.ensures
-    found.smallest.ensures
-    removed.remove.ensures.1 merged.merge.ensures.1 c.append-products.ensures
+    reacted-holds a.rule start.requires.ready.rule a.picks (four start.before.before.before.before.before.before.before.before.before.before.before.before.before.before) a.owners.now a.items.now a.origins.now a.at
+    start.requires.verdict a.maker found.smallest-home.result
+    l.owners l.items l.origins merged.merge.new.owners received.owners_at-found.ensures received.items_at-received.ensures
+    found.smallest-home.ensures
+    removed.remove.ensures.1 merged.merge.ensures.1 c.append_products.ensures
 
-pub react-spec : {M : Type 1} → statement M
-react-spec =
+pub react_spec : {M : Type 1} → statement M
+react_spec =
     tie.close
     (tie.spec owners-at-requires items-at-requires (λ c κs. search rules) remove-requires
-    (λ c. (facts c.before.before.before.before.before.before.before.before.before.before).enough) (λ c κs. search rules)
+    (λ c. (facts c.before.before.before.before.before.before.before.before).enough) (λ c κs. search rules)
     append-products-requires returns)

@@ -11,24 +11,24 @@ use Rattle.reaction.proofs.Picking.{four-at}
 use Rattle.reaction.proofs.picks.items_at.Statement.{statement}
 use Rattle.reaction.proofs.picks.items_at.Tie as tie
 
-four : (c : tie.Start) → length c.args.t2 ≡ 4
+four : (c : tie.Start) → length c.args.picks ≡ 4
 four c = search rules
 
 -- a pick in use is a place
-place : (c : tie.Start) (i : ℕ) → ltb i c.args.k ≡ true → get_or c.args.t2 i 0 < 1024
-place c i h = place_at 1024 c.args.k c.args.t2 c.requires.2 (omega (arith, four c, c.requires.0)) i (ltb-true i c.args.k h)
+place : (c : tie.Start) (i : ℕ) → ltb i c.args.k ≡ true → get_or c.args.picks i 0 < 1024
+place c i h = place_at 1024 c.args.k c.args.picks c.requires.2 (omega (arith, four c, c.requires.0)) i (ltb-true i c.args.k h)
 
 returns : tie.Need-returns
 returns c =
-    let start = c.before.before.before.before in
+    let start = c in
     let a = start.args in
-    rw (c.item-at4.ensures, c.before.item-at3.ensures, c.before.before.item-at2.ensures, c.before.before.before.item-at.ensures)
-    (four-at a.column.now a.t2 a.k (four start) start.requires.0)
+    rw (c.item_at-d.ensures, c.item_at-c.ensures, c.item_at-b.ensures, c.item_at-a.ensures)
+    (four-at a.column.now a.picks a.k (four start.before.before.before.before) start.requires.0)
 
-pub items-at-spec : {M : Type 1} → statement M
-items-at-spec =
+pub items_at_spec : {M : Type 1} → statement M
+items_at_spec =
     tie.close
     (tie.spec
-    (λ c. search rules) (λ c κs. (c.requires.1, place c 0)) (λ c. search rules) (λ c κs. (c.before.requires.1, place c.before 1)) (λ c. search rules)
-    (λ c κs. (c.before.before.requires.1, place c.before.before 2))
-    (λ c. search rules) (λ c κs. (c.before.before.before.requires.1, place c.before.before.before 3)) returns)
+    (λ c. search rules) (λ c κs. (c.requires.1, place c 0)) (λ c. search rules) (λ c κs. (c.requires.1, place c.before 1)) (λ c. search rules)
+    (λ c κs. (c.requires.1, place c.before.before 2))
+    (λ c. search rules) (λ c κs. (c.requires.1, place c.before.before.before 3)) returns)

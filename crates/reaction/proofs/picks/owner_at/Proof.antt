@@ -2,8 +2,8 @@ use native.Mathlib.Omega.{arith}
 use Rattle.reaction.proofs.picks.owner_at.Statement.{statement}
 use Rattle.reaction.proofs.picks.owner_at.Tie as tie
 
-pub owner-at-spec : {M : Type 1} → statement M
-owner-at-spec =
+pub owner_at_spec : {M : Type 1} → statement M
+owner_at_spec =
     tie.close
-    (tie.spec (λ c. let l = c.before.requires.1 c.if1.true in omega arith) (λ c. c.before.requires.1 c.if1.true)
-    (λ c. rw c.before.if1.true) (λ c. rw c.if1.false))
+    (tie.spec (λ c. let l = c.requires.1 c.if-used.true in omega arith) (λ c. c.requires.1 c.if-used.true)
+    (λ c. rw c.if-used.true) (λ c. rw c.if-used.false))

@@ -6,10 +6,10 @@ use Rattle.reaction.proofs.verdict.outline_of.Tie as tie
 
 returns : tie.Need-returns
 returns c =
-    let s = c.before in
+    let s = c in
     let d = s.requires in (
       record {
-        ports = c.consume-ports.ensures.0;
+        ports = c.consume_ports.ensures.0;
         count = sym (count-atoms s.args.rule d);
         few = d.few;
         class = refl;
@@ -19,5 +19,5 @@ returns c =
       refl,
     )
 
-pub outline-of-spec : {M : Type 1} → statement M
-outline-of-spec = tie.close (tie.spec (λ c κs. search rules) returns)
+pub outline_of_spec : {M : Type 1} → statement M
+outline_of_spec = tie.close (tie.spec (λ c κs. search rules) returns)

@@ -9,11 +9,11 @@ use Rattle.reaction.proofs.verdict.owners_fit.Tie as tie
 
 returns : tie.Need-returns
 returns c =
-    let a = c.before.before.before.args in
-    let r = c.before.repeated in
-    c.four-fit.ensures
+    let a = c.args in
+    let r = c.repeated in
+    c.four_fit.ensures
     ∙ owners-same a.class r.result (column a.owners.now (take a.k a.picks)) (search rules)
-    (same-found r.result a.owners.now a.picks a.k (search rules) c.before.before.owners-at.ensures r.ensures)
+    (same-found r.result a.owners.now a.picks a.k (search rules) c.owners_at.ensures r.ensures)
 
-pub owners-fit-spec : {M : Type 1} → statement M
-owners-fit-spec = tie.close (tie.spec (λ c κs. search rules) (λ c κs. search rules) (λ c κs. search rules) returns)
+pub owners_fit_spec : {M : Type 1} → statement M
+owners_fit_spec = tie.close (tie.spec (λ c κs. search rules) (λ c κs. search rules) (λ c κs. search rules) returns)

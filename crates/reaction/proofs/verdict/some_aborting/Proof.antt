@@ -15,20 +15,20 @@ use Rattle.reaction.proofs.verdict.some_aborting.Tie as tie
 abbrev os : tie.Start → List ℕ
 os c = column c.args.owners.now (take c.args.k c.args.picks)
 
-returns-2 : tie.Need-returns-2
+returns-2 : tie.Need-returns
 returns-2 c gs =
-    let s = c.before.before.before.before.before in
+    let s = c in
     let a = s.args in
-    let r = c.before.repeated in
-    c.any-aborting.ensures gs
-    ∙ inner-part (state_from a.owners.now a.items.now gs a.at) (os s) s.requires.5 r.result (search rules)
-    (same-found r.result a.owners.now a.picks a.k (search rules) c.before.before.owners-at.ensures r.ensures)
+    let r = c.repeated-ids in
+    c.any_aborting.ensures gs
+    ∙ inner-part (state_from a.owners.now a.items.now gs a.at) (os s.before.before.before.before.before) s.requires.5 r.result (search rules)
+    (same-found r.result a.owners.now a.picks a.k (search rules) c.owners_at-found.ensures r.ensures)
 
-pub some-aborting-spec : {M : Type 1} → statement M
-some-aborting-spec =
+pub some_aborting_spec : {M : Type 1} → statement M
+some_aborting_spec =
     tie.close
     (tie.spec
-    (λ c gs. let s = c.before.before in let a = s.args in
-    ap not (sym (unmarked-part a.owners.now a.items.now gs a.at s.requires.1 c.if1.true (os s))))
+    (λ c gs. let s = c in let a = s.args in
+    ap not (sym (unmarked-part a.owners.now a.items.now gs a.at s.requires.1 c.if-at-unmarked.true (os s.before.before))))
     (λ c κs. search rules) (λ c κs. search rules) (λ c. search rules) (λ c. search rules) (λ c. search rules) (λ c. search rules) (λ c κs. search rules)
     returns-2)

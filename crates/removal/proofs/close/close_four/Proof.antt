@@ -5,17 +5,17 @@ use Rattle.removal.proofs.close.close_four.Tie as tie
 
 returns : tie.Need-returns
 returns c =
-    let third = c.before.before in
-    let second = third.before.before.before.before in
-    let first = second.before.before.before.before in
-    let start = first.before.before.before.before.before in
+    let third = c in
+    let second = third in
+    let first = second in
+    let start = first in
     let a = start.args in
     let p = start.requires in
     closed a.w a.end 4 a.owners.now a.items.now a.origins.now p.0 p.1 p.2
-    first.down-four.ensures second.down-four2.ensures third.down-four3.ensures
+    first.down_four.ensures second.down_four-2.ensures third.down_four-3.ensures
 
-pub close-four-spec : {M : Type 1} → statement M
-close-four-spec =
+pub close_four_spec : {M : Type 1} → statement M
+close_four_spec =
     tie.close
     (tie.spec
     (λ c. search rules) (λ c. search rules) (λ c. search rules) (λ c. search rules) (λ c κs. search rules)

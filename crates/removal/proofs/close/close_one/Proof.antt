@@ -5,17 +5,17 @@ use Rattle.removal.proofs.close.close_one.Tie as tie
 
 returns : tie.Need-returns
 returns c =
-    let third = c.before.before in
-    let second = third.before.before.before.before in
-    let first = second.before.before.before.before in
-    let start = first.before.before.before.before.before in
+    let third = c in
+    let second = third in
+    let first = second in
+    let start = first in
     let a = start.args in
     let p = start.requires in
     closed a.w a.end 1 a.owners.now a.items.now a.origins.now p.0 p.1 p.2
-    first.down-one.ensures second.down-one2.ensures third.down-one3.ensures
+    first.down_one.ensures second.down_one-2.ensures third.down_one-3.ensures
 
-pub close-one-spec : {M : Type 1} → statement M
-close-one-spec =
+pub close_one_spec : {M : Type 1} → statement M
+close_one_spec =
     tie.close
     (tie.spec
     (λ c. search rules) (λ c. search rules) (λ c. search rules) (λ c. search rules) (λ c κs. search rules)

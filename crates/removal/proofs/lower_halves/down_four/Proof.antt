@@ -6,15 +6,15 @@ use Rattle.lists.specs.Gaps.{Lowering, lowering-start, lowering-next, lowering-d
 use Rattle.removal.proofs.lower_halves.down_four.Statement.{statement}
 use Rattle.removal.proofs.lower_halves.down_four.Tie as tie
 
-abbrev Inv : tie.invariant-loop
+abbrev Inv : tie.invariant-loop-part
 Inv part₀ j₀ part j = Lowering 0 4 j part₀ part
 
-abbrev μ : tie.decreases-loop
+abbrev μ : tie.decreases-loop-part
 μ part₀ j₀ part j = length part₀ - j
 
-pub down-four-spec : {M : Type 1} → statement M
-down-four-spec =
+pub down_four_spec : {M : Type 1} → statement M
+down_four_spec =
     tie.close
     (tie.spec Inv μ (λ c. lowering-start 0 4 _) (λ c. search rules) (λ c. search rules) (λ c. search rules) (λ c. search rules) (λ c. search rules)
-    (λ c. search rules) (λ c. search rules) (λ c. search rules) (λ c. lowering-next 0 4 c.before.before.loop.invariant (search rules)) (λ c. search rules)
-    (λ c. lowering-done 0 4 c.before.loop.invariant (omega (arith, c.loop-test.false))))
+    (λ c. search rules) (λ c. search rules) (λ c. search rules) (λ c. lowering-next 0 4 c.loop-part.invariant (search rules)) (λ c. search rules)
+    (λ c. lowering-done 0 4 c.loop-part.invariant (omega (arith, c.loop-part-test.false))))

@@ -8,32 +8,32 @@ use Rattle.rules.proofs.Decoding.{Decoding, decoding-start, decoding-few, decodi
 use Rattle.rules.proofs.decode.rule_of.Statement.{statement}
 use Rattle.rules.proofs.decode.rule_of.Tie as tie
 
-abbrev Inv : tie.invariant-loop
+abbrev Inv : tie.invariant-loop-i
 Inv ws rule₀ consumes₀ begins₀ i₀ rule consumes begins i = Decoding ws rule₀.class rule consumes begins i
 
-abbrev μ : tie.decreases-loop
+abbrev μ : tie.decreases-loop-i
 μ ws rule₀ consumes₀ begins₀ i₀ rule consumes begins i = length ws - i
 
-loop-holds : tie.Need-loop-init Inv μ
+loop-holds : tie.Need-loop-i-init Inv μ
 loop-holds c = decoding-start _ _ refl refl
 
-add-consumes : tie.Need-overflow-add-consumes Inv μ
+add-consumes : tie.Need-overflow_add-consumes Inv μ
 add-consumes c =
-    let turn = c.before.before.before.before in
-    omega (arith, c.one-if.ensures.1, decoding-few turn.before.before.before.before.before.requires turn.before.loop.invariant)
+    let turn = c in
+    omega (arith, c.one_if-consumes.ensures.1, decoding-few turn.requires turn.loop-i.invariant)
 
-loop-again : tie.Need-loop-preserved Inv μ
+loop-again : tie.Need-loop-i-preserved Inv μ
 loop-again c =
-    let turn = c.before.before.before.before in
-    decoding-next turn.before.before.before.before.before.requires turn.before.loop.invariant turn.loop-test.true
-    c.before.atom-of2.ensures c.before.before.role-of.ensures c.one-if.ensures.0
+    let turn = c in
+    decoding-next turn.requires turn.loop-i.invariant turn.loop-i-test.true
+    c.atom_of.ensures c.role_of-role.ensures c.one_if-consumes.ensures.0
 
 returns : tie.Need-returns Inv μ
 returns c =
-    decoding-done c.before.before.before.before.before.requires c.before.loop.invariant c.loop-test.false c.before.before.rule-class.ensures
+    decoding-done c.requires c.loop-i.invariant c.loop-i-test.false c.rule_class.ensures
 
-pub rule-of-spec : {M : Type 1} → statement M
-rule-of-spec =
+pub rule_of_spec : {M : Type 1} → statement M
+rule_of_spec =
     tie.close
     (tie.spec
     Inv μ (λ c κs. search rules) (λ c κs. search rules) loop-holds (λ c. search rules) (λ c. search rules)

@@ -6,43 +6,43 @@ use Rattle.rules.proofs.Emitting.{Trying, trying_start, trying-within, trying-he
 use Rattle.rules.proofs.emits.begins_emit.Statement.{statement}
 use Rattle.rules.proofs.emits.begins_emit.Tie as tie
 
-abbrev Inv : tie.invariant-loop
+abbrev Inv : tie.invariant-loop-r
 Inv table starts rules words r₀ r = Trying table starts rules words r
 
-abbrev μ : tie.decreases-loop
+abbrev μ : tie.decreases-loop-r
 μ table starts rules words r₀ r = rules - r
 
-sizes-of-requires : tie.Need-sizes-of-requires Inv μ
-sizes-of-requires c κs = (well-formed _ c.before.requires.0).sizes.long
+sizes-of-requires : tie.Need-sizes_of-z-requires Inv μ
+sizes-of-requires c κs = (well-formed _ c.requires.0).sizes.long
 
-atom-words-of-requires : tie.Need-atom-words-of-requires Inv μ
-atom-words-of-requires c κs = (well-formed _ c.before.before.before.requires.0).sizes
+atom-words-of-requires : tie.Need-atom_words_of-words-requires Inv μ
+atom-words-of-requires c κs = (well-formed _ c.requires.0).sizes
 
-loop-holds : tie.Need-loop-init Inv μ
+loop-holds : tie.Need-loop-r-init Inv μ
 loop-holds c =
-    let p = c.before.before.before.before.requires in
-    trying_start _ _ p.0 p.1 c.before.before.sizes-of.ensures c.atom-words-of.ensures
+    let p = c.requires in
+    trying_start _ _ p.0 p.1 c.sizes_of-z.ensures c.atom_words_of-words.ensures
 
-rule-words-requires : tie.Need-rule-words-requires Inv μ
-rule-words-requires c κs = trying-within c.before.loop.invariant c.loop-test.true
+rule-words-requires : tie.Need-rule_words-requires Inv μ
+rule-words-requires c κs = trying-within c.loop-r.invariant c.loop-r-test.true
 
-returns : tie.Need-returns Inv μ
+returns : tie.Need-returns-then-rule_begins_emits Inv μ
 returns c =
-    let l = c.before.before.before.before.loop in
-    trying-here l.invariant c.before.before.before.loop-test.true c.before.before.rule-words.ensures
-    c.before.rule-begins-emits.ensures c.if1.true
+    let l = c.loop-r in
+    trying-here l.invariant c.loop-r-test.true c.rule_words.ensures
+    c.rule_begins_emits.ensures c.if-rule_begins_emits.true
 
-loop-again : tie.Need-loop-preserved Inv μ
+loop-again : tie.Need-loop-r-preserved Inv μ
 loop-again c =
-    let l = c.before.before.before.before.loop in
-    trying-next l.invariant c.before.before.before.loop-test.true c.before.before.rule-words.ensures
-    c.before.rule-begins-emits.ensures c.if1.false
+    let l = c.loop-r in
+    trying-next l.invariant c.loop-r-test.true c.rule_words.ensures
+    c.rule_begins_emits.ensures c.if-rule_begins_emits.false
 
-returns-2 : tie.Need-returns-2 Inv μ
-returns-2 c = trying-done c.before.loop.invariant c.loop-test.false
+returns-2 : tie.Need-returns Inv μ
+returns-2 c = trying-done c.loop-r.invariant c.loop-r-test.false
 
-pub begins-emit-spec : {M : Type 1} → statement M
-begins-emit-spec =
+pub begins_emit_spec : {M : Type 1} → statement M
+begins_emit_spec =
     tie.close
     (tie.spec
     Inv
