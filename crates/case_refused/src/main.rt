@@ -2,6 +2,8 @@
 // fault in a table but its sizes is 2.
 #![tactic(auto)]
 
-fn main() {
-    report::run();
+use std::io;
+
+fn main(rt: HostRuntime) -> io::Result<()> {
+    report::run(&rt)
 }

@@ -1,6 +1,8 @@
 // The program of document 01. stdin is case (a) of the two-lot plant, stdout 01's seven lines for it.
 #![tactic(auto)]
 
-fn main() {
-    report::run();
+use std::io;
+
+fn main(rt: HostRuntime) -> io::Result<()> {
+    report::run(&rt)
 }

@@ -43,7 +43,7 @@ fn of_parts<'a>(
 ) -> Figures
     requires { Prepared table.now starts.now log.now × Loadable state.now }
     ensures { (result.verdict ≡ Allowed) × (4 * result.count ≤ length result.lines)
-        × Shows (record { table = table.entry.now; state = state.now; log = log.now }) result }
+        × Shows (record { table = table.now; state = state.now; log = log.now }) result }
 {
     let s = State::empty();
     let mut owners = s.owners;

@@ -1,49 +1,29 @@
 // The program's lines on standard output. Every line ends in a newline.
 ghost use Rattle.std.specs.Prelude.{◌*◌, ◌≤◌, length};
 
-use libc::STDOUT_FILENO;
+use std::io;
 
-fn print_word(word: u32) {
-    io::print_decimal(STDOUT_FILENO, word as u64);
+pub fn print_refused(rt: &impl Print, number: u32) -> io::Result<()> {
+    println!(rt; "refused {number}")
 }
 
-fn print_spaced(word: u32) {
-    io::write_all(STDOUT_FILENO, b" ");
-    print_word(word);
+pub fn print_first(rt: &impl Print, moves: u32, entries: u32, next: u32) -> io::Result<()> {
+    println!(rt; "moves {moves} entries {entries} next {next}")
 }
 
-pub fn print_refused(number: u32) {
-    io::write_all(STDOUT_FILENO, b"refused");
-    print_spaced(number);
-    io::write_all(STDOUT_FILENO, b"\n");
-}
-
-pub fn print_first(moves: u32, entries: u32, next: u32) {
-    io::write_all(STDOUT_FILENO, b"moves");
-    print_spaced(moves);
-    io::write_all(STDOUT_FILENO, b" entries");
-    print_spaced(entries);
-    io::write_all(STDOUT_FILENO, b" next");
-    print_spaced(next);
-    io::write_all(STDOUT_FILENO, b"\n");
-}
-
-fn print_line(place: u32, answer: u32, entries: u32, next: u32) {
-    print_word(place);
-    print_spaced(answer);
-    print_spaced(entries);
-    print_spaced(next);
-    io::write_all(STDOUT_FILENO, b"\n");
+fn print_line(rt: &impl Print, place: u32, answer: u32, entries: u32, next: u32) -> io::Result<()> {
+    println!(rt; "{place} {answer} {entries} {next}")
 }
 
 // The first so many lines, of four words each.
-pub fn print_lines(lines: &[u32], count: usize)
+pub fn print_lines(rt: &impl Print, lines: &[u32], count: usize) -> io::Result<()>
     requires { 4 * count ≤ length lines.now }
 {
     let mut i = 0;
     while i < count {
         let at = 4 * i;
-        print_line(lines[at], lines[at + 1], lines[at + 2], lines[at + 3]);
+        print_line(rt, lines[at], lines[at + 1], lines[at + 2], lines[at + 3])?;
         i += 1;
     }
+    Ok(())
 }

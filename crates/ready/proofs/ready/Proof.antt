@@ -5,20 +5,20 @@ use borrow.Author.Rules.{rules}
 use Rattle.ready.proofs.ready.Statement.{statement}
 use Rattle.ready.proofs.ready.Tie as tie
 
-returns : tie.Need-returns
-returns c = table-denied _ _ c.before.before.before.check.ensures c.before.of-table.given.1
+returns : tie.Need-returns-in-Denied
+returns c = table-denied _ _ c.check-of_table.ensures c.in-Denied.is
 
-sizes-of-requires : tie.Need-sizes-of-requires
+sizes-of-requires : tie.Need-sizes_of-requires
 sizes-of-requires c κs =
-    (well-formed _ (sym c.before.before.check.ensures.verdict ∙ c.enum_told.given.1)).sizes.long
+    (well-formed _ (sym c.check-of_table.ensures.verdict ∙ c.in_default.is)).sizes.long
 
-returns-2 : tie.Need-returns-2
+returns-2 : tie.Need-returns
 returns-2 c =
-    state-checked _ _ c.before.before.before.before.check.ensures c.before.before.enum_told.given.1
-    (rw c.before.sizes-of.ensures at c.check2.ensures)
+    state-checked _ _ c.check-of_table.ensures c.in_default.is
+    (rw c.sizes_of.ensures at c.check.ensures)
 
-pub ready-spec : {M : Type 1} → statement M
-ready-spec =
+pub ready_spec : {M : Type 1} → statement M
+ready_spec =
     tie.close
     (tie.spec
     (λ c κs. search rules)

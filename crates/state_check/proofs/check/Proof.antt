@@ -6,28 +6,28 @@ use Rattle.semantics.specs.Answers.{state_own_verdict}
 use Rattle.state_check.proofs.check.Statement.{statement}
 use Rattle.state_check.proofs.check.Tie as tie
 
-returns : tie.Need-returns
+returns : tie.Need-returns-then-not-sizes_ok
 unfolding state_own_verdict
-returns c = rw (sym c.before.sizes-ok.ensures ∙ not-true _ c.if1.true)
+returns c = rw (sym c.sizes_ok.ensures ∙ not-true _ c.if-not-sizes_ok.true-raw)
 
-entries-ok-requires : tie.Need-entries-ok-requires
-entries-ok-requires c κs = sym c.before.sizes-ok.ensures ∙ not-false _ c.if1.false
+entries-ok-requires : tie.Need-entries_ok-requires
+entries-ok-requires c κs = sym c.sizes_ok.ensures ∙ not-false _ c.if-not-sizes_ok.false-raw
 
-returns-2 : tie.Need-returns-2
+returns-2 : tie.Need-returns-then-not-entries_ok
 unfolding state_own_verdict
 returns-2 c =
     rw (
-      sym c.before.before.before.sizes-ok.ensures ∙ not-false _ c.before.before.if1.false,
-      sym c.before.entries-ok.ensures ∙ not-true _ c.if2.true,
+      sym c.sizes_ok.ensures ∙ not-false _ c.if-not-sizes_ok.false-raw,
+      sym c.entries_ok.ensures ∙ not-true _ c.if-not-entries_ok.true-raw,
     )
 
-returns-3 : tie.Need-returns-3
+returns-3 : tie.Need-returns
 unfolding state_own_verdict
 returns-3 c =
     rw (
-      sym c.before.before.before.sizes-ok.ensures ∙ not-false _ c.before.before.if1.false,
-      sym c.before.entries-ok.ensures ∙ not-false _ c.if2.false,
+      sym c.sizes_ok.ensures ∙ not-false _ c.if-not-sizes_ok.false-raw,
+      sym c.entries_ok.ensures ∙ not-false _ c.if-not-entries_ok.false-raw,
     )
 
-pub check-spec : {M : Type 1} → statement M
-check-spec = tie.close (tie.spec (λ c κs. search rules) returns entries-ok-requires returns-2 returns-3)
+pub check_spec : {M : Type 1} → statement M
+check_spec = tie.close (tie.spec (λ c κs. search rules) returns entries-ok-requires returns-2 returns-3)

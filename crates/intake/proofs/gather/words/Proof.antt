@@ -8,41 +8,41 @@ use Rattle.intake.proofs.Wordwise.{FourBytes, four_bytes, gathered_to, gather-ne
 use Rattle.intake.proofs.gather.words.Statement.{statement}
 use Rattle.intake.proofs.gather.words.Tie as tie
 
-abbrev invariant-loop : tie.invariant-loop
+abbrev invariant-loop : tie.invariant-loop-i
 invariant-loop bytes target₀ n i₀ target i = (i ≤ n) × (length target ≡ length target₀) × (target ≡ gathered_to bytes target₀ i)
 
-abbrev decreases-loop : tie.decreases-loop
+abbrev decreases-loop : tie.decreases-loop-i
 decreases-loop bytes target₀ n i₀ target i = n - i
 
-loop-holds : tie.Need-loop-init invariant-loop decreases-loop
+loop-holds : tie.Need-loop-i-init invariant-loop decreases-loop
 loop-holds c = (omega arith, refl, refl)
 
 returns : tie.Need-returns invariant-loop decreases-loop
 returns c =
-    let l = c.before.loop in
-    let n = c.before.before.least in
+    let l = c.loop-i in
+    let n = c.least-n in
     let all : l.i ≡ n.result = omega arith in
     gather-end _ _ n.ensures.0 (rw all at l.invariant.2) l.invariant.1
 
 -- from where a turn's four bytes are read back to its start, and from there to the function's
-abbrev turn : tie.After-shared-slice-known5 invariant-loop decreases-loop → tie.At-loop invariant-loop decreases-loop
+abbrev turn : tie.After-shared_slice_known-in-loop-i-4-1 invariant-loop decreases-loop → tie.At-loop-i invariant-loop decreases-loop
 turn c = c.before.before.before.before.before
 
-abbrev start : tie.At-loop invariant-loop decreases-loop → tie.Start invariant-loop decreases-loop
+abbrev start : tie.At-loop-i invariant-loop decreases-loop → tie.Start invariant-loop decreases-loop
 start c = c.before.before.before.before
 
-loop-again : tie.Need-loop-preserved invariant-loop decreases-loop
+loop-again : tie.Need-loop-i-preserved invariant-loop decreases-loop
 loop-again c =
-    let l = (turn c).loop in
+    let l = (turn c).loop-i in
     let a = (start (turn c)).args in
     let next = gather-next a.bytes.now a.target.now l.i (omega arith) (omega arith) in
-    (search rules, simp length-set l.inv.1, rw l.inv.2 next)
+    (search rules, simp length-set l.invariant.1, rw l.invariant.2 next)
 
-four : (c : tie.After-shared-slice-known5 invariant-loop decreases-loop) → FourBytes (start (turn c)).args.bytes.now (4 * (turn c).loop.i)
-four c = four_bytes _ _ c.shared-slice-known5.given
+four : (c : tie.After-shared_slice_known-in-loop-i-4-1 invariant-loop decreases-loop) → FourBytes (start (turn c)).args.bytes.now (4 * (turn c).loop-i.i)
+four c = four_bytes _ _ c.shared_slice_known-in-loop-i-4-1.given
 
-pub words-spec : {M : Type 1} → statement M
-words-spec =
+pub words_spec : {M : Type 1} → statement M
+words_spec =
     tie.close
     (tie.spec
     invariant-loop
@@ -51,16 +51,16 @@ words-spec =
     loop-holds
     (λ c. search rules)
     (λ c. search rules)
-    (λ c. Fits-under _ _ 256 (c.shared-slice-known2.given _).fits tt)
+    (λ c. Fits-under _ _ 256 (c.shared_slice_known-in-loop-i-1.given _).fits tt)
     (λ c. search rules)
     (λ c. search rules)
-    (λ c. Fits-under _ _ 256 (c.shared-slice-known3.given _).fits tt)
+    (λ c. Fits-under _ _ 256 (c.shared_slice_known-in-loop-i-2-1.given _).fits tt)
     (λ c. search rules)
     (λ c. search rules)
-    (λ c. Fits-under _ _ 256 (c.shared-slice-known4.given _).fits tt)
+    (λ c. Fits-under _ _ 256 (c.shared_slice_known-in-loop-i-3-1.given _).fits tt)
     (λ c. search rules)
     (λ c. search rules)
-    (λ c. Fits-under _ _ 256 (c.shared-slice-known5.given _).fits tt)
+    (λ c. Fits-under _ _ 256 (c.shared_slice_known-in-loop-i-4-1.given _).fits tt)
     (λ c. omega (arith, four c))
     (λ c. omega (arith, four c))
     (λ c. omega (arith, four c))

@@ -6,15 +6,15 @@ use Rattle.intake.proofs.parts.cuts_of.Tie as tie
 
 returns : tie.Need-returns
 returns c =
-    let b = c.before.before in
-    let a = b.before.before in
+    let b = c in
+    let a = b in
     cut_at _
-    (rw a.before.size-at.ensures.0 at a.least.ensures.0)
-    (rw b.before.size-at2.ensures.0 at b.least2.ensures.0)
-    (rw c.before.size-at3.ensures.0 at c.least3.ensures.0)
+    (rw a.size_at.ensures.0 at a.least-state_at.ensures.0)
+    (rw b.size_at-2.ensures.0 at b.least-log_at.ensures.0)
+    (rw c.size_at-3.ensures.0 at c.least-end.ensures.0)
 
-pub cuts-of-spec : {M : Type 1} → statement M
-cuts-of-spec =
+pub cuts_of_spec : {M : Type 1} → statement M
+cuts_of_spec =
     tie.close
     (tie.spec
     (λ c κs. search rules)

@@ -6,15 +6,15 @@ use borrow.Author.Rules.{rules}
 use Rattle.intake.proofs.parts.size_at.Statement.{statement}
 use Rattle.intake.proofs.parts.size_at.Tie as tie
 
-cast-result : tie.Need-overflow-cast-result
-cast-result c = omega (arith, c.shared-slice-known.given c.before.before.args.at)
+cast-result : tie.Need-overflow_cast-result
+cast-result c = omega (arith, c.shared_slice_known-1.given c.args.at)
 
-returns : tie.Need-returns
-returns c = (refl, omega (arith, c.shared-slice-known.given c.before.before.args.at))
+returns : tie.Need-returns-then-at-words
+returns c = (refl, omega (arith, c.shared_slice_known-1.given c.args.at))
 
-returns-2 : tie.Need-returns-2
-returns-2 c = (sym (get_or-eq_default c.before.args.words.now 0 c.if1.false), omega arith)
+returns-2 : tie.Need-returns-else-at-words
+returns-2 c = (sym (get_or-eq_default c.args.words.now 0 c.if-at-words.false), omega arith)
 
-pub size-at-spec : {M : Type 1} → statement M
-size-at-spec =
+pub size_at_spec : {M : Type 1} → statement M
+size_at_spec =
     tie.close (tie.spec (λ c. search rules) (λ c. search rules) cast-result returns returns-2)

@@ -6,11 +6,11 @@ use Rattle.intake.proofs.parts.split.Tie as tie
 
 returns : tie.Need-returns
 returns c =
-    let k = c.before.before in
-    split-as _ _ _ k.before.before.before.before.cuts-of.ensures k.ready.ensures c.verdict-of.ensures
+    let k = c in
+    split-as _ _ _ k.cuts_of-cuts.ensures k.ready-first.ensures c.verdict_of-verdict.ensures
 
-pub split-spec : {M : Type 1} → statement M
-split-spec =
+pub split_spec : {M : Type 1} → statement M
+split_spec =
     tie.close
     (tie.spec
     (λ c κs. search rules)

@@ -5,34 +5,34 @@ use borrow.Author.Rules.{rules}
 use Rattle.intake.proofs.parts.verdict_of.Statement.{statement}
 use Rattle.intake.proofs.parts.verdict_of.Tie as tie
 
-returns : tie.Need-returns
-returns c = rw c.before.first.given.1
+returns : tie.Need-returns-in-Denied
+returns c = rw c.in-Denied.is
 
-returns-2 : tie.Need-returns-2
-returns-2 c = rw (c.before.before.enum_told.given.1, sym c.before.sizes-ok.ensures ∙ not-true _ c.if1.true)
+returns-2 : tie.Need-returns-then-not-sizes_ok
+returns-2 c = rw (c.in_default.is, sym c.sizes_ok.ensures ∙ not-true _ c.if-not-sizes_ok.true-raw)
 
-returns-3 : tie.Need-returns-3
+returns-3 : tie.Need-returns-then-not-whole
 returns-3 c =
-    let sized = c.before in
-    let told = sized.before.before in
+    let sized = c in
+    let told = sized in
     rw (
-      told.enum_told.given.1,
-      sym sized.before.sizes-ok.ensures ∙ not-false _ sized.if1.false,
-      not-true told.before.before.before.args.whole c.if2.true,
+      told.in_default.is,
+      sym sized.sizes_ok.ensures ∙ not-false _ sized.if-not-sizes_ok.false-raw,
+      not-true told.args.whole c.if-not-whole.true-raw,
     )
 
-returns-4 : tie.Need-returns-4
+returns-4 : tie.Need-returns
 returns-4 c =
-    let sized = c.before in
-    let told = sized.before.before in
+    let sized = c in
+    let told = sized in
     rw (
-      told.enum_told.given.1,
-      sym sized.before.sizes-ok.ensures ∙ not-false _ sized.if1.false,
-      not-false told.before.before.before.args.whole c.if2.false,
+      told.in_default.is,
+      sym sized.sizes_ok.ensures ∙ not-false _ sized.if-not-sizes_ok.false-raw,
+      not-false told.args.whole c.if-not-whole.false-raw,
     )
 
-pub verdict-of-spec : {M : Type 1} → statement M
-verdict-of-spec =
+pub verdict_of_spec : {M : Type 1} → statement M
+verdict_of_spec =
     tie.close
     (tie.spec
     (λ c. search rules)

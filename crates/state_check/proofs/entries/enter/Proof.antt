@@ -6,21 +6,21 @@ use Rattle.state_check.proofs.Marks.{enter-message, enter-mark, enter-other}
 use Rattle.state_check.proofs.entries.enter.Statement.{statement}
 use Rattle.state_check.proofs.entries.enter.Tie as tie
 
-returns : tie.Need-returns
-returns c = λ place. enter-message _ _ _ (sym (c.before.message-fits.ensures place) ∙ c.if1.true) c.before.before.requires.0 c.before.before.requires.1
+returns : tie.Need-returns-then-message_fits
+returns c = λ place. enter-message _ _ _ (sym (c.message_fits.ensures place) ∙ c.if-message_fits.true) c.requires.0 c.requires.1
 
-returns-2 : tie.Need-returns-2
+returns-2 : tie.Need-returns-then-kind_of-eq-MEMBER_MARK
 returns-2 c =
-    let kind = c.before.before.before.before in
-    λ place. enter-mark _ _ _ (sym (kind.before.before.message-fits.ensures place) ∙ kind.before.if1.false)
-    (eq-eqb _ 3 (sym kind.kind-of.ensures ∙ c.before.before.before.if2.true)) (c.enter-mark.ensures place)
+    let kind = c in
+    λ place. enter-mark _ _ _ (sym (kind.message_fits.ensures place) ∙ kind.if-message_fits.false)
+    (eq-eqb _ 3 (sym kind.kind_of.ensures ∙ c.if-kind_of-eq-MEMBER_MARK.true)) (c.enter_mark.ensures place)
 
-returns-3 : tie.Need-returns-3
+returns-3 : tie.Need-returns
 returns-3 c =
-    let kind = c.before.before in
-    let start = kind.before.before.before.requires in
-    λ place. enter-other _ _ _ (sym (kind.before.before.message-fits.ensures place) ∙ kind.before.if1.false)
-    (ne_eqb _ 3 (λ q. c.before.if2.false (kind.kind-of.ensures ∙ q))) (c.other-fits.ensures place) start.0 start.1
+    let kind = c in
+    let start = kind.requires in
+    λ place. enter-other _ _ _ (sym (kind.message_fits.ensures place) ∙ kind.if-message_fits.false)
+    (ne_eqb _ 3 (λ q. c.if-kind_of-eq-MEMBER_MARK.false (kind.kind_of.ensures ∙ q))) (c.other_fits.ensures place) start.0 start.1
 
 pub enter_spec : {M : Type 1} → statement M
 enter_spec =

@@ -7,38 +7,38 @@ use Rattle.state_check.proofs.Marks.{entering, unfit, not_new, entered-mark, ent
 use Rattle.state_check.proofs.entries.enter_mark.Statement.{statement}
 use Rattle.state_check.proofs.entries.enter_mark.Tie as tie
 
-returns : tie.Need-returns
-returns c = λ place. unfit (sym (c.before.mark-fits.ensures place) ∙ not-true _ c.if1.true)
+returns : tie.Need-returns-then-not-mark_fits
+returns c = λ place. unfit (sym (c.mark_fits.ensures place) ∙ not-true _ c.if-not-mark_fits.true-raw)
 
-returns-2 : tie.Need-returns-2
+returns-2 : tie.Need-returns-then-has
 returns-2 c =
-    let value = c.before.before.before.value-of.ensures in
-    let mark = eq-eqb _ 3 c.before.before.before.before.before.before.requires.0 in
-    λ place. not_new (new-mark _ _ mark ∙ ap not (rw value at (sym c.before.has.ensures ∙ c.if2.true)))
+    let value = c.value_of-value.ensures in
+    let mark = eq-eqb _ 3 c.requires.0 in
+    λ place. not_new (new-mark _ _ mark ∙ ap not (rw value at (sym c.has.ensures ∙ c.if-has.true)))
 
-returns-3 : tie.Need-returns-3
+returns-3 : tie.Need-returns-then-value-owner
 returns-3 c =
-    let start = c.before.before.before.before.before.before in
-    let fits = start.before in
-    let value = start.value-of.ensures in
-    let mark = eq-eqb _ 3 fits.before.before.requires.0 in
-    λ place. entering (sym (fits.before.mark-fits.ensures place) ∙ not-false _ fits.if1.false)
-    (new-mark _ _ mark ∙ ap not (rw value at (sym c.before.before.before.before.has.ensures ∙ c.before.before.before.if2.false)))
-    (entered-mark mark (rw value at c.before.insert.ensures) (rw value at c.if3.true) fits.before.before.requires.2)
+    let start = c in
+    let fits = start in
+    let value = start.value_of-value.ensures in
+    let mark = eq-eqb _ 3 fits.requires.0 in
+    λ place. entering (sym (fits.mark_fits.ensures place) ∙ not-false _ fits.if-not-mark_fits.false-raw)
+    (new-mark _ _ mark ∙ ap not (rw value at (sym c.has.ensures ∙ c.if-has.false)))
+    (entered-mark mark (rw value at c.insert.ensures) (rw value at c.if-value-owner.true) fits.requires.2)
 
-returns-4 : tie.Need-returns-4
+returns-4 : tie.Need-returns
 returns-4 c =
-    let first = c.before.before.before in
-    let start = first.before.before.before.before.before in
-    let fits = start.before in
-    let value = start.value-of.ensures in
-    let mark = eq-eqb _ 3 fits.before.before.requires.0 in
-    λ place. entering (sym (fits.before.mark-fits.ensures place) ∙ not-false _ fits.if1.false)
-    (new-mark _ _ mark ∙ ap not (rw value at (sym first.before.before.before.has.ensures ∙ first.before.before.if2.false)))
-    (entered-own mark (rw value at first.insert.ensures) (rw value at c.before.before.if3.false) (rw value at c.insert2.ensures))
+    let first = c in
+    let start = first in
+    let fits = start in
+    let value = start.value_of-value.ensures in
+    let mark = eq-eqb _ 3 fits.requires.0 in
+    λ place. entering (sym (fits.mark_fits.ensures place) ∙ not-false _ fits.if-not-mark_fits.false-raw)
+    (new-mark _ _ mark ∙ ap not (rw value at (sym first.has.ensures ∙ first.if-has.false)))
+    (entered-own mark (rw value at first.insert.ensures) (rw value at c.if-value-owner.false) (rw value at c.insert-2.ensures))
 
-pub enter-mark-spec : {M : Type 1} → statement M
-enter-mark-spec =
+pub enter_mark_spec : {M : Type 1} → statement M
+enter_mark_spec =
     tie.close
     (tie.spec (λ c κs. search rules) returns (λ c κs. search rules) (λ c κs. search rules) returns-2
     (λ c κs. search rules) returns-3 (λ c κs. search rules) returns-4)

@@ -6,26 +6,26 @@ use Rattle.state_check.proofs.Marks.{none-own, first-fails, second-decides}
 use Rattle.state_check.proofs.entries.entries_ok.Statement.{statement}
 use Rattle.state_check.proofs.entries.entries_ok.Tie as tie
 
-enter-all-requires : tie.Need-enter-all-requires
-enter-all-requires c κs = (search rules, none-own c.before.before.insert.ensures)
+enter-all-requires : tie.Need-enter_all-requires
+enter-all-requires c κs = (search rules, none-own c.insert.ensures)
 
-returns : tie.Need-returns
+returns : tie.Need-returns-then-not-enter_all
 returns c =
-    let columns = c.before.before.before.before.before.before in
-    first-fails columns.before.owners_of.ensures columns.items_of.ensures c.before.enter-all.ensures (not-true _ c.if1.true)
+    let columns = c in
+    first-fails columns.owners_of-owners.ensures columns.items_of-items.ensures c.enter_all.ensures (not-true _ c.if-not-enter_all.true-raw)
 
-owners-in-requires : tie.Need-owners-in-requires
-owners-in-requires c κs = (c.before.before.enter-all.ensures.set (not-false _ c.before.if1.false)).size
+owners-in-requires : tie.Need-owners_in-requires
+owners-in-requires c κs = (c.enter_all.ensures.set (not-false _ c.if-not-enter_all.false-raw)).size
 
-returns-2 : tie.Need-returns-2
+returns-2 : tie.Need-returns
 returns-2 c =
-    let first = c.before.before.before in
-    let columns = first.before.before.before.before.before in
-    c.owners-in.ensures
-    ∙ second-decides columns.before.owners_of.ensures columns.items_of.ensures first.enter-all.ensures (not-false _ c.before.before.if1.false)
+    let first = c in
+    let columns = first in
+    c.owners_in.ensures
+    ∙ second-decides columns.owners_of-owners.ensures columns.items_of-items.ensures first.enter_all.ensures (not-false _ c.if-not-enter_all.false-raw)
 
-pub entries-ok-spec : {M : Type 1} → statement M
-entries-ok-spec =
+pub entries_ok_spec : {M : Type 1} → statement M
+entries_ok_spec =
     tie.close
     (tie.spec (λ c κs. search rules) (λ c κs. search rules) (λ c κs. search rules) (λ c. search rules)
     enter-all-requires returns owners-in-requires returns-2)

@@ -6,7 +6,7 @@ use Rattle.state_check.proofs.entries.mark_fits.Tie as tie
 
 returns : tie.Need-returns
 unfolding mark_fits
-returns c = λ place. rw (c.value-of.ensures, c.before.port-of.ensures)
+returns c = λ place. rw (c.value_of-value.ensures, c.port_of-port.ensures)
 
-pub mark-fits-spec : {M : Type 1} → statement M
-mark-fits-spec = tie.close (tie.spec (λ c κs. search rules) (λ c κs. search rules) returns)
+pub mark_fits_spec : {M : Type 1} → statement M
+mark_fits_spec = tie.close (tie.spec (λ c κs. search rules) (λ c κs. search rules) returns)

@@ -5,16 +5,16 @@ use Rattle.state_check.specs.Check.{message_fits}
 use Rattle.state_check.proofs.entries.message_fits.Statement.{statement}
 use Rattle.state_check.proofs.entries.message_fits.Tie as tie
 
-returns : tie.Need-returns
+returns : tie.Need-returns-then-owner-eq0
 unfolding message_fits
-returns c = λ place. rw (eq-eqb _ 0 c.before.before.if1.true) (c.messages-end.ensures _)
+returns c = λ place. rw (eq-eqb _ 0 c.if-owner-eq0.true) (c.messages_end.ensures _)
 
-returns-2 : tie.Need-returns-2
+returns-2 : tie.Need-returns
 unfolding message_fits
-returns-2 c = λ place. rw (ne_eqb _ 0 c.before.before.before.before.if1.false) (c.messages-end2.ensures _)
+returns-2 c = λ place. rw (ne_eqb _ 0 c.if-owner-eq0.false) (c.messages_end-2.ensures _)
 
-pub message-fits-spec : {M : Type 1} → statement M
-message-fits-spec =
+pub message_fits_spec : {M : Type 1} → statement M
+message_fits_spec =
     tie.close
     (tie.spec (λ c. search rules) (λ c κs. search rules) returns (λ c. search rules) (λ c. search rules)
     (λ c. search rules) (λ c. search rules) (λ c. search rules) (λ c κs. search rules) returns-2)

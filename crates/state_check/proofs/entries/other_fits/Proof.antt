@@ -6,7 +6,7 @@ use Rattle.state_check.proofs.entries.other_fits.Tie as tie
 
 returns : tie.Need-returns
 unfolding other_fits
-returns c = λ place. rw (c.before.value-of.ensures, c.before.before.port-of.ensures, c.before.before.before.kind-of.ensures)
+returns c = λ place. rw (c.value_of-value.ensures, c.port_of-port.ensures, c.kind_of-kind.ensures)
 
-pub other-fits-spec : {M : Type 1} → statement M
-other-fits-spec = tie.close (tie.spec (λ c κs. search rules) (λ c κs. search rules) (λ c κs. search rules) returns)
+pub other_fits_spec : {M : Type 1} → statement M
+other_fits_spec = tie.close (tie.spec (λ c κs. search rules) (λ c κs. search rules) (λ c κs. search rules) returns)

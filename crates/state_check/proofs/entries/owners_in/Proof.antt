@@ -10,30 +10,30 @@ use Rattle.idset.specs.IdSet.{has}
 use Rattle.state_check.proofs.entries.owners_in.Statement.{statement}
 use Rattle.state_check.proofs.entries.owners_in.Tie as tie
 
-abbrev Inv : tie.invariant-loop
+abbrev Inv : tie.invariant-loop-i
 Inv own owners i₀ i = (length own ≡ 1024) × Ahead (λ k. drop k owners) (length owners) (all (has own)) i (all (has own) owners)
 
-abbrev μ : tie.decreases-loop
+abbrev μ : tie.decreases-loop-i
 μ own owners i₀ i = length owners - i
 
-loop-holds : tie.Need-loop-init Inv μ
-loop-holds c = (c.before.requires, ahead-start _ _ _)
+loop-holds : tie.Need-loop-i-init Inv μ
+loop-holds c = (c.requires, ahead-start _ _ _)
 
-returns : tie.Need-returns Inv μ
+returns : tie.Need-returns-then-not-owner_in Inv μ
 returns c =
-    each-fails (slice-tails 0 _) c.before.before.before.before.loop.invariant.1 c.before.before.before.loop-test.true
-    (sym c.before.owner-in.ensures ∙ not-true _ c.if1.true)
+    each-fails (has _) (slice-tails 0 _) c.loop-i.invariant.1 c.loop-i-test.true
+    (sym c.owner_in.ensures ∙ not-true _ c.if-not-owner_in.true-raw)
 
-loop-again : tie.Need-loop-preserved Inv μ
+loop-again : tie.Need-loop-i-preserved Inv μ
 loop-again c =
-    let v = c.before.before.before.before.loop.invariant in
-    (v.0, each_next (slice-tails 0 _) v.1 c.before.before.before.loop-test.true (sym c.before.owner-in.ensures ∙ not-false _ c.if1.false))
+    let v = c.loop-i.invariant in
+    (v.0, each_next (has _) (slice-tails 0 _) v.1 c.loop-i-test.true (sym c.owner_in.ensures ∙ not-false _ c.if-not-owner_in.false-raw))
 
-returns-2 : tie.Need-returns-2 Inv μ
-returns-2 c = ahead-done (slice-tails 0 _) c.before.loop.invariant.1 c.loop-test.false
+returns-2 : tie.Need-returns Inv μ
+returns-2 c = ahead-done (slice-tails 0 _) c.loop-i.invariant.1 c.loop-i-test.false
 
-pub owners-in-spec : {M : Type 1} → statement M
-owners-in-spec =
+pub owners_in_spec : {M : Type 1} → statement M
+owners_in_spec =
     tie.close
     (tie.spec Inv μ loop-holds (λ c. search rules) (λ c. search rules) (λ c κs. search rules) returns
     (λ c. search rules) (λ c. search rules) loop-again returns-2)
