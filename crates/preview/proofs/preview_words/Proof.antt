@@ -9,34 +9,34 @@ use Rattle.preview.proofs.Deciding.{preview-loaded}
 use Rattle.preview.proofs.preview_words.Statement.{statement}
 use Rattle.preview.proofs.preview_words.Tie as tie
 
-returns : tie.Need-returns
-returns c = preview-malformed _ _ _ _ (sym c.before.form-ok.ensures ∙ not-true _ c.if1.true)
+returns : tie.Need-returns-then-not-form_ok
+returns c = preview-malformed _ _ _ _ (sym c.form_ok.ensures ∙ not-true _ c.if-not-form_ok.true-raw)
 
-load-requires : tie.Need-load-requires
+load-requires : tie.Need-load-at-requires
 load-requires c κs =
-    let p = c.before.before.before.before.before.before.before.before.before.before.before.requires in
+    let p = c.requires in
     (loadable _ _ p.accepted, search rules)
 
-preview-formed-requires : tie.Need-preview-formed-requires
+preview-formed-requires : tie.Need-preview_formed-requires
 preview-formed-requires c κs =
-    let loaded = c.before.before.load.ensures in
-    let formed = c.before.before.before.before.before.before.before.before.before.before in
-    let p = formed.before.before.before.before.requires in (
+    let loaded = c.load-at.ensures in
+    let formed = c in
+    let p = formed.requires in (
       p.starts,
       record {
         table = ready-table p;
         columns = record { owners = loaded.arrays.owners; items = loaded.arrays.items; fits = loaded.holds.fits };
         fits = loaded.holds.fits;
-        form = sym formed.before.form-ok.ensures ∙ not-false _ formed.if1.false;
+        form = sym formed.form_ok.ensures ∙ not-false _ formed.if-not-form_ok.false-raw;
       },
     )
 
-returns-2 : tie.Need-returns-2
-returns-2 c = preview-loaded _ _ _ c.before.before.before.load.ensures c.preview-formed.ensures
+returns-2 : tie.Need-returns
+returns-2 c = preview-loaded _ _ _ c.load-at.ensures c.preview_formed.ensures
 
-pub preview-words-spec : {M : Type 1} → statement M
-preview-words-spec =
+pub preview_words_spec : {M : Type 1} → statement M
+preview_words_spec =
     tie.close
     (tie.spec
-    (λ c κs. let p = c.before.before.requires in record { table = ready-table p; starts = p.starts })
+    (λ c κs. let p = c.requires in record { table = ready-table p; starts = p.starts })
     returns (λ c κs. search rules) load-requires preview-formed-requires returns-2)

@@ -15,48 +15,48 @@ use Rattle.preview.proofs.Counting.{entries_from, entries-done}
 use Rattle.preview.proofs.ends.counts_after.Statement.{statement}
 use Rattle.preview.proofs.ends.counts_after.Tie as tie
 
-abbrev Inv : tie.invariant-loop
+abbrev Inv : tie.invariant-loop-i
 Inv owners items from id kind n entries₀ members₀ i₀ entries members i = (gs : List ℕ)
     → CountedTo (stays (λ e. eqb e.kind kind) id) (row_of owners items gs) n i entries
     (count_if (stays (λ e. eqb e.kind kind) id) (rows (row_of owners items gs) 0 n))
     × CountedTo (member_of id) (row_of owners items gs) n i members (count_if (member_of id) (rows (row_of owners items gs) 0 n))
 
-abbrev μ : tie.decreases-loop
+abbrev μ : tie.decreases-loop-i
 μ owners items from id kind n entries₀ members₀ i₀ entries members i = n - i
 
-loop-holds : tie.Need-loop-init Inv μ
+loop-holds : tie.Need-loop-i-init Inv μ
 loop-holds c gs =
     let none = c.requires.1 in
     (entries_from _ _ _ _ _ none.within none.none, members-from _ _ _ _ none.within none.none)
 
-loop-again : tie.Need-loop-preserved Inv μ
+loop-again : tie.Need-loop-i-preserved Inv μ
 loop-again c gs =
-    let turn = c.before.before.before.before in
-    let v = turn.before.loop.invariant gs in (
-      counted-turn _ v.0 turn.loop-test.true c.before.stays.ensures.0 c.before.stays.ensures.1 _ (λ k l. refl),
-      counted-turn _ v.1 turn.loop-test.true c.member_of.ensures.0 c.member_of.ensures.1 _ (λ k l. refl),
+    let turn = c in
+    let v = turn.loop-i.invariant gs in (
+      counted-turn _ v.0 turn.loop-i-test.true c.stays-entries.ensures.0 c.stays-entries.ensures.1 _ (λ k l. refl),
+      counted-turn _ v.1 turn.loop-i-test.true c.member_of-members.ensures.0 c.member_of-members.ensures.1 _ (λ k l. refl),
     )
 
-add-entries : tie.Need-overflow-add-entries Inv μ
+add-entries : tie.Need-overflow_add-entries Inv μ
 add-entries c =
-    let turn = c.before.before.before in
-    let s = turn.before.before in
-    omega (arith, (turn.before.loop.invariant []).0.few, c.stays.ensures.1, turn.loop-test.true, s.requires.0.fits)
+    let turn = c in
+    let s = turn in
+    omega (arith, (turn.loop-i.invariant []).0.few, c.stays-entries.ensures.1, turn.loop-i-test.true, s.requires.0.fits)
 
-add-members : tie.Need-overflow-add-members Inv μ
+add-members : tie.Need-overflow_add-members Inv μ
 add-members c =
-    let turn = c.before.before.before.before in
-    let s = turn.before.before in
-    omega (arith, (turn.before.loop.invariant []).1.few, c.member_of.ensures.1, turn.loop-test.true, s.requires.0.fits)
+    let turn = c in
+    let s = turn in
+    omega (arith, (turn.loop-i.invariant []).1.few, c.member_of-members.ensures.1, turn.loop-i-test.true, s.requires.0.fits)
 
 returns : tie.Need-returns Inv μ
 returns c = (
-  λ gs. entries-done _ _ (c.before.loop.invariant gs).0 c.loop-test.false _,
-  λ gs. members-done _ _ (c.before.loop.invariant gs).1 c.loop-test.false 0,
+  λ gs. entries-done _ _ (c.loop-i.invariant gs).0 c.loop-i-test.false _,
+  λ gs. members-done _ _ (c.loop-i.invariant gs).1 c.loop-i-test.false 0,
 )
 
-pub counts-after-spec : {M : Type 1} → statement M
-counts-after-spec =
+pub counts_after_spec : {M : Type 1} → statement M
+counts_after_spec =
     tie.close
     (tie.spec
     Inv μ (λ c. omega (arith, c.requires.1.within, c.requires.0.fits)) loop-holds

@@ -5,10 +5,10 @@ use Rattle.lists.specs.Lists.{one_if}
 use Rattle.preview.proofs.ends.member_of.Statement.{statement}
 use Rattle.preview.proofs.ends.member_of.Tie as tie
 
-pub member-of-spec : {M : Type 1} → statement M
-member-of-spec =
+pub member_of_spec : {M : Type 1} → statement M
+member_of_spec =
     tie.close
     (tie.spec
     (λ c κs. search rules)
-    (λ c. (sym (ap one_if (rw c.before.kind-of.ensures at c.if1.true)), omega arith))
-    (λ c. (sym (ap one_if (rw c.before.kind-of.ensures at c.if1.false)), omega arith)))
+    (λ c. (sym (ap one_if (rw c.kind_of.ensures at c.if-owner-id.true)), omega arith))
+    (λ c. (sym (ap one_if (rw c.kind_of.ensures at c.if-owner-id.false)), omega arith)))

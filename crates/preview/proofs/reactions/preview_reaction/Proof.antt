@@ -13,45 +13,45 @@ use Rattle.preview.proofs.reactions.preview_reaction.Tie as tie
 four : (c : tie.Start) → length c.args.mv.picks ≡ 4
 four c = search rules
 
-abbrev start : tie.After-outline-verdict → tie.Start
+abbrev start : tie.After-outline_verdict-verdict → tie.Start
 start c = c.before.before.before.before.before.before
 
-rule-at-requires : tie.Need-rule-at-requires
+rule-at-requires : tie.Need-rule_at-rule-requires
 rule-at-requires c κs =
-    let s = c.before.before.before in
+    let s = c in
     let m = s.args.mv in
     let f = s.requires.1.0 in
-    (f.table, rw c.number_of_lem.ensures (rule-below _ m.head m.picks s.requires.1.1 f.form), s.requires.0)
+    (f.table, rw c.number_of.ensures (rule-below _ m.head m.picks s.requires.1.1 f.form), s.requires.0)
 
-outline-verdict-requires : tie.Need-outline-verdict-requires
+outline-verdict-requires : tie.Need-outline_verdict-verdict-requires
 outline-verdict-requires c κs =
-    let s = c.before.before.before.before.before in
-    (s.requires.1.0.columns, (rule_in c.before.rule-at.result, c.outline-of.ensures.0), λ j l. absurd (omega arith))
+    let s = c in
+    (s.requires.1.0.columns, (rule_in c.rule_at-rule.result, c.outline_of.ensures.0), λ j l. absurd (omega arith))
 
-asked : (c : tie.After-outline-verdict)
-    → ReactionAsked (table_of (start c).args.table.now) c.before.before.rule-at.result (start c).args.mv.head (start c).args.mv.picks
-    (start c).args.ceiling (start c).args.owners.now (start c).args.items.now (start c).args.at c.outline-verdict.result
+asked : (c : tie.After-outline_verdict-verdict)
+    → ReactionAsked (table_of (start c).args.table.now) c.rule_at-rule.result (start c).args.mv.head (start c).args.mv.picks
+    (start c).args.ceiling (start c).args.owners.now (start c).args.items.now (start c).args.at c.outline_verdict-verdict.result
 asked c = record {
   four = four (start c);
   kind = (start c).requires.1.1;
   form = (start c).requires.1.0.form;
-  rule = rw c.before.before.before.number_of_lem.ensures at c.before.before.rule-at.ensures;
+  rule = rw c.number_of.ensures at c.rule_at-rule.ensures;
   columns = (start c).requires.1.0.columns;
   verdict = λ gs.
-      c.outline-verdict.ensures (rule_in c.before.before.rule-at.result) c.before.outline-of.ensures.0 gs
-      ∙ verdict-taken _ _ _ _ c.before.outline-of.ensures.1;
+      c.outline_verdict-verdict.ensures (rule_in c.rule_at-rule.result) c.outline_of.ensures.0 gs
+      ∙ verdict-taken _ _ _ _ c.outline_of.ensures.1;
 }
 
-pub preview-reaction-spec : {M : Type 1} → statement M
-preview-reaction-spec =
+pub preview_reaction_spec : {M : Type 1} → statement M
+preview_reaction_spec =
     tie.close
     (tie.spec
-    (λ c κs. search rules) rule-at-requires (λ c κs. decodes-itself _ _ c.rule-at.ensures) outline-verdict-requires (λ c. search rules)
-    (λ c. reaction-rejected (asked c.before.before.before) c.before.verdict.given.1)
+    (λ c κs. search rules) rule-at-requires (λ c κs. decodes-itself _ _ c.rule_at-rule.ensures) outline-verdict-requires (λ c. search rules)
+    (λ c. reaction-rejected (asked c.before) c.in-Denied.is)
     (λ c. search rules)
-    (λ c κs. reaction-counted (asked c.before.before) c.enum_told.given.1)
-    (λ c κs. reaction-begins (asked c.before.before.before) c.before.enum_told.given.1)
-    (λ c κs. reaction-picks (asked c.before.before.before.before) c.before.before.enum_told.given.1)
+    (λ c κs. reaction-counted (asked c.before) c.in_default.is)
+    (λ c κs. reaction-begins (asked c.before.before) c.in_default.is)
+    (λ c κs. reaction-picks (asked c.before.before.before) c.in_default.is)
     (λ c.
-    reaction-accepted (asked c.before.before.before.before.before) c.before.before.before.enum_told.given.1
-    c.before.before.entries-after.ensures c.before.next-after.ensures c.concerned.ensures))
+    reaction-accepted (asked c.before.before.before.before) c.in_default.is
+    c.entries_after-entries.ensures c.next_after-next.ensures c.concerned-id.ensures))

@@ -5,8 +5,8 @@ use borrow.Author.Rules.{rules}
 use Rattle.run.proofs.trace.answer_in.Statement.{statement}
 use Rattle.run.proofs.trace.answer_in.Tie as tie
 
-returns-2 : tie.Need-returns-2
-returns-2 c = c.number_of_lem.ensures ∙ sym (ap answer_in c.before.before.verdict.given.1)
+returns-2 : tie.Need-returns-in-Denied
+returns-2 c = c.number_of.ensures ∙ sym (ap answer_in c.in-Denied.is)
 
-pub answer-in-spec : {M : Type 1} → statement M
-answer-in-spec = tie.close (tie.spec (λ c. search rules) (λ c. search rules) (λ c κs. search rules) (λ c. search rules) returns-2)
+pub answer_in_spec : {M : Type 1} → statement M
+answer_in_spec = tie.close (tie.spec (λ c. search rules) (λ c. search rules) (λ c κs. search rules) (λ c. search rules) returns-2)

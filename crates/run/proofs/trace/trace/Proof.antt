@@ -10,66 +10,66 @@ use Rattle.run.specs.Lines.{Traceable, Tracing, tracing-start, tracing-workable,
 use Rattle.run.proofs.trace.trace.Statement.{statement}
 use Rattle.run.proofs.trace.trace.Tie as tie
 
-abbrev Inv : tie.invariant-loop
+abbrev Inv : tie.invariant-loop-i
 Inv table starts owners₀ items₀ origins₀ log lines₀ moves left₀ i₀ owners items origins lines left i =
     Traceable table starts log (held owners₀ items₀ origins₀ left₀) lines₀
     × (moves ≡ move_count log)
     × Tracing (table_of table) log (held owners₀ items₀ origins₀ left₀) lines₀ i (held owners items origins left) lines
 
-abbrev μ : tie.decreases-loop
+abbrev μ : tie.decreases-loop-i
 μ table starts owners₀ items₀ origins₀ log lines₀ moves left₀ i₀ owners items origins lines left i = moves - i
 
-loop-holds : tie.Need-loop-init Inv μ
+loop-holds : tie.Need-loop-i-init Inv μ
 loop-holds c =
-    let p = c.before.before.before.before.requires in
-    (p, c.count_of.ensures.0, tracing-start _ _ _ p.workable)
+    let p = c.requires in
+    (p, c.count_of-moves.ensures.0, tracing-start _ _ _ p.workable)
 
-more : (c : tie.In-loop Inv μ) → c.before.loop.i < move_count c.before.before.before.before.before.before.args.log.now
-more c = omega (arith, c.before.loop.invariant.1, c.loop-test.true)
+more : (c : tie.In-loop-i Inv μ) → c.loop-i.i < move_count c.args.log.now
+more c = omega (arith, c.loop-i.invariant.1, c.loop-i-test.true)
 
-make-at-requires : tie.Need-make-at-requires Inv μ
+make-at-requires : tie.Need-make_at-made-requires Inv μ
 make-at-requires c κs =
-    let turn = c.before.before.before in
-    let v = turn.before.loop.invariant in
-    ((v.0.prepared, more turn), tracing-workable v.2)
+    let turn = c in
+    let v = turn.loop-i.invariant in
+    ((v.0.prepared, more turn.before.before.before), tracing-workable v.2)
 
-put-line-requires : tie.Need-put-line-requires Inv μ
+put-line-requires : tie.Need-put_line-requires Inv μ
 put-line-requires c κs =
-    let turn = c.before.before.before.before.before.before.before in
-    let v = turn.before.loop.invariant in (
-      omega (arith, more turn, v.0.room, v.2.size),
-      omega (arith, more turn, v.0.prepared.log.few),
-      c.before.before.before.make-at.ensures.workable.bounds.fits,
+    let turn = c in
+    let v = turn.loop-i.invariant in (
+      omega (arith, more turn.before.before.before.before.before.before.before, v.0.room, v.2.size),
+      omega (arith, more turn.before.before.before.before.before.before.before, v.0.prepared.log.few),
+      c.make_at-made.ensures.workable.bounds.fits,
     )
 
-returns : tie.Need-returns Inv μ
+returns : tie.Need-returns-in-Denied Inv μ
 returns c =
-    let wrote = c.before.before.before.before in
-    let made = wrote.before.before.before.before in
-    let turn = made.before.before.before.before in
-    let v = turn.before.loop.invariant in
-    tracing-refused v.2 (more turn) v.0.room made.make-at.ensures
-    (rw wrote.before.answer-in.ensures at wrote.put-line.ensures) c.enum_told.given.1
+    let wrote = c in
+    let made = wrote in
+    let turn = made in
+    let v = turn.loop-i.invariant in
+    tracing-refused v.2 (more turn.before.before.before.before.before.before.before.before.before.before.before) v.0.room made.make_at-made.ensures
+    (rw wrote.answer_in.ensures at wrote.put_line.ensures) c.in-Denied.is
 
-loop-again : tie.Need-loop-preserved Inv μ
+loop-again : tie.Need-loop-i-preserved Inv μ
 loop-again c =
-    let wrote = c.before.before.before.before in
-    let made = wrote.before.before.before.before in
-    let turn = made.before.before.before.before in
-    let v = turn.before.loop.invariant in (
+    let wrote = c in
+    let made = wrote in
+    let turn = made in
+    let v = turn.loop-i.invariant in (
       v.0,
       v.1,
-      tracing-made v.2 (more turn) v.0.room made.make-at.ensures
-          (rw wrote.before.answer-in.ensures at wrote.put-line.ensures) c.enum-told2.given.1,
+      tracing-made v.2 (more turn.before.before.before.before.before.before.before.before.before.before.before) v.0.room made.make_at-made.ensures
+          (rw wrote.answer_in.ensures at wrote.put_line.ensures) c.in_default.is,
     )
 
-returns-2 : tie.Need-returns-2 Inv μ
+returns-2 : tie.Need-returns Inv μ
 returns-2 c =
-    let v = c.before.loop.invariant in
-    tracing-end v.2 (omega (arith, c.loop-test.false, v.1))
+    let v = c.loop-i.invariant in
+    tracing-end v.2 (omega (arith, c.loop-i-test.false, v.1))
 
-pub trace-spec : {M : Type 1} → statement M
-trace-spec =
+pub trace_spec : {M : Type 1} → statement M
+trace_spec =
     tie.close
     (tie.spec
     Inv μ (λ c κs. search rules) loop-holds make-at-requires (λ c κs. search rules) put-line-requires
