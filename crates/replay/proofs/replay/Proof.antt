@@ -9,86 +9,86 @@ use Rattle.replay.proofs.Turns.{Going, going_start, going-room, going-denied, go
 use Rattle.replay.proofs.replay.Statement.{statement}
 use Rattle.replay.proofs.replay.Tie as tie
 
-abbrev Inv : tie.invariant-loop
+abbrev Inv : tie.invariant-loop-j
 Inv table starts owners₀ items₀ origins₀ log order wanted members ceiling out₀ k left₀ j₀ owners items origins out left j =
     Going table starts (held owners₀ items₀ origins₀ left₀) log order wanted members ceiling out₀ j (held owners items origins left) out
 
-abbrev μ : tie.decreases-loop
+abbrev μ : tie.decreases-loop-j
 μ table starts owners₀ items₀ origins₀ log order wanted members ceiling out₀ k left₀ j₀ owners items origins out left j = k - j
 
 -- the place read in a turn is one of the log
-place-small : (c : tie.In-loop Inv μ) → get_or c.before.before.before.before.before.before.before.before.args.order.now c.before.loop.j 0 < 1024
-place-small c = let g = c.before.loop.invariant.given in omega (arith, g.places _ c.loop-test.true, g.read.log.few)
+place-small : (c : tie.In-loop-j Inv μ) → get_or c.args.order.now c.loop-j.j 0 < 1024
+place-small c = let g = c.loop-j.invariant.given in omega (arith, g.places _ c.loop-j-test.true, g.read.log.few)
 
 -- the turn in which a move is made
-abbrev turn-of : tie.After-make-arg3 Inv μ → tie.In-loop Inv μ
-turn-of c = c.before.before.before.before.before.before.before.before.before.before.before
+abbrev turn-of : tie.After-make-arg-in-loop-j-2-1 Inv μ → tie.In-loop-j Inv μ
+turn-of c = c.before.before.before.before.before.before.before.before.before.before
 
-again-at-requires : tie.Need-again-at-requires Inv μ
+again-at-requires : tie.Need-again_at-mv-requires Inv μ
 again-at-requires c κs =
-    let turn = c.before.before.before in
-    let g = turn.before.loop.invariant in
+    let turn = c in
+    let g = turn.loop-j.invariant in
     let a = g.workable.arrays in (
       g.given.read,
       record { owners = a.owners; items = a.origins; fits = omega (arith, g.workable.bounds.fits, g.workable.limit) },
-      g.given.places _ turn.loop-test.true,
+      g.given.places _ turn.loop-j-test.true,
     )
 
-put-move-requires : tie.Need-put-move-requires Inv μ
+put-move-requires : tie.Need-put_move-requires Inv μ
 put-move-requires c κs =
-    let turn = c.before.before.before.before.before in
-    let g = turn.before.loop.invariant in
-    (turn.loop-test.true, g.given.read.log.few, going-room g)
+    let turn = c in
+    let g = turn.loop-j.invariant in
+    (turn.loop-j-test.true, g.given.read.log.few, going-room g)
 
-make-requires : tie.Need-make-requires Inv μ
+make-requires : tie.Need-make-made-requires Inv μ
 make-requires c κs =
     let turn = turn-of c in
-    let g = turn.before.loop.inv in
+    let g = turn.loop-j.invariant in
     record { indexed = g.given.read.indexed; maker-fits = (omega arith, omega (arith, place-small turn)); workable = g.workable }
 
-same_length : tie.Need-same-length Inv μ
+same_length : tie.Need-shape_of-out-in-Denied Inv μ
 same_length c =
-    let put = c.before.before.before.before.before.before.before.before in
-    let l = put.before.before.before.before.before.before.before.loop in
-    put.put-move.ensures.size ∙ length-set l.out _ _ ∙ simp length-set at l.invariant.size
+    let put = c in
+    let l = put.loop-j in
+    put.put_move.ensures.size ∙ length-set l.out _ _ ∙ simp length-set at l.invariant.size
 
-returns : tie.Need-returns Inv μ
+returns : tie.Need-returns-in-Denied Inv μ
 unfolding state_in
 returns c =
-    let m = c.before.before in
-    let put = m.before.before.before.before.before.before in
-    let read = put.before.before in
-    let turn = read.before.before.before.before in
-    let l = turn.before.loop in
-    going-denied l.invariant turn.loop-test.true (read.again-at.ensures l.items) put.put-move.ensures m.make.ensures
-    c.enum_told.given.1 refl
+    let m = c in
+    let put = m in
+    let read = put in
+    let turn = read in
+    let l = turn.loop-j in
+    going-denied l.invariant turn.loop-j-test.true (read.again_at-mv.ensures l.items) put.put_move.ensures m.make-made.ensures
+    c.in-Denied.is refl
 
-loop-again : tie.Need-loop-preserved Inv μ
+loop-again : tie.Need-loop-j-preserved Inv μ
 unfolding state_in
 loop-again c =
-    let m = c.before.before.before in
-    let put = m.before.before.before.before.before.before in
-    let read = put.before.before in
-    let turn = read.before.before.before.before in
-    let l = turn.before.loop in
-    going_next l.invariant turn.loop-test.true (read.again-at.ensures l.items) put.put-move.ensures m.make.ensures
-    c.before.enum-told2.given.1
+    let m = c in
+    let put = m in
+    let read = put in
+    let turn = read in
+    let l = turn.loop-j in
+    going_next l.invariant turn.loop-j-test.true (read.again_at-mv.ensures l.items) put.put_move.ensures m.make-made.ensures
+    c.in_default.is
 
-returns-2 : tie.Need-returns-2 Inv μ
-returns-2 c = going_end c.before.loop.invariant c.loop-test.false refl
+returns-2 : tie.Need-returns Inv μ
+returns-2 c = going_end c.loop-j.invariant c.loop-j-test.false refl
 
-pub replay-spec : {M : Type 1} → statement M
-replay-spec =
+pub replay_spec : {M : Type 1} → statement M
+replay_spec =
     tie.close
     (tie.spec Inv μ (λ c. search rules) (λ c. search rules) (λ c. search rules) (λ c. search rules)
-    (λ c. going_start c.before.before.before.before.before.before.requires)
-    (λ c. search rules) (λ c. search rules) (λ c. omega (arith, place-small c.before)) again-at-requires put-move-requires
+    (λ c. going_start c.requires)
+    (λ c. search rules) (λ c. search rules) (λ c. omega (arith, place-small c.before.before)) again-at-requires put-move-requires
     (λ c. omega (arith, place-small (turn-of c))) (λ c. omega (arith, place-small (turn-of c))) make-requires
     (λ c. search rules) same_length returns (λ c. search rules)
     (λ c. omega (
       arith,
-      (turn-of c.before.before.before.before).loop-test.taken,
-      (turn-of c.before.before.before.before).before.loop.inv.given.read.log.few,
+      (turn-of c.before.before.before).loop-j-test.true,
+      (turn-of c.before.before.before).loop-j.invariant.given.read.log.few,
     ))
-    (λ c. omega (arith, (turn-of c.before.before.before.before).loop-test.taken)) loop-again
-    (λ c. simp length-set at c.before.loop.invariant.size) returns-2)
+    (λ c. omega (arith, (turn-of c.before.before.before).loop-j-test.true)) loop-again
+    (λ c. simp length-set at c.loop-j.invariant.size) returns-2)

@@ -7,11 +7,11 @@ use Rattle.replay.proofs.wanted_at.Tie as tie
 
 returns : tie.Need-returns
 returns c =
-    let a = c.before.before.before.before.args in
+    let a = c.args in
     take-four a.origins.now (4 * a.p) 0 (omega arith)
 
-pub wanted-at-spec : {M : Type 1} → statement M
-wanted-at-spec =
+pub wanted_at_spec : {M : Type 1} → statement M
+wanted_at_spec =
     tie.close
     (tie.spec
     (λ c. search rules) (λ c. search rules) (λ c. search rules) (λ c. search rules) (λ c. search rules) (λ c. search rules)

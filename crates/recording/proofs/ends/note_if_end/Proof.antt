@@ -7,27 +7,27 @@ use Rattle.recording.proofs.Marking.{nothing-noted}
 use Rattle.recording.proofs.ends.note_if_end.Statement.{statement}
 use Rattle.recording.proofs.ends.note_if_end.Tie as tie
 
-pub note-if-end-spec : {M : Type 1} → statement M
-note-if-end-spec =
+pub note_if_end_spec : {M : Type 1} → statement M
+note_if_end_spec =
     tie.close
     (tie.spec
     (λ c κs. search rules)
-    (λ c. rw (eq-eqb _ _ (sym c.before.kind-of.ensures ∙ c.if1.true)) (nothing-noted _ c.before.before.requires.2))
+    (λ c. rw (eq-eqb _ _ (sym c.kind_of.ensures ∙ c.if-kind_of-eq-REACT.true)) (nothing-noted _ c.requires.2))
     (λ c κs. search rules)
     (λ c.
-    let number = c.before in
-    let kind = number.before.before in
-    rw (ne_eqb _ _ (λ e. number.before.if1.false (kind.kind-of.ensures ∙ e)), lt-ltb _ _ (rw number.number_of_lem.ensures at c.if2.true))
-    (nothing-noted _ kind.before.requires.2))
-    (λ c κs. omega (arith, c.before.number_of_lem.ensures, c.if2.false))
+    let number = c in
+    let kind = number in
+    rw (ne_eqb _ _ (λ e. number.if-kind_of-eq-REACT.false (kind.kind_of.ensures ∙ e)), lt-ltb _ _ (rw number.number_of.ensures at c.if-number_of-gt-MAX_ID.true))
+    (nothing-noted _ kind.requires.2))
+    (λ c κs. omega (arith, c.number_of.ensures, c.if-number_of-gt-MAX_ID.false))
     (λ c. search rules)
-    (λ c κs. let start = c.before.before.before.before.before.before in (start.requires.0, start.requires.2))
+    (λ c κs. let start = c in (start.requires.0, start.requires.2))
     (λ c.
-    let id = c.before.before in
-    let number = id.before.before in
-    let kind = number.before.before in
+    let id = c in
+    let number = id in
+    let kind = number in
     rw (
-      ne_eqb _ _ (λ e. number.before.if1.false (kind.kind-of.ensures ∙ e)),
-      le-ltb _ _ (rw number.number_of_lem.ensures at id.before.if2.false),
+      ne_eqb _ _ (λ e. number.if-kind_of-eq-REACT.false (kind.kind_of.ensures ∙ e)),
+      le-ltb _ _ (rw number.number_of.ensures at id.if-number_of-gt-MAX_ID.false),
     )
-    (rw id.id-of.ensures at c.note-ends.ensures)))
+    (rw id.id_of.ensures at c.note_ends.ensures)))

@@ -7,18 +7,18 @@ use Rattle.recording.proofs.record.note_move.Tie as tie
 
 returns : tie.Need-returns
 returns c =
-    let marked = c.before.before in
-    let id = marked.before in
-    let noted = id.before.before.before in
-    let a = noted.before.before.before.before.args in
+    let marked = c in
+    let id = marked in
+    let noted = id in
+    let a = noted.args in
     record {
-      picked = noted.note-picks.ensures;
+      picked = noted.note_picks.ensures;
       member = ap (set a.members.now a.i) (marked.mark_of.ensures ∙ ap (mark_by a.begun.now a.first) id.concerned.ensures);
-      ends = c.note-if-end.ensures;
+      ends = c.note_if_end.ensures;
     }
 
-pub note-move-spec : {M : Type 1} → statement M
-note-move-spec =
+pub note_move_spec : {M : Type 1} → statement M
+note_move_spec =
     tie.close
     (tie.spec (λ c κs. search rules) (λ c κs. search rules) (λ c κs. search rules) (λ c. search rules) (λ c. search rules) (λ c κs. search rules)
-    (λ c. c.before.before.before.before.before.before.note-picks.ensures.size) returns)
+    (λ c. c.note_picks.ensures.size) returns)

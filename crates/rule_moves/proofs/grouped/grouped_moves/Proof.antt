@@ -6,8 +6,8 @@ use borrow.Author.Rules.{rules}
 use Rattle.rule_moves.proofs.grouped.grouped_moves.Statement.{statement}
 use Rattle.rule_moves.proofs.grouped.grouped_moves.Tie as tie
 
-pub grouped-moves-spec : {M : Type 1} → statement M
-grouped-moves-spec =
+pub grouped_moves_spec : {M : Type 1} → statement M
+grouped_moves_spec =
     tie.close
     (tie.spec
     (λ c. search rules)
@@ -15,14 +15,14 @@ grouped-moves-spec =
     (λ c. search rules)
     (λ c. search rules)
     (λ c κs.
-    let p = c.before.before.requires.0 in (
+    let p = c.requires.0 in (
       (p.0, omega (arith, p.1 0), omega (arith, p.1 1), omega (arith, p.1 2), omega (arith, p.1 3)),
       (search rules, λ g. get_or-replicate-any 1024 g 0),
     ))
     (λ c κs.
-    let counted = c.before.before in
-    let p = counted.before.before.before.requires in
-    let g = counted.count-groups.ensures in
+    let counted = c in
+    let p = counted.requires in
+    let g = counted.count_groups-top.ensures in
     ((p.0.0, p.0.1, p.0.2, p.0.3, g.0, g.1), p.1))
-    (λ c. paged-length _ 5 c.before.before.counted-moves.ensures.0.paged)
-    (λ c. c.before.before.counted-moves.ensures))
+    (λ c. paged-length _ 5 c.counted_moves.ensures.0.paged)
+    (λ c. c.counted_moves.ensures))

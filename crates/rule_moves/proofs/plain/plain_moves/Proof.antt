@@ -22,36 +22,36 @@ use Rattle.rule_moves.proofs.plain.plain_moves.Tie as tie
 few : (s : tie.Start) → length (take s.args.n s.args.keys.now) ≤ 1024
 few s = rw (length-take-le s.args.n s.args.keys.now (omega (arith, s.requires.0))) s.requires.0.0
 
-counts-at-requires : tie.Need-counts-at-requires
+counts-at-requires : tie.Need-counts_at-left-requires
 counts-at-requires c κs =
-    let s = c.before in
+    let s = c in
     let p = s.requires.0 in
-    (p.2.size, p.3, counts-few (take s.args.n s.args.keys.now) s.args.counts.now s.args.takes (few s) p.2 p.3)
+    (p.2.size, p.3, counts-few (take s.args.n s.args.keys.now) s.args.counts.now s.args.takes (few s.before) p.2 p.3)
 
-widths-requires : tie.Need-widths-requires
+widths-requires : tie.Need-widths-below-requires
 widths-requires c κs =
-    let s = c.before.before in
+    let s = c in
     let p = s.requires.0 in
-    rw c.counts-at.ensures (left-few (take s.args.n s.args.keys.now) s.args.counts.now s.args.takes (few s) p.2 p.3)
+    rw c.counts_at-left.ensures (left-few (take s.args.n s.args.keys.now) s.args.counts.now s.args.takes (few s.before.before) p.2 p.3)
 
 -- the product of the two calls' first numbers
-bound : (c : tie.After-widths) → get_or c.before.counts-at.result 0 0 * get_or c.widths.result 0 0 ≤ 1099511627776
+bound : (c : tie.After-widths-below) → get_or c.counts_at-left.result 0 0 * get_or c.widths-below.result 0 0 ≤ 1099511627776
 bound c =
-    let s = c.before.before.before in
+    let s = c in
     let p = s.requires.0 in
     let four : length s.args.takes ≡ 4 = search rules in
-    rw (c.widths.ensures, c.before.counts-at.ensures)
-    (length-small (take s.args.n s.args.keys.now) s.args.counts.now s.args.takes (few s) p.2 p.3 four s.args.k p.4 p.5)
+    rw (c.widths-below.ensures, c.counts_at-left.ensures)
+    (length-small (take s.args.n s.args.keys.now) s.args.counts.now s.args.takes (few s.before.before.before) p.2 p.3 four s.args.k p.4 p.5)
 
-total : (c : tie.After-widths) → get_or c.before.counts-at.result 0 0 * get_or c.widths.result 0 0
-    ≡ length (choices_from (take c.before.before.before.args.n c.before.before.before.args.keys.now) []
-    (take c.before.before.before.args.k c.before.before.before.args.takes))
+total : (c : tie.After-widths-below) → get_or c.counts_at-left.result 0 0 * get_or c.widths-below.result 0 0
+    ≡ length (choices_from (take c.args.n c.args.keys.now) []
+    (take c.args.k c.args.takes))
 total c =
-    let s = c.before.before.before in
+    let s = c in
     let p = s.requires.0 in
     let four : length s.args.takes ≡ 4 = search rules in
-    rw (c.widths.ensures, c.before.counts-at.ensures)
-    (plain-length (take s.args.n s.args.keys.now) s.args.counts.now s.args.takes (few s) p.2 p.3 four s.args.k p.4 p.5)
+    rw (c.widths-below.ensures, c.counts_at-left.ensures)
+    (plain-length (take s.args.n s.args.keys.now) s.args.counts.now s.args.takes (few s.before.before.before) p.2 p.3 four s.args.k p.4 p.5)
 
 -- no room on the page, or the page begins behind the rule's choices
 unwritten : (words : List ℕ → List ℕ) (xs : List (List ℕ)) (len first count at : ℕ) (before : List ℕ) → len ≡ length xs
@@ -60,36 +60,36 @@ unwritten words xs len first count at before t h = by_bool (eqb count 0)
     (λ e. rw (eqb-true count 0 e) (paged-empty words 5 xs first at before))
     (λ e. paged-past words 5 xs first count at before (rw (← t) (leb-true len first (sym (ap (λ (b : Bool). b || leb len first) e) ∙ h))))
 
-returns : tie.Need-returns
+returns : tie.Need-returns-then-count-length
 returns c =
     let t = total c.before in
-    (record { total = t; paged = unwritten _ _ _ _ _ _ _ t c.if1.true }, bound c.before)
+    (record { total = t; paged = unwritten _ _ _ _ _ _ _ t c.if-count-length.true }, bound c.before)
 
-fill-requires : tie.Need-fill-requires
+fill-requires : tie.Need-fill-written-requires
 fill-requires c κs =
-    let a = c.before.before in
-    let s = a.before.before.before in
+    let a = c in
+    let s = a in
     let p = s.requires.0 in
     let four : length s.args.takes ≡ 4 = search rules in (
       (omega arith, p.5, p.0, p.1),
       (
         s.requires.1,
         (
-          rw (a.widths.ensures, a.before.counts-at.ensures)
-              (plain-widths (take s.args.n s.args.keys.now) s.args.counts.now s.args.takes (few s) p.2 p.3 four s.args.k
+          rw (a.widths-below.ensures, a.counts_at-left.ensures)
+              (plain-widths (take s.args.n s.args.keys.now) s.args.counts.now s.args.takes (few s.before.before.before.before.before) p.2 p.3 four s.args.k
               p.4 p.5),
           used-none (take s.args.n s.args.keys.now),
         ),
       ),
     )
 
-returns-2 : tie.Need-returns-2
+returns-2 : tie.Need-returns
 returns-2 c =
-    let a = c.before.before.before.before.before in
-    (record { total = total a; paged = c.before.before.fill.ensures }, bound a)
+    let a = c in
+    (record { total = total a.before.before.before.before.before; paged = c.fill-written.ensures }, bound a.before.before.before.before.before)
 
-pub plain-moves-spec : {M : Type 1} → statement M
-plain-moves-spec =
+pub plain_moves_spec : {M : Type 1} → statement M
+plain_moves_spec =
     tie.close
     (tie.spec
     counts-at-requires
@@ -99,5 +99,5 @@ plain-moves-spec =
     (λ c. record { fits = lt_of_le_of_lt (bound c) (lit< tt) })
     returns
     fill-requires
-    (λ c. paged-length _ 5 c.before.before.fill.ensures)
+    (λ c. paged-length _ 5 c.fill-written.ensures)
     returns-2)

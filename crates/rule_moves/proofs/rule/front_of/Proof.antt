@@ -4,10 +4,10 @@ use Rattle.rule_moves.proofs.rule.front_of.Statement.{statement}
 use Rattle.rule_moves.proofs.rule.front_of.Tie as tie
 
 returns : tie.Need-returns
-returns c = rw (c.port-if4.ensures, c.before.port-if3.ensures, c.before.before.port-if2.ensures, c.before.before.before.port-if.ensures)
+returns c = rw (c.port_if-d.ensures, c.port_if-c.ensures, c.port_if-b.ensures, c.port_if-a.ensures)
 
-pub front-of-spec : {M : Type 1} → statement M
-front-of-spec =
+pub front_of_spec : {M : Type 1} → statement M
+front_of_spec =
     tie.close
     (tie.spec
     (λ c. search rules)

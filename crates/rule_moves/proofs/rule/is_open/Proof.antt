@@ -7,15 +7,15 @@ use Rattle.rule_moves.proofs.rule.is_open.Tie as tie
 
 returns : tie.Need-returns
 returns c =
-    let s = c.before.before in
+    let s = c in
     let d = s.requires.0 in
     rw (d.begins, count-atoms s.args.rule d, ← d.consumes)
 
-pub is-open-spec : {M : Type 1} → statement M
-is-open-spec =
+pub is_open_spec : {M : Type 1} → statement M
+is_open_spec =
     tie.close
     (tie.spec
-    (λ c. omega (arith, c.before.before.requires.1, c.before.before.requires.0.few))
+    (λ c. omega (arith, c.requires.1, c.requires.0.few))
     (λ c. search rules)
     (λ c. search rules)
     returns)

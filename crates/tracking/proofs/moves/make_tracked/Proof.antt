@@ -4,15 +4,15 @@ use Rattle.tracking.proofs.Making.{made_after}
 use Rattle.tracking.proofs.moves.make_tracked.Statement.{statement}
 use Rattle.tracking.proofs.moves.make_tracked.Tie as tie
 
-after-move-requires : tie.Need-after-move-requires
+after-move-requires : tie.Need-after_move-requires
 after-move-requires c κs =
-    let made = c.before.before.before.before.before in
-    let before = made.before.before.before.before in
-    let g = before.before.before.before.before.before.before.requires in
-    made_after g (before.before-move.ensures _ _ _ _ _ _ g) made.make-next.ensures
+    let made = c in
+    let before = made in
+    let g = before.requires in
+    made_after g (before.before_move.ensures _ _ _ _ _ _ g) made.make_next-made.ensures
 
-pub make-tracked-spec : {M : Type 1} → statement M
-make-tracked-spec =
+pub make_tracked_spec : {M : Type 1} → statement M
+make_tracked_spec =
     tie.close
     (tie.spec
-    (λ c κs. (_, _, _, _, _, _, c.before.before.before.before.before.requires)) (λ c κs. search rules) after-move-requires (λ c. search rules))
+    (λ c κs. (_, _, _, _, _, _, c.requires)) (λ c κs. search rules) after-move-requires (λ c. search rules))

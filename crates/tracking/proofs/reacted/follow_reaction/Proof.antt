@@ -13,56 +13,56 @@ use Rattle.tracking.proofs.Following.{reacting, left-columns, entries-are}
 use Rattle.tracking.proofs.reacted.follow_reaction.Statement.{statement}
 use Rattle.tracking.proofs.reacted.follow_reaction.Tie as tie
 
-abbrev start : tie.After-stop-last → tie.Start
+abbrev start : tie.After-stop_last-marked → tie.Start
 start c = c.before.before.before
 
 -- the set after the reaction, of all origins
-stops-now : (c : tie.After-stop-last) (gs : List ℕ)
-    → StoppedIn (rows (row_of (start c).args.owners.now (start c).args.items.now gs) 0 (start c).args.left.len) c.stop-last.new.1.1.1.0
+stops-now : (c : tie.After-stop_last-marked) (gs : List ℕ)
+    → StoppedIn (rows (row_of (start c).args.owners.now (start c).args.items.now gs) 0 (start c).args.left.len) c.stop_last-marked.new.stopped
 stops-now c gs =
     let a = (start c).args in
     let (s, ps, i, hs, h) = (start c).requires in
-    let here = c.stop-last.ensures.0 hs _ i s a.r ps (reacting h) (entries-are h) h.stops in
+    let here = c.stop_last-marked.ensures.0 hs _ i s a.r ps (reacting h) (entries-are h) h.stops in
     stops-all a.owners.now a.items.now hs a.left.len gs here
 
 recount-requires : tie.Need-recount-requires
 recount-requires c κs =
-    let sizes = c.before.before in
-    let stop = sizes.before.before.before in
-    let h = (start stop).requires.4 in (
+    let sizes = c in
+    let stop = sizes in
+    let h = (start stop.before.before.before.before).requires.4 in (
       (
         left-columns h,
-        rw sizes.sizes-of.ensures (well-formed _ h.indexed.table).sizes.ports,
+        rw sizes.sizes_of-z.ensures (well-formed _ h.indexed.table).sizes.ports,
         h.reacts.supply.size,
         h.holds.looked.within,
         h.holds.looked.none,
       ),
-      stops-now stop,
+      stops-now stop.before.before.before.before,
     )
 
-returns : tie.Need-returns
+returns : tie.Need-returns-then-strands
 returns c =
-    let sizes = c.before.before.before in
-    let stop = sizes.before.before.before in
-    record { stops = stops-now stop; supply = rw sizes.sizes-of.ensures at c.recount.ensures }
+    let sizes = c in
+    let stop = sizes in
+    record { stops = stops-now stop.before.before.before.before.before; supply = rw sizes.sizes_of-z.ensures at c.recount.ensures }
 
-returns-2 : tie.Need-returns-2
+returns-2 : tie.Need-returns
 returns-2 c =
-    let told = c.before.before.before in
-    let stop = told.before in
-    let a = (start stop).args in
-    let (s, ps, i, hs, h) = (start stop).requires in
-    let calm = stop.stop-last.ensures.1 hs _ i s a.r ps (reacting h) (entries-are h) in
-    let stops = subst (λ (es : List Entry). StoppedIn es stop.stop-last.new.1.1.1.0) (sym (entries-are h)) (stops-now stop hs) in
-    let counted = ⊎_elim inl (λ e. inr (calm e)) (told.strands.ensures c.before.before.if1.false) in
-    let supply = c.count-reaction.ensures.1 s ps i h.reacts counted in
+    let told = c in
+    let stop = told in
+    let a = (start stop.before.before.before.before).args in
+    let (s, ps, i, hs, h) = (start stop.before.before.before.before).requires in
+    let calm = stop.stop_last-marked.ensures.1 hs _ i s a.r ps (reacting h) (entries-are h) in
+    let stops = subst (λ (es : List Entry). StoppedIn es stop.stop_last-marked.new.stopped) (sym (entries-are h)) (stops-now stop.before.before.before.before hs) in
+    let counted = ⊎_elim inl (λ e. inr (calm e)) (told.strands.ensures c.if-strands.false) in
+    let supply = c.count_reaction.ensures.1 s ps i h.reacts counted in
     tracked-held a.owners.now a.items.now hs a.left h.holds (record { stops = stops; supply = supply })
 
-pub follow-reaction-spec : {M : Type 1} → statement M
-follow-reaction-spec =
+pub follow_reaction_spec : {M : Type 1} → statement M
+follow_reaction_spec =
     tie.close
     (tie.spec
-    (λ c κs. let h = c.before.before.requires.4 in (left-columns h, h.stops.size))
+    (λ c κs. let h = c.requires.4 in (left-columns h, h.stops.size))
     (λ c κs. let h = (start c).requires.4 in (h.indexed, h.known))
     (λ c κs. (well-formed _ (start c.before.before).requires.4.indexed.table).sizes.long)
     recount-requires

@@ -9,24 +9,24 @@ use Rattle.tracking.proofs.Following.{class-is}
 use Rattle.tracking.proofs.reacted.is_global.Statement.{statement}
 use Rattle.tracking.proofs.reacted.is_global.Tie as tie
 
-rule-words-requires : tie.Need-rule-words-requires
+rule-words-requires : tie.Need-rule_words-ws-requires
 rule-words-requires c κs =
-    let p = c.before.before.before.requires in
-    rule-within _ _ _ p.0.table p.1 p.0.starts c.atom-words-of.ensures
+    let p = c.requires in
+    rule-within _ _ _ p.0.table p.1 p.0.starts c.atom_words_of.ensures
 
 returns : tie.Need-returns
 returns c =
-    let words = c.before in
-    let p = words.before.before.before.before.requires in
-    let class = class-is p.0 _ p.1 words.before.atom-words-of.ensures words.before.before.sizes-of.ensures words.rule-words.ensures in
-    ap (λ (k : ℕ). eqb k 0) (c.rule-class.ensures ∙ class)
+    let words = c in
+    let p = words.requires in
+    let class = class-is p.0 _ p.1 words.atom_words_of.ensures words.sizes_of-z.ensures words.rule_words-ws.ensures in
+    ap (λ (k : ℕ). eqb k 0) (c.rule_class.ensures ∙ class)
 
-pub is-global-spec : {M : Type 1} → statement M
-is-global-spec =
+pub is_global_spec : {M : Type 1} → statement M
+is_global_spec =
     tie.close
     (tie.spec
-    (λ c κs. (well-formed _ c.before.requires.0.table).sizes.long)
-    (λ c κs. (well-formed _ c.before.before.requires.0.table).sizes)
+    (λ c κs. (well-formed _ c.requires.0.table).sizes.long)
+    (λ c κs. (well-formed _ c.requires.0.table).sizes)
     rule-words-requires
     (λ c κs. search rules)
     returns)

@@ -6,11 +6,11 @@ use borrow.Author.Tests.{eqb-true, not-false}
 use Rattle.tracking.proofs.reacted.strands.Statement.{statement}
 use Rattle.tracking.proofs.reacted.strands.Tie as tie
 
-returns : tie.Need-returns
-returns c e = inl (eqb-true _ 0 (sym c.is-global.ensures ∙ not-false _ e))
+returns : tie.Need-returns-then-marked
+returns c e = inl (eqb-true _ 0 (sym c.is_global.ensures ∙ not-false _ e))
 
-returns-2 : tie.Need-returns-2
-returns-2 c e = inr c.if1.false
+returns-2 : tie.Need-returns
+returns-2 c e = inr c.if-marked.false
 
-pub strands-spec : {M : Type 1} → statement M
-strands-spec = tie.close (tie.spec (λ c κs. search rules) returns returns-2)
+pub strands_spec : {M : Type 1} → statement M
+strands_spec = tie.close (tie.spec (λ c κs. search rules) returns returns-2)
