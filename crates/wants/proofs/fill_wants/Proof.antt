@@ -19,22 +19,22 @@ use Rattle.wants.proofs.fill_wants.Statement.{statement}
 use Rattle.wants.proofs.fill_wants.Tie as tie
 
 -- the words of the rules before r
-abbrev Inv : tie.invariant-loop
+abbrev Inv : tie.invariant-loop-r
 Inv table starts wants₀ rules r₀ wants r =
     (r ≤ (sizes_of table).rules) × (length wants ≡ 64) × ((q : ℕ) → q < r → WantedWord (consumed (rule_at (table_of table) q)) (get_or wants q 0))
 
-abbrev μ : tie.decreases-loop
+abbrev μ : tie.decreases-loop-r
 μ table starts wants₀ rules r₀ wants r = (sizes_of table).rules - r
 
-below : (c : tie.In-loop Inv μ) → c.before.loop.r < (sizes_of c.before.before.before.before.args.table.now).rules
-below c = rw (← ap (λ z. z.rules) c.before.before.sizes-of.ensures) c.loop-test.true
+below : (c : tie.In-loop-r Inv μ) → c.loop-r.r < (sizes_of c.args.table.now).rules
+below c = rw (← ap (λ z. z.rules) c.sizes_of-z.ensures) c.loop-r-test.true
 
-takes-of-requires : tie.Need-takes-of-requires Inv μ
+takes-of-requires : tie.Need-takes_of-requires Inv μ
 takes-of-requires c κs =
-    let turn = c.before in
-    let s = turn.before.before.before.before in
-    let d = c.rule-at.ensures in
-    (decodes-itself _ _ d, small-ports d (consumed-below s.args.table.now s.requires.0 turn.before.loop.r (below turn)))
+    let turn = c in
+    let s = turn in
+    let d = c.rule_at-rule.ensures in
+    (decodes-itself _ _ d, small-ports d (consumed-below s.args.table.now s.requires.0 turn.loop-r.r (below turn.before)))
 
 -- one rule more
 next : (f : ℕ → List ℕ) (wants : List ℕ) (r w : ℕ) → r < length wants → ((q : ℕ) → q < r → WantedWord (f q) (get_or wants q 0)) → WantedWord (f r) w
@@ -43,49 +43,49 @@ next f wants r w low all here q l = by_bool (eqb q r)
     (λ e. let p = eqb-true q r e in rw (p, get_or-set_same wants r w 0 low) here)
     (λ e. let p = eqb-false q r e in rw (get_or-set_other wants r q w 0 p) (all q (omega arith)))
 
-few : (c : tie.In-loop Inv μ) → c.before.loop.r < 64
+few : (c : tie.In-loop-r Inv μ) → c.loop-r.r < 64
 few c =
-    let s = c.before.before.before.before in
+    let s = c in
     omega (arith, below c, (well-formed s.args.table.now s.requires.0).sizes.rules)
 
-loop-again : tie.Need-loop-preserved Inv μ
+loop-again : tie.Need-loop-r-preserved Inv μ
 loop-again c =
-    let turn = c.before.before.before in
-    let loop = turn.before.loop in
-    let s = turn.before.before.before.before in
-    let d = c.before.before.rule-at.ensures in
-    let rule = c.before.before.rule-at.result in
-    let ports : take rule.consumes c.before.Takes-of.result ≡ consumed (rule_at (table_of s.args.table.now) loop.r) =
-    c.before.Takes-of.ensures.0 ∙ ap consumed (rule-in rule (rule_at (table_of s.args.table.now) loop.r) d) in
-    let word = c.wants-of.ensures in (
-      omega (arith, below turn),
-      length-set loop.wants loop.r c.wants-of.result ∙ loop.invariant.1,
-      next (λ q. consumed (rule_at (table_of s.args.table.now) q)) loop.wants loop.r c.wants-of.result (omega
-          (arith, few turn, loop.invariant.1)) loop.invariant.2 (rw ports at word),
+    let turn = c in
+    let loop = turn.loop-r in
+    let s = turn in
+    let d = c.rule_at-rule.ensures in
+    let rule = c.rule_at-rule.result in
+    let ports : take rule.consumes c.takes_of.result ≡ consumed (rule_at (table_of s.args.table.now) loop.r) =
+    c.takes_of.ensures.0 ∙ ap consumed (rule-in rule (rule_at (table_of s.args.table.now) loop.r) d) in
+    let word = c.wants_of.ensures in (
+      omega (arith, below turn.before.before.before.before),
+      length-set loop.wants loop.r c.wants_of.result ∙ loop.invariant.1,
+      next (λ q. consumed (rule_at (table_of s.args.table.now) q)) loop.wants loop.r c.wants_of.result (omega
+          (arith, few turn.before.before.before.before, loop.invariant.1)) loop.invariant.2 (rw ports at word),
     )
 
 returns : tie.Need-returns Inv μ
 returns c =
-    let loop = c.before.loop in
-    let s = c.before.before.before.before in
-    let e = ap (λ z. z.rules) c.before.before.sizes-of.ensures in
-    record { size = loop.invariant.1; each = λ r l. loop.invariant.2 r (omega (arith, c.loop-test.false, e)) }
+    let loop = c.loop-r in
+    let s = c in
+    let e = ap (λ z. z.rules) c.sizes_of-z.ensures in
+    record { size = loop.invariant.1; each = λ r l. loop.invariant.2 r (omega (arith, c.loop-r-test.false, e)) }
 
-pub fill-wants-spec : {M : Type 1} → statement M
-fill-wants-spec =
+pub fill_wants_spec : {M : Type 1} → statement M
+fill_wants_spec =
     tie.close
     (tie.spec
     Inv
     μ
-    (λ c κs. (well-formed _ c.before.requires.0).sizes.long)
+    (λ c κs. (well-formed _ c.requires.0).sizes.long)
     (λ c. (omega arith, search rules, λ q l. absurd (omega arith)))
-    (λ c κs. (c.before.before.before.before.requires.0, below c, c.before.before.before.before.requires.1))
+    (λ c κs. (c.requires.0, below c, c.requires.1))
     takes-of-requires
-    (λ c κs. (c.before.rule-at.ensures.legal.most, c.Takes-of.ensures.1))
+    (λ c κs. (c.rule_at-rule.ensures.legal.most, c.takes_of.ensures.1))
     (λ c. search rules)
     (λ c. omega (arith, few c.before.before.before))
-    (λ c. omega (arith, few c.before.before.before, c.before.before.before.before.loop.invariant.1))
-    (λ c. omega (arith, few c.before.before.before))
-    (λ c. omega (arith, below c.before.before.before))
+    (λ c. omega (arith, few c.before.before.before.before, c.loop-r.invariant.1))
+    (λ c. omega (arith, few c.before.before.before.before))
+    (λ c. omega (arith, below c.before.before.before.before))
     loop-again
     returns)

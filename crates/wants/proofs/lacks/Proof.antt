@@ -2,16 +2,16 @@ use borrow.Author.Rules.{rules}
 use Rattle.wants.proofs.lacks.Statement.{statement}
 use Rattle.wants.proofs.lacks.Tie as tie
 
-returns : tie.Need-returns
-returns c = rw (← c.before.short.ensures, c.if1.true)
+returns : tie.Need-returns-then-short
+returns c = rw (← c.short.ensures, c.if-short.true)
 
-returns-2 : tie.Need-returns-2
+returns-2 : tie.Need-returns
 returns-2 c =
-    let other = c.before.before.before in
-    rw (c.before.before.short2.ensures, c.before.short3.ensures, c.short4.ensures, ← other.before.short.ensures, other.if1.false)
+    let other = c in
+    rw (c.short-2.ensures, c.short-3.ensures, c.short-4.ensures, ← other.short.ensures, other.if-short.false)
 
-pub lacks-spec : {M : Type 1} → statement M
-lacks-spec =
+pub lacks_spec : {M : Type 1} → statement M
+lacks_spec =
     tie.close
     (tie.spec
     (λ c. search rules)

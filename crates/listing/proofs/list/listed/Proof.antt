@@ -12,54 +12,54 @@ use borrow.Author.Rules.{rules}
 use Rattle.listing.proofs.list.listed.Statement.{statement}
 use Rattle.listing.proofs.list.listed.Tie as tie
 
-few : (c : tie.After-reactions) → c.reactions.result.written ≤ c.before.before.before.before.before.before.before.args.count
-few c = paged-le _ 5 c.reactions.ensures.0.paged
+few : (c : tie.After-reactions-heads) → c.reactions-heads.result.written ≤ c.args.count
+few c = paged-le _ 5 c.reactions-heads.ensures.0.paged
 
-count-ports-requires : tie.Need-count-ports-requires
+count-ports-requires : tie.Need-count_ports-requires
 count-ports-requires c κs =
-    let k = c.before.before.before.requires.0.2 in
+    let k = c.requires.0.2 in
     (k.few, k.size, search rules, λ t. get_or-replicate-any 512 t 0)
 
-reactions-requires : tie.Need-reactions-requires
+reactions-requires : tie.Need-reactions-heads-requires
 reactions-requires c κs =
-    let p = c.before.before.before.before.before.before.requires in
-    ((p.0.0, p.0.1, p.0.2, c.before.before.count-ports.ensures, p.0.3), p.1)
+    let p = c.requires in
+    ((p.0.0, p.0.1, p.0.2, c.count_ports.ensures, p.0.3), p.1)
 
-tail-requires : tie.Need-tail-requires
+tail-requires : tie.Need-tail-ends-requires
 tail-requires c κs =
-    let e = c.before.before.before.before.before.before in
-    let p = e.before.before.before.before.before.before.before.requires in
-    let same = paged-length _ 5 e.reactions.ensures.0.paged in
-    ((p.0.4, p.0.5), (omega (arith, p.1.0), omega (arith, p.1.0, few e), omega (arith, p.1.1, same, few e)))
+    let e = c in
+    let p = e.requires in
+    let same = paged-length _ 5 e.reactions-heads.ensures.0.paged in
+    ((p.0.4, p.0.5), (omega (arith, p.1.0), omega (arith, p.1.0, few e.before.before.before.before.before.before), omega (arith, p.1.1, same, few e.before.before.before.before.before.before)))
 
-add-t27 : tie.Need-overflow-add-t27
+add-t27 : tie.Need-overflow_add-result-2
 add-t27 c =
-    let e = c.before.before.before.before.before.before.before.before.before.before.before.before.before in
-    let start = e.before.before.before.before.before.before.before in
-    omega (arith, few e, paged-le _ 5 c.before.before.before.before.before.before.tail.ensures.0.paged, start.requires.1.0)
+    let e = c in
+    let start = e in
+    omega (arith, few e.before.before.before.before.before.before.before.before.before.before.before.before.before, paged-le _ 5 c.tail-ends.ensures.0.paged, start.requires.1.0)
 
 returns : tie.Need-returns
 returns c =
-    let e = c.before.before.before.before.before.before.before.before.before.before.before.before.before in
-    let f = c.before.before.before.before.before.before in
-    part-append move_words move_words-length _ _ e.reactions.result f.tail.result e.reactions.ensures.0
-    (part-from-zero e.reactions.result.written (rw f.before.before.before.before.less.ensures.0 at f.tail.ensures.0))
+    let e = c in
+    let f = c in
+    part-append move_words move_words-length _ _ e.reactions-heads.result f.tail-ends.result e.reactions-heads.ensures.0
+    (part-from-zero e.reactions-heads.result.written (rw f.less-rest.ensures.0 at f.tail-ends.ensures.0))
 
-pub listed-spec : {M : Type 1} → statement M
-listed-spec =
+pub listed_spec : {M : Type 1} → statement M
+listed_spec =
     tie.close
     (tie.spec
     count-ports-requires
     reactions-requires
     (λ c κs. search rules)
     (λ c. omega (arith, few c.before.before.before.before))
-    (λ c. let e = c.before.before.before.before.before in omega (arith, few e, e.before.before.before.before.before.before.before.requires.1.0))
+    (λ c. let e = c in omega (arith, few e.before.before.before.before.before, e.requires.1.0))
     tail-requires
     (λ c.
-    let made = c.before.before.before.before.before.before.before.before.before.before.before in
-    omega (arith, c.before.before.before.before.tail.ensures.1, made.reactions.ensures.1))
+    let made = c in
+    omega (arith, c.tail-ends.ensures.1, made.reactions-heads.ensures.1))
     add-t27
     (λ c.
-    let made = c.before.before.before.before.before.before.before.before.before.before.before.before.before in
-    paged-length _ 5 c.before.before.before.before.before.before.tail.ensures.0.paged ∙ paged-length _ 5 made.reactions.ensures.0.paged)
+    let made = c in
+    paged-length _ 5 c.tail-ends.ensures.0.paged ∙ paged-length _ 5 made.reactions-heads.ensures.0.paged)
     returns)

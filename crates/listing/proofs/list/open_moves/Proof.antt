@@ -14,96 +14,96 @@ use Rattle.listing.proofs.list.open_moves.Statement.{statement}
 use Rattle.listing.proofs.list.open_moves.Tie as tie
 
 -- where the function begins
-abbrev start : tie.After-load → tie.Start
+abbrev start : tie.After-load-at → tie.Start
 start c = c.before.before.before.before.before.before.before.before.before.before.before
 
 survey-requires : tie.Need-survey-requires
 survey-requires c κs =
-    let l = c.before.before.before.before.before.before in
-    let s = start l in
-    let c = columns s.args.table.now s.args.state.now _ _ _ l.load.result s.pre.0.accepted l.load.ensures in
+    let l = c in
+    let s = start l.before.before.before.before.before.before in
+    let c = columns s.args.table.now s.args.state.now _ _ _ l.load-at.result s.requires.0.accepted l.load-at.ensures in
     (c, zeros-empty, zeros-empty, zeros-empty)
 
 -- the globals handed on are the table's
-globals : (c : tie.After-sizes-of) → c.sizes-of.result.globals ≡ (sizes_of (start c.before).args.table.now).globals
-globals c = ap (λ z. z.globals) c.sizes-of.ensures
+globals : (c : tie.After-sizes_of-z) → c.sizes_of.result.globals ≡ (sizes_of (start c.before).args.table.now).globals
+globals c = ap (λ z. z.globals) c.sizes_of.ensures
 
-ids-of-requires : tie.Need-ids-of-requires
+ids-of-requires : tie.Need-ids_of-m-requires
 ids-of-requires c κs =
-    let z = c.before.before.before.before.before.before.before.before in
-    let l = z.before in
-    let s = start l in
-    let (low, high) = next-within s.args.table.now s.args.state.now _ _ _ l.load.result s.pre.0.accepted l.load.ensures in (
+    let z = c in
+    let l = z in
+    let s = start l.before.before.before.before.before.before.before.before.before in
+    let (low, high) = next-within s.args.table.now s.args.state.now _ _ _ l.load-at.result s.requires.0.accepted l.load-at.ensures in (
       low,
       high,
       search rules,
-      ids-few s.args.table.now s.args.state.now _ _ _ l.load.result s.pre.0.accepted l.load.ensures
-          z.sizes-of.result.globals (globals z) c.before.before.survey.ensures,
+      ids-few s.args.table.now s.args.state.now _ _ _ l.load-at.result s.requires.0.accepted l.load-at.ensures
+          z.sizes_of-z.result.globals (globals z.before.before.before.before.before.before.before.before) c.survey.ensures,
     )
 
-keys-of-requires : tie.Need-keys-of-requires
+keys-of-requires : tie.Need-keys_of-requires
 keys-of-requires c κs =
-    let i = c.before.before.before.before.before in
-    let v = i.before.before.before in
-    let z = v.before.before.before.before.before.before in
-    let l = z.before in
-    let s = start l in
-    let ids = i.ids-of.ensures in
-    let sizes = z.sizes-of.ensures in (
-      rw sizes (well-formed s.args.table.now (ready-table s.pre.0)).sizes.ports,
+    let i = c in
+    let v = i in
+    let z = v in
+    let l = z in
+    let s = start l.before.before.before.before.before.before.before.before.before.before.before.before.before.before.before in
+    let ids = i.ids_of-m.ensures in
+    let sizes = z.sizes_of-z.ensures in (
+      rw sizes (well-formed s.args.table.now (ready-table s.requires.0)).sizes.ports,
       ids.fits,
       ids-ascend ids,
-      columns s.args.table.now s.args.state.now _ _ _ l.load.result s.pre.0.accepted l.load.ensures,
+      columns s.args.table.now s.args.state.now _ _ _ l.load-at.result s.requires.0.accepted l.load-at.ensures,
       search rules,
-      rw sizes (places s.args.table.now s.args.state.now _ _ _ l.load.result s.pre.0.accepted l.load.ensures
-          z.sizes-of.result.globals (globals z) v.survey.ensures ids),
-      none-global s.args.table.now s.args.state.now _ _ _ l.load.result s.pre.0.accepted l.load.ensures
-          z.sizes-of.result.globals (globals z) v.survey.ensures,
+      rw sizes (places s.args.table.now s.args.state.now _ _ _ l.load-at.result s.requires.0.accepted l.load-at.ensures
+          z.sizes_of-z.result.globals (globals z.before.before.before.before.before.before.before.before.before.before.before.before.before.before) v.survey.ensures ids),
+      none-global s.args.table.now s.args.state.now _ _ _ l.load-at.result s.requires.0.accepted l.load-at.ensures
+          z.sizes_of-z.result.globals (globals z.before.before.before.before.before.before.before.before.before.before.before.before.before.before) v.survey.ensures,
     )
 
 listed-requires : tie.Need-listed-requires
 listed-requires c κs =
-    let k = c.before.before.before.before.before in
-    let i = k.before.before.before.before.before.before in
-    let v = i.before.before.before in
-    let z = v.before.before.before.before.before.before in
-    let l = z.before in
-    let s = start l in
-    let ids = i.ids-of.ensures in (
+    let k = c in
+    let i = k in
+    let v = i in
+    let z = v in
+    let l = z in
+    let s = start l.before.before.before.before.before.before.before.before.before.before.before.before.before.before.before.before.before.before.before.before.before in
+    let ids = i.ids_of-m.ensures in (
       (
-        ready-table s.pre.0,
-        s.pre.0.starts,
-        keys-within s.args.table.now s.args.state.now _ _ _ l.load.result s.pre.0.accepted l.load.ensures
-            z.sizes-of.result.globals (globals z) v.survey.ensures ids (rw z.sizes-of.ensures at k.keys_of.ensures),
+        ready-table s.requires.0,
+        s.requires.0.starts,
+        keys-within s.args.table.now s.args.state.now _ _ _ l.load-at.result s.requires.0.accepted l.load-at.ensures
+            z.sizes_of-z.result.globals (globals z.before.before.before.before.before.before.before.before.before.before.before.before.before.before.before.before.before.before.before.before) v.survey.ensures ids (rw z.sizes_of-z.ensures at k.keys_of.ensures),
         omega arith,
         ids.fits,
         ids.size,
       ),
-      s.pre.1,
+      s.requires.1,
     )
 
 returns : tie.Need-returns
 returns c =
-    let k = c.before.before.before.before.before.before.before.before in
-    let i = k.before.before.before.before.before.before in
-    let v = i.before.before.before in
-    let z = v.before.before.before.before.before.before in
-    let l = z.before in
-    let s = start l in
-    all_listed s.args.table.now s.args.state.now _ _ _ l.load.result s.pre.0.accepted l.load.ensures
-    z.sizes-of.result.globals (globals z) v.survey.ensures i.ids-of.ensures (rw z.sizes-of.ensures at k.keys_of.ensures)
-    c.before.before.listed.ensures
+    let k = c in
+    let i = k in
+    let v = i in
+    let z = v in
+    let l = z in
+    let s = start l.before.before.before.before.before.before.before.before.before.before.before.before.before.before.before.before.before.before.before.before.before.before.before.before in
+    all_listed s.args.table.now s.args.state.now _ _ _ l.load-at.result s.requires.0.accepted l.load-at.ensures
+    z.sizes_of-z.result.globals (globals z.before.before.before.before.before.before.before.before.before.before.before.before.before.before.before.before.before.before.before.before.before.before.before) v.survey.ensures i.ids_of-m.ensures (rw z.sizes_of-z.ensures at k.keys_of.ensures)
+    c.listed.ensures
 
-pub open-moves-spec : {M : Type 1} → statement M
-open-moves-spec =
+pub open_moves_spec : {M : Type 1} → statement M
+open_moves_spec =
     tie.close
     (tie.spec
     (λ c κs. search rules)
-    (λ c κs. let s = c.before.before.before.before.before.before.before.before.before.before in (loadable _ _ s.requires.0.accepted, search rules))
+    (λ c κs. let s = c in (loadable _ _ s.requires.0.accepted, search rules))
     (λ c κs. (well-formed _ (ready-table (start c).requires.0)).sizes.long)
     survey-requires
     ids-of-requires
     keys-of-requires
     listed-requires
-    (λ c. paged-length _ 5 c.before.before.listed.ensures.paged)
+    (λ c. paged-length _ 5 c.listed.ensures.paged)
     returns)

@@ -23,7 +23,7 @@ use Rattle.listing.proofs.reactions.reactions.Tie as tie
 abbrev from : ℕ → List ℕ → ℕ → ℕ → List ℕ → ℕ → List Move
 from ceiling t n next ks r = each_up (λ r. moves_by ceiling (rule_at (table_of t) r) r n next ks) (sizes_of t).rules r
 
-abbrev Inv : tie.invariant-loop
+abbrev Inv : tie.invariant-loop-r
 Inv table starts keys counts at ceiling first count target₀ rules length₀ skip₀ done₀ r₀ target length' skip done r =
     (r ≤ (sizes_of table).rules) × (length' ≤ r * 1125899906842624)
     × Paging move_words 5 (reactions_by ceiling table at.len at.next (take at.len keys))
@@ -31,103 +31,103 @@ Inv table starts keys counts at ceiling first count target₀ rules length₀ sk
     × (length' + length (from ceiling table at.len at.next (take at.len keys) r)
     ≡ length (reactions_by ceiling table at.len at.next (take at.len keys)))
 
-abbrev μ : tie.decreases-loop
+abbrev μ : tie.decreases-loop-r
 μ table starts keys counts at ceiling first count target₀ rules length₀ skip₀ done₀ r₀ target length' skip done r = (sizes_of table).rules - r
 
-loop-holds : tie.Need-loop-init Inv μ
+loop-holds : tie.Need-loop-r-init Inv μ
 loop-holds c =
-    let a = c.before.before.before.args in
+    let a = c.args in
     let e = up_start (λ r. moves_by a.ceiling (rule_at (table_of a.table.now) r) r a.at.len a.at.next (take a.at.len a.keys.now))
     (sizes_of a.table.now).rules in
     let none = paging-start move_words 5 _ a.first a.count 0 a.target.now in
     (omega arith, omega arith, paging-pass move_words 5 move_words-length none (sym e), omega (arith, ap length e))
 
-below : (c : tie.In-loop Inv μ) → c.before.loop.r < (sizes_of c.before.before.before.before.before.args.table.now).rules
-below c = rw (← ap (λ z. z.rules) c.before.before.sizes-of.ensures) c.loop-test.true
+below : (c : tie.In-loop-r Inv μ) → c.loop-r.r < (sizes_of c.args.table.now).rules
+below c = rw (← ap (λ z. z.rules) c.sizes_of-z.ensures) c.loop-r-test.true
 
 -- no more is written than the page has
-done-le : (c : tie.In-loop Inv μ) → c.before.loop.done ≤ c.before.before.before.before.before.args.count
-done-le c = paged-le move_words 5 c.before.loop.invariant.2.paged
+done-le : (c : tie.In-loop-r Inv μ) → c.loop-r.done ≤ c.args.count
+done-le c = paged-le move_words 5 c.loop-r.invariant.2.paged
 
-moves-by-requires : tie.Need-moves-by-requires Inv μ
+moves-by-requires : tie.Need-moves_by-part-requires Inv μ
 moves-by-requires c κs =
-    let turn = c.before.before in
-    let s = turn.before.before.before.before.before in
-    let d = c.before.rule-at.ensures in
-    let same = paged-length move_words 5 turn.before.loop.invariant.2.paged in
-    let ports = small-ports d (consumed-below s.args.table.now s.requires.0.0 turn.before.loop.r (below turn)) in (
+    let turn = c in
+    let s = turn in
+    let d = c.rule_at-rule.ensures in
+    let same = paged-length move_words 5 turn.loop-r.invariant.2.paged in
+    let ports = small-ports d (consumed-below s.args.table.now s.requires.0.0 turn.loop-r.r (below turn.before.before)) in (
       (decodes-itself _ _ d, ports, s.requires.0.2, s.requires.0.3, s.requires.0.4),
-      (omega (arith, s.requires.1.0), omega (arith, s.requires.1.1, same, done-le turn)),
+      (omega (arith, s.requires.1.0), omega (arith, s.requires.1.1, same, done-le turn.before.before)),
     )
 
-add-length : tie.Need-overflow-add-length Inv μ
+add-length : tie.Need-overflow_add-length Inv μ
 add-length c =
-    let turn = c.before.before.before.before.before.before in
-    let s = turn.before.before.before.before.before in
+    let turn = c in
+    let s = turn in
     let few = (well-formed s.args.table.now s.requires.0.0).sizes.rules in
-    omega (arith, turn.before.loop.invariant.1, c.before.before.before.moves-by.ensures.1, below turn, few)
+    omega (arith, turn.loop-r.invariant.1, c.moves_by-part.ensures.1, below turn.before.before.before.before.before.before, few)
 
-add_done : tie.Need-overflow-add-done Inv μ
+add_done : tie.Need-overflow_add-done Inv μ
 add_done c =
-    let turn = c.before.before.before.before.before.before.before.before in
-    let s = turn.before.before.before.before.before in
-    omega (arith, paged-le move_words 5 c.before.before.before.before.before.moves-by.ensures.0.paged, done-le turn, s.requires.1.0)
+    let turn = c in
+    let s = turn in
+    omega (arith, paged-le move_words 5 c.moves_by-part.ensures.0.paged, done-le turn.before.before.before.before.before.before.before.before, s.requires.1.0)
 
-loop-again : tie.Need-loop-preserved Inv μ
+loop-again : tie.Need-loop-r-preserved Inv μ
 loop-again c =
-    let made = c.before.before.before.before.before in
-    let turn = made.before.before.before in
-    let s = turn.before.before.before.before.before in
+    let made = c in
+    let turn = made in
+    let s = turn in
     let a = s.args in
-    let l = turn.before.loop in
-    let part = part-of-rule made.before.before.rule-at.ensures a.ceiling l.r a.at.len a.at.next (take a.at.len a.keys.now)
-    made.moves-by.ensures.0 in
+    let l = turn.loop-r in
+    let part = part-of-rule made.rule_at-rule.ensures a.ceiling l.r a.at.len a.at.next (take a.at.len a.keys.now)
+    made.moves_by-part.ensures.0 in
     let next = up-here (λ r. moves_by a.ceiling (rule_at (table_of a.table.now) r) r a.at.len a.at.next (take a.at.len a.keys.now))
-    (sizes_of a.table.now).rules l.r (below turn) in
+    (sizes_of a.table.now).rules l.r (below turn.before.before.before.before.before.before.before.before) in
     let more = paging-more move_words 5 move_words-length l.invariant.2 _ _ _ _ next (from_zero l.done part.paged) in (
-      omega (arith, below turn),
-      omega (arith, l.invariant.1, made.moves-by.ensures.1),
-      rw (c.before.less.ensures.0, part.total) more,
+      omega (arith, below turn.before.before.before.before.before.before.before.before),
+      omega (arith, l.invariant.1, made.moves_by-part.ensures.1),
+      rw (c.less-skip.ensures.0, part.total) more,
       more-length (reactions_by a.ceiling a.table.now a.at.len a.at.next (take a.at.len a.keys.now))
           (from a.ceiling a.table.now a.at.len a.at.next (take a.at.len a.keys.now) l.r)
           (moves_by a.ceiling (rule_at (table_of a.table.now) l.r) l.r a.at.len a.at.next (take a.at.len a.keys.now))
           (from a.ceiling a.table.now a.at.len a.at.next (take a.at.len a.keys.now) (l.r + 1)) l.length
-          made.moves-by.result.length l.invariant.3 next part.total,
+          made.moves_by-part.result.length l.invariant.3 next part.total,
     )
 
 returns : tie.Need-returns Inv μ
 returns c =
-    let s = c.before.before.before.before.before in
+    let s = c in
     let a = s.args in
-    let l = c.before.loop in
-    let z = ap (λ z. z.rules) c.before.before.sizes-of.ensures in
+    let l = c.loop-r in
+    let z = ap (λ z. z.rules) c.sizes_of-z.ensures in
     let few = (well-formed a.table.now s.requires.0.0).sizes.rules in
     let none = up-end (λ r. moves_by a.ceiling (rule_at (table_of a.table.now) r) r a.at.len a.at.next (take a.at.len a.keys.now))
-    (sizes_of a.table.now).rules l.r (rw (← z) c.loop-test.false) in (
+    (sizes_of a.table.now).rules l.r (rw (← z) c.loop-r-test.false) in (
       record { total = omega (arith, l.invariant.3, ap length none); paged = paging-end move_words 5 move_words-length l.invariant.2 none },
       omega (arith, l.invariant.1, l.invariant.0, few),
     )
 
-pub reactions-spec : {M : Type 1} → statement M
-reactions-spec =
+pub reactions_spec : {M : Type 1} → statement M
+reactions_spec =
     tie.close
     (tie.spec
     Inv
     μ
-    (λ c κs. (well-formed _ c.before.before.requires.0.0).sizes.long)
+    (λ c κs. (well-formed _ c.requires.0.0).sizes.long)
     loop-holds
-    (λ c κs. let s = c.before.before.before.before.before in (s.requires.0.0, below c, s.requires.0.1))
+    (λ c κs. let s = c in (s.requires.0.0, below c, s.requires.0.1))
     (λ c. omega (arith, done-le c.before))
-    (λ c. omega (arith, done-le c.before.before, c.before.before.before.before.before.before.before.requires.1.0))
+    (λ c. omega (arith, done-le c.before.before, c.requires.1.0))
     moves-by-requires
     add-length
     (λ c κs. search rules)
     add_done
     (λ c.
-    let turn = c.before.before.before.before.before.before.before.before in
-    let s = turn.before.before.before.before.before in
-    omega (arith, below turn, (well-formed s.args.table.now s.requires.0.0).sizes.rules))
+    let turn = c in
+    let s = turn in
+    omega (arith, below turn.before.before.before.before.before.before.before.before, (well-formed s.args.table.now s.requires.0.0).sizes.rules))
     (λ c. omega (arith, below c.before.before.before.before.before.before.before.before))
     loop-again
-    (λ c. paged-length move_words 5 c.before.loop.invariant.2.paged)
+    (λ c. paged-length move_words 5 c.loop-r.invariant.2.paged)
     returns)

@@ -11,40 +11,40 @@ use Rattle.listing.proofs.tail.tail.Statement.{statement}
 use Rattle.listing.proofs.tail.tail.Tie as tie
 
 -- the commits are on the page
-few : (c : tie.After-ends) → c.ends.result.written ≤ c.before.before.before.args.count
-few c = paged-le _ 5 c.ends.ensures.0.paged
+few : (c : tie.After-ends-commits) → c.ends-commits.result.written ≤ c.args.count
+few c = paged-le _ 5 c.ends-commits.ensures.0.paged
 
-ends-requires-2 : tie.Need-ends-requires-2
+ends-requires-2 : tie.Need-ends-aborts-requires
 ends-requires-2 c κs =
-    let e = c.before.before.before.before.before.before in
-    let p = e.before.before.before.requires in
-    let same = paged-length _ 5 e.ends.ensures.0.paged in
-    ((p.0.0, p.0.1, omega arith), (omega (arith, p.1.0), omega (arith, p.1.2, same, few e)))
+    let e = c in
+    let p = e.requires in
+    let same = paged-length _ 5 e.ends-commits.ensures.0.paged in
+    ((p.0.0, p.0.1, omega arith), (omega (arith, p.1.0), omega (arith, p.1.2, same, few e.before.before.before.before.before.before)))
 
-add-t16 : tie.Need-overflow-add-t16
+add-t16 : tie.Need-overflow_add-result-2
 add-t16 c =
-    let e = c.before.before.before.before.before.before.before.before.before.before.before.before.before in
-    omega (arith, few e, paged-le _ 5 c.before.before.before.before.before.before.ends2.ensures.0.paged, e.before.before.before.requires.1.0)
+    let e = c in
+    omega (arith, few e.before.before.before.before.before.before.before.before.before.before.before.before.before, paged-le _ 5 c.ends-aborts.ensures.0.paged, e.requires.1.0)
 
 returns : tie.Need-returns
 returns c =
-    let e = c.before.before.before.before.before.before.before.before.before.before.before.before.before in
-    let f = c.before.before.before.before.before.before in
-    let first = part-map commit move_words e.ends.ensures.0 in
-    let second = rw f.before.before.before.before.less.ensures.0 at f.ends2.ensures.0 in (
-      part-append move_words move_words-length _ _ e.ends.result f.ends2.result first (part-map abort move_words second),
-      omega (arith, e.ends.ensures.1, f.ends2.ensures.1),
+    let e = c in
+    let f = c in
+    let first = part-map commit move_words e.ends-commits.ensures.0 in
+    let second = rw f.less-rest.ensures.0 at f.ends-aborts.ensures.0 in (
+      part-append move_words move_words-length _ _ e.ends-commits.result f.ends-aborts.result first (part-map abort move_words second),
+      omega (arith, e.ends-commits.ensures.1, f.ends-aborts.ensures.1),
     )
 
-pub tail-spec : {M : Type 1} → statement M
-tail-spec =
+pub tail_spec : {M : Type 1} → statement M
+tail_spec =
     tie.close
     (tie.spec
     (λ c κs. search rules)
     (λ c κs. search rules)
     (λ c. omega (arith, few c.before.before.before.before))
-    (λ c. let e = c.before.before.before.before.before in omega (arith, few e, e.before.before.before.requires.1.0))
-    (λ c. let e = c.before.before.before.before.before in omega (arith, few e, e.before.before.before.requires.1))
+    (λ c. let e = c in omega (arith, few e.before.before.before.before.before, e.requires.1.0))
+    (λ c. let e = c in omega (arith, few e.before.before.before.before.before, e.requires.1))
     ends-requires-2
     (λ c. search rules)
     add-t16
