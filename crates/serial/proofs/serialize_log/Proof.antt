@@ -8,10 +8,10 @@ use Rattle.serial.proofs.serialize_log.Tie as tie
 
 serialized-requires : tie.Need-serialized-requires
 serialized-requires c κs =
-    let counted = c.before.before.before.before in
+    let counted = c in
     let n = counted.count_of.ensures.0 in
-    let short = c.before.before.before.if1.true in (
-      counted.before.before.before.before.before.requires,
+    let short = c.if-count_of-le128.true in (
+      counted.requires,
       record {
         notes = omega (arith, n, short, length-replicate {A = ℕ} 512 0);
         words = omega (arith, n, short, length-replicate {A = ℕ} 641 0);
@@ -20,9 +20,9 @@ serialized-requires c κs =
 
 serialized-requires-2 : tie.Need-serialized-requires-2
 serialized-requires-2 c κs =
-    let counted = c.before.before.before.before in
+    let counted = c in
     let n = counted.count_of.ensures.0 in
-    let p = counted.before.before.before.before.before.requires in
+    let p = counted.requires in
     let few = (log-sized _ p.sizes).few in (
       p,
       record {
@@ -31,8 +31,8 @@ serialized-requires-2 c κs =
       },
     )
 
-pub serialize-log-spec : {M : Type 1} → statement M
-serialize-log-spec =
+pub serialize_log_spec : {M : Type 1} → statement M
+serialize_log_spec =
     tie.close
     (tie.spec (λ c κs. search rules) (λ c. search rules) (λ c. search rules) serialized-requires (λ c. search rules) (λ c. search rules)
     (λ c. search rules) (λ c. search rules) serialized-requires-2 (λ c. search rules) (λ c. search rules))

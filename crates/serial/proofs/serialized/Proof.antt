@@ -6,61 +6,61 @@ use Rattle.serial.proofs.FirstPass.{recordable, record-room, ran-refused, ran_op
 use Rattle.serial.proofs.serialized.Statement.{statement}
 use Rattle.serial.proofs.serialized.Tie as tie
 
-load-requires : tie.Need-load-requires
+load-requires : tie.Need-load-at-requires
 load-requires c κs = (
-  loadable _ _ c.before.before.before.before.before.before.before.before.before.before.before.before.before.requires.0.state,
+  loadable _ _ c.requires.0.state,
   search rules,
 )
 
-record-requires : tie.Need-record-requires
+record-requires : tie.Need-record-ran-requires
 record-requires c κs =
-    let loaded = c.before.before.before.before.before.before.before in
-    let p = loaded.before.before.before.before.before.before.before.before.before.before.before.before.before.before.requires in
-    (recordable _ _ _ _ _ p.0 loaded.load.ensures, record-room _ _ _ p.1)
+    let loaded = c in
+    let p = loaded.requires in
+    (recordable _ _ _ _ _ p.0 loaded.load-at.ensures, record-room _ _ _ p.1)
 
-returns : tie.Need-returns
+returns : tie.Need-returns-in-Denied
 returns c =
-    let ran = c.before.before.before.before.before in
-    let loaded = ran.before.before.before.before.before.before.before.before in
-    let p = loaded.before.before.before.before.before.before.before.before.before.before.before.before.before.before.requires in
-    ran-refused _ _ _ _ _ p.0 loaded.load.ensures ran.«record».ensures.0 c.before.verdict.given.1
+    let ran = c in
+    let loaded = ran in
+    let p = loaded.requires in
+    ran-refused _ _ _ _ _ p.0 loaded.load-at.ensures ran.record-ran.ensures.0 c.in-Denied.is
 
-any-owned-requires : tie.Need-any-owned-requires
+any-owned-requires : tie.Need-any_owned-requires
 any-owned-requires c κs =
-    let w = c.before.before.before.before.before.«record».ensures.0.ran.workable in
+    let w = c.record-ran.ensures.0.ran.workable in
     omega (arith, w.bounds.fits, w.arrays.owners)
 
-returns-2 : tie.Need-returns-2
+returns-2 : tie.Need-returns-then-any_owned
 returns-2 c =
-    let ran = c.before.before.before.before.before.before.before in
-    let loaded = ran.before.before.before.before.before.before.before.before in
-    let p = loaded.before.before.before.before.before.before.before.before.before.before.before.before.before.before.requires in
-    ran_open _ _ _ _ _ p.0 loaded.load.ensures ran.«record».ensures.0 c.before.before.before.enum_told.given.1
-    c.before.any-owned.ensures c.if1.true
+    let ran = c in
+    let loaded = ran in
+    let p = loaded.requires in
+    ran_open _ _ _ _ _ p.0 loaded.load-at.ensures ran.record-ran.ensures.0 c.in_default.is
+    c.any_owned.ensures c.if-any_owned.true
 
 reordered-requires : tie.Need-reordered-requires
 reordered-requires c κs =
-    let tested = c.before.before.before.before.before.before.before.before in
-    let ran = tested.before.before.before.before.before.before.before in
-    let loaded = ran.before.before.before.before.before.before.before.before in
-    let p = loaded.before.before.before.before.before.before.before.before.before.before.before.before.before.before.requires in (
-      reorder-asked _ _ _ _ _ p.0 loaded.load.ensures ran.«record».ensures.0 tested.before.before.before.enum_told.given.1
-          tested.before.any-owned.ensures tested.if1.false refl ran.«record».ensures.1,
-      ran.«record».ensures.0.ran.workable.arrays,
+    let tested = c in
+    let ran = tested in
+    let loaded = ran in
+    let p = loaded.requires in (
+      reorder-asked _ _ _ _ _ p.0 loaded.load-at.ensures ran.record-ran.ensures.0 tested.in_default.is
+          tested.any_owned.ensures tested.if-any_owned.false refl ran.record-ran.ensures.1,
+      ran.record-ran.ensures.0.ran.workable.arrays,
       p.1.words,
     )
 
-returns-3 : tie.Need-returns-3
+returns-3 : tie.Need-returns
 returns-3 c =
-    let tested = c.before.before.before.before.before.before.before.before.before.before.before.before.before in
-    let ran = tested.before.before.before.before.before.before.before in
-    let loaded = ran.before.before.before.before.before.before.before.before in
-    let p = loaded.before.before.before.before.before.before.before.before.before.before.before.before.before.before.requires in
-    ran-closed _ _ _ _ _ p.0 loaded.load.ensures ran.«record».ensures.0 tested.before.before.before.enum_told.given.1
-    tested.before.any-owned.ensures tested.if1.false c.before.before.before.before.reordered.ensures
+    let tested = c in
+    let ran = tested in
+    let loaded = ran in
+    let p = loaded.requires in
+    ran-closed _ _ _ _ _ p.0 loaded.load-at.ensures ran.record-ran.ensures.0 tested.in_default.is
+    tested.any_owned.ensures tested.if-any_owned.false c.reordered.ensures
 
-pub serialized-spec : {M : Type 1} → statement M
-serialized-spec =
+pub serialized_spec : {M : Type 1} → statement M
+serialized_spec =
     tie.close
     (tie.spec (λ c κs. search rules) load-requires record-requires (λ c. search rules) (λ c. search rules) returns (λ c. search rules)
     (λ c. search rules) any-owned-requires (λ c. search rules) returns-2 reordered-requires (λ c. search rules) (λ c. search rules)

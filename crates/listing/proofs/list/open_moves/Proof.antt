@@ -25,8 +25,8 @@ survey-requires c κs =
     (c, zeros-empty, zeros-empty, zeros-empty)
 
 -- the globals handed on are the table's
-globals : (c : tie.After-sizes_of-z) → c.sizes_of.result.globals ≡ (sizes_of (start c.before).args.table.now).globals
-globals c = ap (λ z. z.globals) c.sizes_of.ensures
+globals : (c : tie.After-sizes_of-z) → c.sizes_of-z.result.globals ≡ (sizes_of (start c.before).args.table.now).globals
+globals c = ap (λ z. z.globals) c.sizes_of-z.ensures
 
 ids-of-requires : tie.Need-ids_of-m-requires
 ids-of-requires c κs =

@@ -10,15 +10,15 @@ use Rattle.next_move.proofs.Firsts.{of-class, first-class}
 use Rattle.next_move.proofs.reactions.choice_by.Statement.{statement}
 use Rattle.next_move.proofs.reactions.choice_by.Tie as tie
 
-first-grouped-requires : tie.Need-first-grouped-requires
+first-grouped-requires : tie.Need-first_grouped-requires
 first-grouped-requires c κs =
-    let s = c.before.before.before.before.before.before in
+    let s = c in
     let a = s.args in
     let f = s.requires.0 in
     let k = s.requires.2 in
     let R = rule_of a.z a.ws.now in
-    let (are, small) = c.before.before.before.ports-of.ensures in
-    let local : R.class ≡ 1 = first-class a.z a.ws.now c.before.before.before.before.rule-class.ensures ∙ c.before.before.if1.true in (
+    let (are, small) = c.ports_of-takes.ensures in
+    let local : R.class ≡ 1 = first-class a.z a.ws.now c.rule_class-class.ensures ∙ c.if-class-eq1.true in (
       record {
         columns = k.columns;
         narrow = k.narrow;
@@ -35,42 +35,42 @@ first-grouped-requires c κs =
       s.requires.3,
     )
 
-returns : tie.Need-returns
+returns : tie.Need-returns-then-class-eq1
 returns c =
-    let s = c.before.before.before.before.before.before.before in
+    let s = c in
     let a = s.args in
     let f = s.requires.0 in
     let R = rule_of a.z a.ws.now in
     let ks = column_keys a.z a.stopped.now a.owners.now a.items.now a.at.len in
     let local : R.class ≡ 1 =
-    first-class a.z a.ws.now c.before.before.before.before.before.rule-class.ensures ∙ c.before.before.before.if1.true in (
-      c.first-grouped.ensures.0 ∙ ap first_choice (grouped-choices R ks local (c.before.before.before.before.ports-of.ensures.0 ∙ sym f.ports)),
-      c.first-grouped.ensures.1,
+    first-class a.z a.ws.now c.rule_class-class.ensures ∙ c.if-class-eq1.true in (
+      c.first_grouped.ensures.0 ∙ ap first_choice (grouped-choices R ks local (c.ports_of-takes.ensures.0 ∙ sym f.ports)),
+      c.first_grouped.ensures.1,
     )
 
-returns-2 : tie.Need-returns-2
+returns-2 : tie.Need-returns
 returns-2 c =
-    let s = c.before.before.before.before.before.before in
+    let s = c in
     let a = s.args in
     let f = s.requires.0 in
     let R = rule_of a.z a.ws.now in
     let ks = column_keys a.z a.stopped.now a.owners.now a.items.now a.at.len in
-    let same = first-class a.z a.ws.now c.before.before.before.before.rule-class.ensures in
-    let are = c.before.before.before.ports-of.ensures.0 ∙ sym f.ports in
-    let classes : AllOfClass a.z c.before.before.before.before.rule-class.result c.before.before.before.ports-of.result a.k =
+    let same = first-class a.z a.ws.now c.rule_class-class.ensures in
+    let are = c.ports_of-takes.ensures.0 ∙ sym f.ports in
+    let classes : AllOfClass a.z c.rule_class-class.result c.ports_of-takes.result a.k =
     rw same at (of-class a.z R _ a.k are f.count s.requires.1) in (
-      c.first_plain.ensures a.z classes c.before.before.if1.false
-          ∙ ap first_choice (plain-choices R ks (λ e. c.before.before.if1.false (sym same ∙ e)) are),
+      c.first_plain.ensures a.z classes c.if-class-eq1.false
+          ∙ ap first_choice (plain-choices R ks (λ e. c.if-class-eq1.false (sym same ∙ e)) are),
       s.requires.3,
     )
 
-pub choice-by-spec : {M : Type 1} → statement M
-choice-by-spec =
+pub choice_by_spec : {M : Type 1} → statement M
+choice_by_spec =
     tie.close
     (tie.spec
     (λ c κs. search rules)
-    (λ c κs. let s = c.before.before in (s.requires.0.most, s.requires.0.within))
+    (λ c κs. let s = c in (s.requires.0.most, s.requires.0.within))
     first-grouped-requires
     returns
-    (λ c κs. let s = c.before.before.before.before.before in (s.requires.2.columns, s.requires.2.narrow, s.requires.0.most, search rules))
+    (λ c κs. let s = c in (s.requires.2.columns, s.requires.2.narrow, s.requires.0.most, search rules))
     returns-2)

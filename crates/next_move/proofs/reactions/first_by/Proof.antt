@@ -9,39 +9,39 @@ use borrow.Author.Rules.{rules}
 use Rattle.next_move.proofs.reactions.first_by.Statement.{statement}
 use Rattle.next_move.proofs.reactions.first_by.Tie as tie
 
-returns : tie.Need-returns
+returns : tie.Need-returns-then-not-has_room
 returns c =
-    let s = c.before.before.before.before.before in
+    let s = c in
     let a = s.args in
-    let w = words-consumed a.z a.ws.now s.requires.0 c.before.before.before.consumes-of.ensures in
+    let w = words-consumed a.z a.ws.now s.requires.0 c.consumes_of-k.ensures in
     let room = room-is a.z a.ws.now w a.ceiling a.at.len a.at.next in
-    (c.none.ensures ∙ rule-shut a.r _ (room ∙ sym c.before.before.has_room.ensures ∙ not-true _ c.before.if1.true), s.requires.3)
+    (c.none.ensures ∙ rule-shut a.r _ (room ∙ sym c.has_room.ensures ∙ not-true _ c.if-not-has_room.true-raw), s.requires.3)
 
-returns-2 : tie.Need-returns-2
+returns-2 : tie.Need-returns
 returns-2 c =
-    let s = c.before.before.before.before.before.before.before in
+    let s = c in
     let a = s.args in
-    let w = words-consumed a.z a.ws.now s.requires.0 c.before.before.before.before.before.consumes-of.ensures in
+    let w = words-consumed a.z a.ws.now s.requires.0 c.consumes_of-k.ensures in
     let room = room-is a.z a.ws.now w a.ceiling a.at.len a.at.next in
     let cs = choices_of (rule_of a.z a.ws.now) (column_keys a.z a.stopped.now a.owners.now a.items.now a.at.len) in (
-      rule-open a.r cs (room ∙ sym c.before.before.before.before.has_room.ensures ∙ not-false _ c.before.before.before.if1.false)
-          (c.reaction-by.ensures cs c.before.choice-by.ensures.0),
-      c.before.choice-by.ensures.1,
+      rule-open a.r cs (room ∙ sym c.has_room.ensures ∙ not-false _ c.if-not-has_room.false-raw)
+          (c.reaction_by.ensures cs c.choice_by.ensures.0),
+      c.choice_by.ensures.1,
     )
 
-pub first-by-spec : {M : Type 1} → statement M
-first-by-spec =
+pub first_by_spec : {M : Type 1} → statement M
+first_by_spec =
     tie.close
     (tie.spec
     (λ c κs. search rules)
     (λ c κs.
-    let s = c.before.before in
-    let w = words-consumed s.args.z s.args.ws.now s.requires.0 c.consumes-of.ensures in
+    let s = c in
+    let w = words-consumed s.args.z s.args.ws.now s.requires.0 c.consumes_of-k.ensures in
     (w.most, s.requires.0.few, s.requires.2.columns.fits, s.requires.5))
     (λ c κs. search rules)
     returns
     (λ c κs.
-    let s = c.before.before.before.before.before in
-    (words-consumed s.args.z s.args.ws.now s.requires.0 c.before.before.before.consumes-of.ensures, s.requires.1, s.requires.2, s.requires.3))
-    (λ c κs. c.before.before.before.before.before.before.requires.4)
+    let s = c in
+    (words-consumed s.args.z s.args.ws.now s.requires.0 c.consumes_of-k.ensures, s.requires.1, s.requires.2, s.requires.3))
+    (λ c κs. c.requires.4)
     returns-2)

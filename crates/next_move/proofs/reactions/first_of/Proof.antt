@@ -19,9 +19,9 @@ use borrow.Author.Rules.{rules}
 use Rattle.next_move.proofs.reactions.first_of.Statement.{statement}
 use Rattle.next_move.proofs.reactions.first_of.Tie as tie
 
-returns : tie.Need-returns
+returns : tie.Need-returns-then-lacks
 returns c =
-    let s = c.before.before.before.before in
+    let s = c in
     let a = s.args in
     let p = s.requires.0 in
     let z = sizes_of a.table.now in
@@ -31,35 +31,35 @@ returns c =
       c.none.ensures
           ∙ rule-lacks a.r (has_room_for a.ceiling R a.at.len a.at.next)
           (lacking-none ks a.totals.now counts R (get_or a.wants.now a.r 0) (p.wants-are.each a.r s.requires.1)
-          (sym c.before.before.lacks.ensures ∙ c.before.if1.true)),
+          (sym c.lacks.ensures ∙ c.if-lacks.true)),
       s.requires.2,
     )
 
-returns-2 : tie.Need-returns-2
+returns-2 : tie.Need-returns
 returns-2 c =
-    let s = c.before.before.before.before.before.before.before.before in
+    let s = c in
     let a = s.args in
     let p = s.requires.0.indexed in
     let R = rule_at (table_of a.table.now) a.r in
-    let sized = c.before.before.before.before.sizes-of in
+    let sized = c.sizes_of-z in
     let ks : Sizes → List ℕ = λ z. column_keys z a.stopped.now a.owners.now a.items.now a.at.len in
-    let same = cut-rule a.table.now a.starts.now a.r p.table s.requires.1 p.starts c.before.before.before.atom-words-of.ensures
-    sized.ensures c.before.before.rule-words.ensures in (
+    let same = cut-rule a.table.now a.starts.now a.r p.table s.requires.1 p.starts c.atom_words_of.ensures
+    sized.ensures c.rule_words-ws.ensures in (
       c.first_by.ensures.0
           ∙ ap (λ R. first_move (moves_by a.ceiling R a.r a.at.len a.at.next (ks sized.result))) same
           ∙ ap (λ z. first_move (moves_by a.ceiling R a.r a.at.len a.at.next (ks z))) sized.ensures,
       c.first_by.ensures.1,
     )
 
-first-by-requires : tie.Need-first-by-requires
+first-by-requires : tie.Need-first_by-requires
 first-by-requires c κs =
-    let s = c.before.before.before.before.before.before.before in
+    let s = c in
     let a = s.args in
     let p = s.requires.0.indexed in
     let few = (well-formed a.table.now p.table).sizes.rules in
-    let words = c.before.before.atom-words-of.ensures in
-    let sizes = c.before.before.before.sizes-of.ensures in
-    let cut = c.before.rule-words.ensures in
+    let words = c.atom_words_of.ensures in
+    let sizes = c.sizes_of-z.ensures in
+    let cut = c.rule_words-ws.ensures in
     let same = cut-rule a.table.now a.starts.now a.r p.table s.requires.1 p.starts words sizes cut in (
       cut_fits a.table.now a.starts.now a.r p.table s.requires.1 p.starts words sizes cut,
       rw (same, sizes) (consumed-ports a.table.now p.table a.r s.requires.1),
@@ -69,17 +69,17 @@ first-by-requires c κs =
       s.requires.0.limit,
     )
 
-pub first-of-spec : {M : Type 1} → statement M
-first-of-spec =
+pub first_of_spec : {M : Type 1} → statement M
+first_of_spec =
     tie.close
     (tie.spec
-    (λ c κs. let p = c.before.requires in
-    (omega (arith, p.1, (well-formed c.before.args.table.now p.0.indexed.table).sizes.rules), p.0.wants-are.size, (p.0.supply []).size))
+    (λ c κs. let p = c.requires in
+    (omega (arith, p.1, (well-formed c.args.table.now p.0.indexed.table).sizes.rules), p.0.wants-are.size, (p.0.supply []).size))
     (λ c κs. search rules)
     returns
-    (λ c κs. let p = c.before.before.before.requires in (well-formed _ p.0.indexed.table).sizes.long)
-    (λ c κs. let p = c.before.before.before.before.requires in (well-formed _ p.0.indexed.table).sizes)
-    (λ c κs. let p = c.before.before.before.before.before.requires in
-    rule-within _ _ _ p.0.indexed.table p.1 p.0.indexed.starts c.atom-words-of.ensures)
+    (λ c κs. let p = c.requires in (well-formed _ p.0.indexed.table).sizes.long)
+    (λ c κs. let p = c.requires in (well-formed _ p.0.indexed.table).sizes)
+    (λ c κs. let p = c.requires in
+    rule-within _ _ _ p.0.indexed.table p.1 p.0.indexed.starts c.atom_words_of.ensures)
     first-by-requires
     returns-2)

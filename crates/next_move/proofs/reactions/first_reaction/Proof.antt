@@ -25,17 +25,17 @@ by ceiling t n next ks r = moves_by ceiling (rule_at (table_of t) r) r n next ks
 abbrev from : ℕ → List ℕ → ℕ → ℕ → List ℕ → ℕ → List Move
 from ceiling t n next ks r = each_up (by ceiling t n next ks) (sizes_of t).rules r
 
-abbrev Inv : tie.invariant-loop
+abbrev Inv : tie.invariant-loop-r
 Inv table starts wants owners items at stopped totals ceiling keys₀ rules r₀ keys r =
     (first_move (from ceiling table at.len at.next (column_keys (sizes_of table) stopped owners items at.len) r)
     ≡ first_move (reactions_by ceiling table at.len at.next (column_keys (sizes_of table) stopped owners items at.len)))
     × (r ≤ (sizes_of table).rules) × (length keys ≡ 1024)
 
-abbrev μ : tie.decreases-loop
+abbrev μ : tie.decreases-loop-r
 μ table starts wants owners items at stopped totals ceiling keys₀ rules r₀ keys r = (sizes_of table).rules - r
 
-below : (c : tie.In-loop Inv μ) → c.before.loop.r < (sizes_of c.before.before.before.before.args.table.now).rules
-below c = rw (← ap (λ z. z.rules) c.before.before.sizes-of.ensures) c.loop-test.true
+below : (c : tie.In-loop-r Inv μ) → c.loop-r.r < (sizes_of c.args.table.now).rules
+below c = rw (← ap (λ z. z.rules) c.sizes_of-rules.ensures) c.loop-r-test.true
 
 -- what each rule has, of the columns handed in
 abbrev rules_of : tie.Start Inv μ → ℕ → List Move
@@ -44,64 +44,64 @@ rules_of s =
     by a.ceiling a.table.now a.at.len a.at.next
     (column_keys (sizes_of a.table.now) a.stopped.now a.owners.now a.items.now a.at.len)
 
-loop-holds : tie.Need-loop-init Inv μ
+loop-holds : tie.Need-loop-r-init Inv μ
 loop-holds c =
-    let s = c.before.before in
-    (ap first_move (up_start (rules_of s) (sizes_of s.args.table.now).rules), omega arith, s.requires.1)
+    let s = c in
+    (ap first_move (up_start (rules_of s.before.before) (sizes_of s.args.table.now).rules), omega arith, s.requires.1)
 
-returns : tie.Need-returns Inv μ
+returns : tie.Need-returns-then-first Inv μ
 returns c =
-    let turn = c.before.before.before.before in
-    let l = turn.before.loop in
-    let s = turn.before.before.before.before in
+    let turn = c in
+    let l = turn.loop-r in
+    let s = turn in
     let a = s.args in
-    let f = rules_of s in
-    let (e, long) = c.before.before.first-of.ensures in
-    let found : (first_move (f l.r)).found ≡ true = sym (ap (λ (x : First). x.found) e) ∙ c.before.if1.true in (
-      c.handed-on.ensures ∙ e ∙ first-here (f l.r) (each_up f (sizes_of a.table.now).rules (l.r + 1)) found
-          ∙ sym (ap first_move (up-here f (sizes_of a.table.now).rules l.r (below turn))) ∙ l.invariant.0,
+    let f = rules_of s.before.before.before.before.before.before.before.before in
+    let (e, long) = c.first_of-first.ensures in
+    let found : (first_move (f l.r)).found ≡ true = sym (ap (λ (x : First). x.found) e) ∙ c.if-first.true in (
+      c.handed_on.ensures ∙ e ∙ first-here (f l.r) (each_up f (sizes_of a.table.now).rules (l.r + 1)) found
+          ∙ sym (ap first_move (up-here f (sizes_of a.table.now).rules l.r (below turn.before.before.before.before))) ∙ l.invariant.0,
       long,
     )
 
-loop-again : tie.Need-loop-preserved Inv μ
+loop-again : tie.Need-loop-r-preserved Inv μ
 loop-again c =
-    let turn = c.before.before.before in
-    let l = turn.before.loop in
-    let s = turn.before.before.before.before in
+    let turn = c in
+    let l = turn.loop-r in
+    let s = turn in
     let a = s.args in
-    let f = rules_of s in
-    let (e, long) = c.before.first-of.ensures in
-    let none : (first_move (f l.r)).found ≡ false = sym (ap (λ (x : First). x.found) e) ∙ c.if1.false in (
+    let f = rules_of s.before.before.before.before.before.before.before in
+    let (e, long) = c.first_of-first.ensures in
+    let none : (first_move (f l.r)).found ≡ false = sym (ap (λ (x : First). x.found) e) ∙ c.if-first.false in (
       first-behind (f l.r) (each_up f (sizes_of a.table.now).rules (l.r + 1)) none
-          ∙ sym (ap first_move (up-here f (sizes_of a.table.now).rules l.r (below turn))) ∙ l.invariant.0,
-      omega (arith, below turn),
+          ∙ sym (ap first_move (up-here f (sizes_of a.table.now).rules l.r (below turn.before.before.before))) ∙ l.invariant.0,
+      omega (arith, below turn.before.before.before),
       long,
     )
 
-returns-2 : tie.Need-returns-2 Inv μ
+returns-2 : tie.Need-returns Inv μ
 returns-2 c =
-    let l = c.before.before.loop in
-    let s = c.before.before.before.before.before in
+    let l = c.loop-r in
+    let s = c in
     let rules = (sizes_of s.args.table.now).rules in
-    let z = ap (λ z. z.rules) c.before.before.before.sizes-of.ensures in
-    (c.none.ensures ∙ sym (ap first_move (up-end (rules_of s) rules l.r (rw (← z) c.before.loop-test.false))) ∙ l.invariant.0, l.invariant.2)
+    let z = ap (λ z. z.rules) c.sizes_of-rules.ensures in
+    (c.none.ensures ∙ sym (ap first_move (up-end (rules_of s.before.before.before.before.before) rules l.r (rw (← z) c.loop-r-test.false))) ∙ l.invariant.0, l.invariant.2)
 
-pub first-reaction-spec : {M : Type 1} → statement M
-first-reaction-spec =
+pub first_reaction_spec : {M : Type 1} → statement M
+first_reaction_spec =
     tie.close
     (tie.spec
     Inv
     μ
-    (λ c κs. (well-formed _ c.before.requires.0.indexed.table).sizes.long)
+    (λ c κs. (well-formed _ c.requires.0.indexed.table).sizes.long)
     loop-holds
     (λ c κs.
-    (c.before.before.before.before.before.requires.0, below c.before, c.before.before.loop.invariant.2))
-    (λ c κs. c.if1.true)
+    (c.requires.0, below c.before, c.loop-r.invariant.2))
+    (λ c κs. c.if-first.true)
     returns
     (λ c.
-    let turn = c.before.before.before in
-    let s = turn.before.before.before.before in
-    omega (arith, below turn, (well-formed s.args.table.now s.requires.0.indexed.table).sizes.rules))
+    let turn = c in
+    let s = turn in
+    omega (arith, below turn.before.before.before, (well-formed s.args.table.now s.requires.0.indexed.table).sizes.rules))
     (λ c. omega (arith, below c.before.before.before))
     loop-again
     (λ c κs. search rules)

@@ -6,8 +6,8 @@ use Rattle.next_move.proofs.reactions.handed_on.Tie as tie
 
 returns : tie.Need-returns
 returns c =
-    let s = c.before.before in
+    let s = c in
     ap {B = First} (λ b. record { found = b; mv = s.args.first.mv }) (sym s.requires)
 
-pub handed_on-spec : {M : Type 1} → statement M
-handed_on-spec = tie.close (tie.spec returns)
+pub handed_on_spec : {M : Type 1} → statement M
+handed_on_spec = tie.close (tie.spec returns)

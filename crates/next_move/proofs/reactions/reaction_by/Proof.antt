@@ -7,15 +7,15 @@ use borrow.Author.Rules.{rules}
 use Rattle.next_move.proofs.reactions.reaction_by.Statement.{statement}
 use Rattle.next_move.proofs.reactions.reaction_by.Tie as tie
 
-returns : tie.Need-returns
+returns : tie.Need-returns-then-not-choice
 returns c =
-    let a = c.before.before.before.args in
-    λ cs e. c.none.ensures ∙ choice-none a.r cs (sym (ap (λ (x : Choice). x.found) e) ∙ not-true _ c.before.if1.true)
+    let a = c.args in
+    λ cs e. c.none.ensures ∙ choice-none a.r cs (sym (ap (λ (x : Choice). x.found) e) ∙ not-true _ c.if-not-choice.true)
 
-returns-2 : tie.Need-returns-2
+returns-2 : tie.Need-returns
 returns-2 c =
-    let a = c.before.before.before.args in
-    λ cs e. rw e (choice-found a.r cs (sym (ap (λ (x : Choice). x.found) e) ∙ not-false _ c.before.if1.false))
+    let a = c.args in
+    λ cs e. rw e (choice-found a.r cs (sym (ap (λ (x : Choice). x.found) e) ∙ not-false _ c.if-not-choice.false))
 
-pub reaction-by-spec : {M : Type 1} → statement M
-reaction-by-spec = tie.close (tie.spec (λ c κs. search rules) returns returns-2)
+pub reaction_by_spec : {M : Type 1} → statement M
+reaction_by_spec = tie.close (tie.spec (λ c κs. search rules) returns returns-2)

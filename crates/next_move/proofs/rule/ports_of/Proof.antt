@@ -6,19 +6,19 @@ use Rattle.next_move.proofs.rule.ports_of.Tie as tie
 
 returns : tie.Need-returns
 returns c =
-    let s = c.before.before.before.before.before in
-    let (a, la) = c.before.before.before.port-at.ensures in
-    let (b, lb) = c.before.before.port-at2.ensures in
-    let (d, ld) = c.before.port-at3.ensures in
-    let (e, le) = c.port-at4.ensures in
+    let s = c in
+    let (a, la) = c.port_at-a.ensures in
+    let (b, lb) = c.port_at-b.ensures in
+    let (d, ld) = c.port_at-c.ensures in
+    let (e, le) = c.port_at-d.ensures in
     (rw (a, b, d, e) (ports-taken port_of s.args.ws.now s.args.k s.requires.0 s.requires.1), four-small _ _ _ _ la lb ld le)
 
-pub ports-of-spec : {M : Type 1} → statement M
-ports-of-spec =
+pub ports_of_spec : {M : Type 1} → statement M
+ports_of_spec =
     tie.close
     (tie.spec
-    (λ c κs. c.before.requires.1)
-    (λ c κs. c.before.before.requires.1)
-    (λ c κs. c.before.before.before.requires.1)
-    (λ c κs. c.before.before.before.before.requires.1)
+    (λ c κs. c.requires.1)
+    (λ c κs. c.requires.1)
+    (λ c κs. c.requires.1)
+    (λ c κs. c.requires.1)
     returns)
