@@ -9,9 +9,8 @@ use Rattle.report.proofs.figures.of_bytes.Tie as tie
 
 returns : tie.Need-returns
 returns c =
-    let gathered = c in
-    let few = gathered.requires in
-    gathered-figures gathered.words-n.ensures (omega (arith, few, length-replicate {A = ℕ} 8200 0)) c.of_words.ensures
+    let few = c.requires in
+    gathered-figures c.words-n.ensures (omega (arith, few, length-replicate {A = ℕ} 8200 0)) c.of_words.ensures
 
 pub of_bytes_spec : {M : Type 1} → statement M
 of_bytes_spec =

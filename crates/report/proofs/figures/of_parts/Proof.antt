@@ -16,20 +16,17 @@ trace-requires c κs =
 
 shared-slice-read-t24 : tie.Need-bounds-state-0
 shared-slice-read-t24 c =
-    let read = c in
-    let pre = read.requires in
+    let pre = c.requires in
     omega (arith, (States.state-sized _ pre.1.sizes).size)
 
 shared-slice-read-t26 : tie.Need-bounds-state-1
 shared-slice-read-t26 c =
-    let read = c in
-    let pre = read.requires in
+    let pre = c.requires in
     omega (arith, (States.state-sized _ pre.1.sizes).size)
 
 returns : tie.Need-returns
 returns c =
-    let traced = c in
-    let (room, shown) = shows _ _ _ traced.load-at.ensures _ traced.trace-count.ensures refl refl refl in
+    let (room, shown) = shows _ _ _ c.load-at.ensures _ c.trace-count.ensures refl refl refl in
     (refl, room, shown)
 
 pub of_parts_spec : {M : Type 1} → statement M

@@ -6,20 +6,17 @@ use Rattle.report.proofs.figures.of_words.Tie as tie
 
 returns : tie.Need-returns-in-Denied
 returns c =
-    let split = c in
     let refused = c.of_refused.ensures in
-    refused-figures split.split-parts.ensures c.in-Denied.is _ refused.0 refused.1
+    refused-figures c.split-parts.ensures c.in-Denied.is _ refused.0 refused.1
 
 of-parts-requires : tie.Need-of_parts-requires
 of-parts-requires c κs =
-    let told = c in
-    prepared told.split-parts.ensures told.in_default.is
+    prepared c.split-parts.ensures c.in_default.is
 
 returns-2 : tie.Need-returns
 returns-2 c =
-    let told = c in
     let made = c.of_parts.ensures in
-    accepted-figures told.split-parts.ensures told.in_default.is _ made.0 made.1 made.2
+    accepted-figures c.split-parts.ensures c.in_default.is _ made.0 made.1 made.2
 
 pub of_words_spec : {M : Type 1} → statement M
 of_words_spec =
