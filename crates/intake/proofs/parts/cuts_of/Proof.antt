@@ -6,11 +6,9 @@ use Rattle.intake.proofs.parts.cuts_of.Tie as tie
 
 returns : tie.Need-returns
 returns c =
-    let b = c in
-    let a = b in
     cut_at _
-    (rw a.size_at.ensures.0 at a.least-state_at.ensures.0)
-    (rw b.size_at-2.ensures.0 at b.least-log_at.ensures.0)
+    (rw c.size_at.ensures.0 at c.least-state_at.ensures.0)
+    (rw c.size_at-2.ensures.0 at c.least-log_at.ensures.0)
     (rw c.size_at-3.ensures.0 at c.least-end.ensures.0)
 
 pub cuts_of_spec : {M : Type 1} → statement M

@@ -6,8 +6,7 @@ use Rattle.intake.proofs.parts.split.Tie as tie
 
 returns : tie.Need-returns
 returns c =
-    let k = c in
-    split-as _ _ _ k.cuts_of-cuts.ensures k.ready-first.ensures c.verdict_of-verdict.ensures
+    split-as _ _ _ c.cuts_of-cuts.ensures c.ready-first.ensures c.verdict_of-verdict.ensures
 
 pub split_spec : {M : Type 1} → statement M
 split_spec =

@@ -13,22 +13,18 @@ returns-2 c = rw (c.in_default.is, sym c.sizes_ok.ensures ∙ not-true _ c.if-no
 
 returns-3 : tie.Need-returns-then-not-whole
 returns-3 c =
-    let sized = c in
-    let told = sized in
     rw (
-      told.in_default.is,
-      sym sized.sizes_ok.ensures ∙ not-false _ sized.if-not-sizes_ok.false-raw,
-      not-true told.args.whole c.if-not-whole.true-raw,
+      c.in_default.is,
+      sym c.sizes_ok.ensures ∙ not-false _ c.if-not-sizes_ok.false-raw,
+      not-true c.args.whole c.if-not-whole.true-raw,
     )
 
 returns-4 : tie.Need-returns
 returns-4 c =
-    let sized = c in
-    let told = sized in
     rw (
-      told.in_default.is,
-      sym sized.sizes_ok.ensures ∙ not-false _ sized.if-not-sizes_ok.false-raw,
-      not-false told.args.whole c.if-not-whole.false-raw,
+      c.in_default.is,
+      sym c.sizes_ok.ensures ∙ not-false _ c.if-not-sizes_ok.false-raw,
+      not-false c.args.whole c.if-not-whole.false-raw,
     )
 
 pub verdict_of_spec : {M : Type 1} → statement M

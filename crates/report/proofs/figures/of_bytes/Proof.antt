@@ -9,11 +9,10 @@ use Rattle.report.proofs.figures.of_bytes.Tie as tie
 
 returns : tie.Need-returns
 returns c =
-    let gathered = c.before.before.before in
-    let few = gathered.before.before.before.requires in
-    gathered-figures gathered.words2.ensures (omega (arith, few, length-replicate {A = ℕ} 8200 0)) c.of_words.ensures
+    let few = c.requires in
+    gathered-figures c.words-n.ensures (omega (arith, few, length-replicate {A = ℕ} 8200 0)) c.of_words.ensures
 
-pub of-bytes-spec : {M : Type 1} → statement M
-of-bytes-spec =
+pub of_bytes_spec : {M : Type 1} → statement M
+of_bytes_spec =
     tie.close
     (tie.spec (λ c. search rules) (λ c κs. search rules) (λ c. search rules) (λ c. search rules) (λ c κs. search rules) returns)

@@ -4,25 +4,22 @@ use Rattle.report.proofs.Laws.{refused-figures, prepared, accepted-figures}
 use Rattle.report.proofs.figures.of_words.Statement.{statement}
 use Rattle.report.proofs.figures.of_words.Tie as tie
 
-returns : tie.Need-returns
+returns : tie.Need-returns-in-Denied
 returns c =
-    let split = c.before.before.before.before in
-    let refused = c.of-refused.ensures in
-    refused-figures split.split.ensures c.before.before.verdict.given.1 _ refused.0 refused.1
+    let refused = c.of_refused.ensures in
+    refused-figures c.split-parts.ensures c.in-Denied.is _ refused.0 refused.1
 
-of-parts-requires : tie.Need-of-parts-requires
+of-parts-requires : tie.Need-of_parts-requires
 of-parts-requires c κs =
-    let told = c.before.before.before.before.before in
-    prepared told.before.before.split.ensures told.enum_told.given.1
+    prepared c.split-parts.ensures c.in_default.is
 
-returns-2 : tie.Need-returns-2
+returns-2 : tie.Need-returns
 returns-2 c =
-    let told = c.before.before.before.before.before.before in
     let made = c.of_parts.ensures in
-    accepted-figures told.before.before.split.ensures told.enum_told.given.1 _ made.0 made.1 made.2
+    accepted-figures c.split-parts.ensures c.in_default.is _ made.0 made.1 made.2
 
-pub of-words-spec : {M : Type 1} → statement M
-of-words-spec =
+pub of_words_spec : {M : Type 1} → statement M
+of_words_spec =
     tie.close
     (tie.spec
     (λ c κs. search rules)

@@ -11,16 +11,14 @@ returns c = λ place. enter-message _ _ _ (sym (c.message_fits.ensures place) �
 
 returns-2 : tie.Need-returns-then-kind_of-eq-MEMBER_MARK
 returns-2 c =
-    let kind = c in
-    λ place. enter-mark _ _ _ (sym (kind.message_fits.ensures place) ∙ kind.if-message_fits.false)
-    (eq-eqb _ 3 (sym kind.kind_of.ensures ∙ c.if-kind_of-eq-MEMBER_MARK.true)) (c.enter_mark.ensures place)
+    λ place. enter-mark _ _ _ (sym (c.message_fits.ensures place) ∙ c.if-message_fits.false)
+    (eq-eqb _ 3 (sym c.kind_of.ensures ∙ c.if-kind_of-eq-MEMBER_MARK.true)) (c.enter_mark.ensures place)
 
 returns-3 : tie.Need-returns
 returns-3 c =
-    let kind = c in
-    let start = kind.requires in
-    λ place. enter-other _ _ _ (sym (kind.message_fits.ensures place) ∙ kind.if-message_fits.false)
-    (ne_eqb _ 3 (λ q. c.if-kind_of-eq-MEMBER_MARK.false (kind.kind_of.ensures ∙ q))) (c.other_fits.ensures place) start.0 start.1
+    let start = c.requires in
+    λ place. enter-other _ _ _ (sym (c.message_fits.ensures place) ∙ c.if-message_fits.false)
+    (ne_eqb _ 3 (λ q. c.if-kind_of-eq-MEMBER_MARK.false (c.kind_of.ensures ∙ q))) (c.other_fits.ensures place) start.0 start.1
 
 pub enter_spec : {M : Type 1} → statement M
 enter_spec =

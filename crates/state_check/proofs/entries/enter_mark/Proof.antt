@@ -18,24 +18,19 @@ returns-2 c =
 
 returns-3 : tie.Need-returns-then-value-owner
 returns-3 c =
-    let start = c in
-    let fits = start in
-    let value = start.value_of-value.ensures in
-    let mark = eq-eqb _ 3 fits.requires.0 in
-    λ place. entering (sym (fits.mark_fits.ensures place) ∙ not-false _ fits.if-not-mark_fits.false-raw)
+    let value = c.value_of-value.ensures in
+    let mark = eq-eqb _ 3 c.requires.0 in
+    λ place. entering (sym (c.mark_fits.ensures place) ∙ not-false _ c.if-not-mark_fits.false-raw)
     (new-mark _ _ mark ∙ ap not (rw value at (sym c.has.ensures ∙ c.if-has.false)))
-    (entered-mark mark (rw value at c.insert.ensures) (rw value at c.if-value-owner.true) fits.requires.2)
+    (entered-mark mark (rw value at c.insert.ensures) (rw value at c.if-value-owner.true) c.requires.2)
 
 returns-4 : tie.Need-returns
 returns-4 c =
-    let first = c in
-    let start = first in
-    let fits = start in
-    let value = start.value_of-value.ensures in
-    let mark = eq-eqb _ 3 fits.requires.0 in
-    λ place. entering (sym (fits.mark_fits.ensures place) ∙ not-false _ fits.if-not-mark_fits.false-raw)
-    (new-mark _ _ mark ∙ ap not (rw value at (sym first.has.ensures ∙ first.if-has.false)))
-    (entered-own mark (rw value at first.insert.ensures) (rw value at c.if-value-owner.false) (rw value at c.insert-2.ensures))
+    let value = c.value_of-value.ensures in
+    let mark = eq-eqb _ 3 c.requires.0 in
+    λ place. entering (sym (c.mark_fits.ensures place) ∙ not-false _ c.if-not-mark_fits.false-raw)
+    (new-mark _ _ mark ∙ ap not (rw value at (sym c.has.ensures ∙ c.if-has.false)))
+    (entered-own mark (rw value at c.insert.ensures) (rw value at c.if-value-owner.false) (rw value at c.insert-2.ensures))
 
 pub enter_mark_spec : {M : Type 1} → statement M
 enter_mark_spec =

@@ -11,18 +11,15 @@ enter-all-requires c κs = (search rules, none-own c.insert.ensures)
 
 returns : tie.Need-returns-then-not-enter_all
 returns c =
-    let columns = c in
-    first-fails columns.owners_of-owners.ensures columns.items_of-items.ensures c.enter_all.ensures (not-true _ c.if-not-enter_all.true-raw)
+    first-fails c.owners_of-owners.ensures c.items_of-items.ensures c.enter_all.ensures (not-true _ c.if-not-enter_all.true-raw)
 
 owners-in-requires : tie.Need-owners_in-requires
 owners-in-requires c κs = (c.enter_all.ensures.set (not-false _ c.if-not-enter_all.false-raw)).size
 
 returns-2 : tie.Need-returns
 returns-2 c =
-    let first = c in
-    let columns = first in
     c.owners_in.ensures
-    ∙ second-decides columns.owners_of-owners.ensures columns.items_of-items.ensures first.enter_all.ensures (not-false _ c.if-not-enter_all.false-raw)
+    ∙ second-decides c.owners_of-owners.ensures c.items_of-items.ensures c.enter_all.ensures (not-false _ c.if-not-enter_all.false-raw)
 
 pub entries_ok_spec : {M : Type 1} → statement M
 entries_ok_spec =
