@@ -13,7 +13,7 @@ use harness::answer::order;
 use harness::ROOT;
 
 fn archive() -> PathBuf {
-    let dir = env::var_os("COORDINATOR_LIB_DIR").map_or(Path::new(ROOT).join("target/staticlib"), PathBuf::from);
+    let dir = env::var_os("COORDINATOR_LIB_DIR").map_or(Path::new(ROOT).join("crates/coordinator/out"), PathBuf::from);
     dir.join("libcoordinator.a")
 }
 

@@ -25,7 +25,7 @@ use harness::words::{log_words, Entry, Move, State};
 use harness::ROOT;
 
 fn proved() -> PathBuf {
-    env::var_os("COORDINATE_BIN").map_or(Path::new(ROOT).join("target/bin/coordinate"), PathBuf::from)
+    env::var_os("COORDINATE_BIN").map_or(Path::new(ROOT).join("crates/coordinate/out/coordinate"), PathBuf::from)
 }
 
 fn programs() -> [PathBuf; 2] {
