@@ -18,38 +18,38 @@ use Rattle.unattended.proofs.go_alone.Tie as tie
 
 track-requires : tie.Need-track-requires
 track-requires c κs =
-    let load = c.before.before.before.before.before.before.before in
-    let p = load.before.before.before.before.before.before.before.before.before.before.before.requires in
-    let loaded = load.load.ensures in
+    let load = c in
+    let p = load.requires in
+    let loaded = load.load-at.ensures in
     let table = (ready-indexed p.0).table in (
       record { owners = loaded.arrays.owners; items = loaded.arrays.items; fits = loaded.holds.fits },
-      rw c.before.before.before.before.sizes-of.ensures (well-formed _ table).sizes.ports,
+      rw c.sizes_of-z.ensures (well-formed _ table).sizes.ports,
       loaded.looked.within,
       loaded.looked.none,
       zeros-empty,
       search rules,
     )
 
-walk-requires : tie.Need-walk-requires
+walk-requires : tie.Need-walk-gone-requires
 walk-requires c κs =
-    let tracked = c.before.before.before.before.before.before.before.before in
-    let sized = tracked.before.before.before.before.before in
-    let wanted = sized.before in
-    let load = wanted.before.before in
-    let p = load.before.before.before.before.before.before.before.before.before.before.before.requires in
-    let loaded = load.load.ensures in (
-      (ready-indexed p.0, wanted.fill-wants.ensures, p.1, search rules, p.2),
-      (loaded-workable _ (ready-sizes p.0) loaded, loaded-held p.0 loaded, rw sized.sizes-of.ensures at tracked.track.ensures),
+    let tracked = c in
+    let sized = tracked in
+    let wanted = sized in
+    let load = wanted in
+    let p = load.requires in
+    let loaded = load.load-at.ensures in (
+      (ready-indexed p.0, wanted.fill_wants.ensures, p.1, search rules, p.2),
+      (loaded-workable _ (ready-sizes p.0) loaded, loaded-held p.0 loaded, rw sized.sizes_of-z.ensures at tracked.track.ensures),
     )
 
-lay-out-requires : tie.Need-lay-out-requires
+lay-out-requires : tie.Need-lay_out-requires
 lay-out-requires c κs =
-    let walked = c.before.before.before.before.before in
-    let tracked = walked.before.before.before.before.before.before.before.before.before in
-    let load = tracked.before.before.before.before.before.before.before.before in
-    let e = walked.walk.ensures in
-    let loaded = load.load.ensures in
-    let s = load.before.before.before.before.before.before.before.before.before.before.before in
+    let walked = c in
+    let tracked = walked in
+    let load = tracked in
+    let e = walked.walk-gone.ensures in
+    let loaded = load.load-at.ensures in
+    let s = load in
     let p = s.requires in
     let a = s.args in
     let few = made-few a.table.now a.state.now loaded e.0 in
@@ -58,34 +58,34 @@ lay-out-requires c κs =
 
 returns : tie.Need-returns
 returns c =
-    let walked = c.before.before.before.before.before.before.before.before in
-    let tracked = walked.before.before.before.before.before.before.before.before.before in
-    let load = tracked.before.before.before.before.before.before.before.before in
-    let a = load.before.before.before.before.before.before.before.before.before.before.before.args in
-    left_as a.table.now a.state.now load.load.ensures walked.walk.ensures.0 c.before.before.lay-out.ensures
+    let walked = c in
+    let tracked = walked in
+    let load = tracked in
+    let a = load.args in
+    left_as a.table.now a.state.now load.load-at.ensures walked.walk-gone.ensures.0 c.lay_out.ensures
 
-same_length : tie.Need-same-length
+same_length : tie.Need-shape_of-target
 same_length c =
-    let walked = c.before.before.before.before.before.before.before.before in
-    let tracked = walked.before.before.before.before.before.before.before.before.before in
-    let load = tracked.before.before.before.before.before.before.before.before in
-    let s = load.before.before.before.before.before.before.before.before.before.before.before in
+    let walked = c in
+    let tracked = walked in
+    let load = tracked in
+    let s = load in
     let a = s.args in
-    let left = left_as a.table.now a.state.now load.load.ensures walked.walk.ensures.0 c.before.before.lay-out.ensures in
+    let left = left_as a.table.now a.state.now load.load-at.ensures walked.walk-gone.ensures.0 c.lay_out.ensures in
     ap length left.log ∙ log-fits (alone_moves 1024 a.table.now a.state.now a.budget) a.budget a.target.now
     (moves-within 1024 (table_of a.table.now) a.budget 0 (state_of a.state.now)) s.requires.2
 
-pub go-alone-spec : {M : Type 1} → statement M
-go-alone-spec =
+pub go_alone_spec : {M : Type 1} → statement M
+go_alone_spec =
     tie.close
     (tie.spec
     (λ c κs. search rules)
-    (λ c κs. (loadable _ _ c.before.before.before.before.before.before.before.before.before.before.requires.0.accepted, search rules))
-    (λ c κs. let load = c.before in
-    let p = load.before.before.before.before.before.before.before.before.before.before.before.requires in
+    (λ c κs. (loadable _ _ c.requires.0.accepted, search rules))
+    (λ c κs. let load = c in
+    let p = load.requires in
     ((ready-indexed p.0).table, p.0.starts, search rules))
-    (λ c κs. let load = c.before.before in
-    (well-formed _ (ready-indexed load.before.before.before.before.before.before.before.before.before.before.before.requires.0).table).sizes.long)
+    (λ c κs. let load = c in
+    (well-formed _ (ready-indexed load.requires.0).table).sizes.long)
     track-requires
     (λ c. search rules)
     walk-requires

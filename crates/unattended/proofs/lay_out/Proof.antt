@@ -10,24 +10,24 @@ use borrow.Author.Rules.{rules}
 use Rattle.unattended.proofs.lay_out.Statement.{statement}
 use Rattle.unattended.proofs.lay_out.Tie as tie
 
-copy-words-at-requires : tie.Need-copy-words-at-requires
+copy-words-at-requires : tie.Need-copy_words_at-requires
 copy-words-at-requires c κs =
-    let s = c.before.before.before in
+    let s = c in
     (s.requires.1, omega (arith, s.requires.2, length-set s.args.target.now 0 s.args.k))
 
 returns : tie.Need-returns
 returns c =
-    let s = c.before.before.before.before.before.before in
+    let s = c in
     let a = s.args in
-    let e = c.before.before.copy-words-at.ensures in
+    let e = c.copy_words_at.ensures in
     let ps = a.picks.now in
     let k = a.k in
     λ t hs q size.
     e.value ∙ ap (λ (d : List ℕ). paste (set d 0 k) (1 + k) ps (4 * k)) q
     ∙ laid t hs ps k size s.requires.1 (omega (arith, s.requires.2, ap length q, length-sets t 1 hs))
 
-pub lay-out-spec : {M : Type 1} → statement M
-lay-out-spec =
+pub lay_out_spec : {M : Type 1} → statement M
+lay_out_spec =
     tie.close
     (tie.spec
     (λ c. search rules)
@@ -35,6 +35,6 @@ lay-out-spec =
     (λ c. search rules)
     (λ c. search rules)
     copy-words-at-requires
-    (λ c. let a = c.before.before.before.before.before.before.args in c.before.before.copy-words-at.ensures.size
+    (λ c. let a = c.args in c.copy_words_at.ensures.size
     ∙ length-set a.target.now 0 a.k)
     returns)

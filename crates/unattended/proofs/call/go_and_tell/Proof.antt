@@ -11,22 +11,22 @@ use Rattle.unattended.proofs.Calling.{told-as}
 use Rattle.unattended.proofs.call.go_and_tell.Statement.{statement}
 use Rattle.unattended.proofs.call.go_and_tell.Tie as tie
 
-same_length : tie.Need-same-length
+same_length : tie.Need-shape_of-target
 same_length c =
-    let s = c.before.before.before.before.before.before.before.before.before in
+    let s = c in
     let a = s.args in
-    ap length c.before.before.before.before.go_alone.ensures.log
+    ap length c.go_alone-gone.ensures.log
     ∙ log-fits (alone_moves 1024 a.table.now a.state.now a.budget) a.budget a.target.now
     (moves-within 1024 (table_of a.table.now) a.budget 0 (state_of a.state.now)) s.requires.2
 
-pub go-and-tell-spec : {M : Type 1} → statement M
-go-and-tell-spec =
+pub go_and_tell_spec : {M : Type 1} → statement M
+go_and_tell_spec =
     tie.close
     (tie.spec
-    (λ c κs. c.before.before.before.before.requires)
-    (λ c. omega (arith, c.before.before.before.go_alone.ensures.few, c.before.before.before.before.before.before.before.before.requires.1))
-    (λ c. omega (arith, c.before.before.before.go_alone.ensures.few, c.before.before.before.before.before.before.before.before.requires.1))
-    (λ c. omega (arith, c.before.before.before.go_alone.ensures.few, c.before.before.before.before.before.before.before.before.requires.1))
-    (λ c. let went = c.before.before.before.before in omega (arith, went.go_alone.ensures.few, went.before.before.before.before.before.requires.1))
+    (λ c κs. c.requires)
+    (λ c. omega (arith, c.go_alone-gone.ensures.few, c.requires.1))
+    (λ c. omega (arith, c.go_alone-gone.ensures.few, c.requires.1))
+    (λ c. omega (arith, c.go_alone-gone.ensures.few, c.requires.1))
+    (λ c. let went = c in omega (arith, went.go_alone-gone.ensures.few, went.requires.1))
     same_length
-    (λ c. told-as c.before.before.before.before.go_alone.ensures refl refl))
+    (λ c. told-as c.go_alone-gone.ensures refl refl))

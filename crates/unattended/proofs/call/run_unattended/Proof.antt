@@ -13,43 +13,43 @@ use borrow.Author.Rules.{rules}
 use Rattle.unattended.proofs.call.run_unattended.Statement.{statement}
 use Rattle.unattended.proofs.call.run_unattended.Tie as tie
 
-returns : tie.Need-returns
+returns : tie.Need-returns-in-Denied
 returns c =
-    alone-fault _ _ _ _ _ (inl (sym c.before.before.before.before.ready.ensures.verdict ∙ c.before.before.checked.given.1)) c.refused.ensures
+    alone-fault _ _ _ _ _ (inl (sym c.ready-checked.ensures.verdict ∙ c.in-Denied.is)) c.refused.ensures
 
-returns-2 : tie.Need-returns-2
+returns-2 : tie.Need-returns-then-budget-gt-MAX_BUDGET
 returns-2 c =
-    let told = c.before.before in
-    alone-over _ _ _ _ (sym told.before.before.ready.ensures.verdict ∙ told.enum_told.given.1) c.before.if1.true c.refused2.ensures
+    let told = c in
+    alone-over _ _ _ _ (sym told.ready-checked.ensures.verdict ∙ told.in_default.is) c.if-budget-gt-MAX_BUDGET.true c.refused-then-budget-gt-MAX_BUDGET.ensures
 
-returns-3 : tie.Need-returns-3
+returns-3 : tie.Need-returns-then-target-most
 returns-3 c =
-    let told = c.before.before.before in
-    alone-short _ _ _ _ (sym told.before.before.ready.ensures.verdict ∙ told.enum_told.given.1) c.before.before.if1.false c.before.if2.true
-    c.refused3.ensures
+    let told = c in
+    alone-short _ _ _ _ (sym told.ready-checked.ensures.verdict ∙ told.in_default.is) c.if-budget-gt-MAX_BUDGET.false c.if-target-most.true
+    c.refused-then-target-most.ensures
 
-go-and-tell-requires : tie.Need-go-and-tell-requires
+go-and-tell-requires : tie.Need-go_and_tell-requires
 go-and-tell-requires c κs =
-    let told = c.before.before.before.before in
-    let said = told.before.before.ready.ensures in
-    (said.ready (sym said.verdict ∙ told.enum_told.given.1), c.before.before.before.if1.false, c.before.before.if2.false)
+    let told = c in
+    let said = told.ready-checked.ensures in
+    (said.ready (sym said.verdict ∙ told.in_default.is), c.if-budget-gt-MAX_BUDGET.false, c.if-target-most.false)
 
-same_length : tie.Need-same-length
+same_length : tie.Need-shape_of-target
 same_length c =
-    let a = c.before.before.before.before.before.before.before.before.before.before.before.before.before.before.args in
-    ap length c.before.before.go-and-tell.ensures.log
+    let a = c.args in
+    ap length c.go_and_tell.ensures.log
     ∙ log-fits (alone_moves 1024 a.table.now a.state.now a.budget) a.budget a.target.now
-    (moves-within 1024 (table_of a.table.now) a.budget 0 (state_of a.state.now)) c.before.before.before.before.before.if2.false
+    (moves-within 1024 (table_of a.table.now) a.budget 0 (state_of a.state.now)) c.if-target-most.false
 
-returns-4 : tie.Need-returns-4
+returns-4 : tie.Need-returns
 returns-4 c =
-    let told = c.before.before.before.before.before.before.before in
-    alone-done _ _ _ _ (sym told.before.before.ready.ensures.verdict ∙ told.enum_told.given.1)
-    c.before.before.before.before.before.before.if1.false c.before.before.before.before.before.if2.false
-    c.before.before.go-and-tell.ensures
+    let told = c in
+    alone-done _ _ _ _ (sym told.ready-checked.ensures.verdict ∙ told.in_default.is)
+    c.if-budget-gt-MAX_BUDGET.false c.if-target-most.false
+    c.go_and_tell.ensures
 
-pub run-unattended-spec : {M : Type 1} → statement M
-run-unattended-spec =
+pub run_unattended_spec : {M : Type 1} → statement M
+run_unattended_spec =
     tie.close
     (tie.spec
     (λ c κs. search rules)
@@ -59,8 +59,8 @@ run-unattended-spec =
     (λ c. search rules)
     (λ c κs. search rules)
     returns-2
-    (λ c. omega (arith, c.if1.false))
-    (λ c. omega (arith, c.if1.false))
+    (λ c. omega (arith, c.if-budget-gt-MAX_BUDGET.false))
+    (λ c. omega (arith, c.if-budget-gt-MAX_BUDGET.false))
     (λ c κs. search rules)
     returns-3
     go-and-tell-requires

@@ -21,20 +21,20 @@ use borrow.Author.Rules.{rules}
 use Rattle.unattended.proofs.walk.walk.Statement.{statement}
 use Rattle.unattended.proofs.walk.walk.Tie as tie
 
-abbrev Inv : tie.invariant-loop
+abbrev Inv : tie.invariant-loop-i
 Inv table starts wants owners₀ items₀ origins₀ budget ceiling stopped₀ totals₀ picks₀ target₀ keys₀ left₀ i₀ owners items origins stopped totals picks target
     keys left i =
     Running ceiling (table_of table) budget (state_in (held owners₀ items₀ origins₀ left₀)) i (state_in (held owners items origins left)) picks target₀ target
     × Workable (held owners items origins left) ceiling × Held (sizes_of table) (state_in (held owners items origins left))
     × (length keys ≡ 1024) × (length picks ≡ length picks₀) × TrackedIn (sizes_of table) owners items left stopped totals
 
-abbrev μ : tie.decreases-loop
+abbrev μ : tie.decreases-loop-i
 μ table starts wants owners₀ items₀ origins₀ budget ceiling stopped₀ totals₀ picks₀ target₀ keys₀ left₀ i₀ owners items origins stopped totals picks target keys
     left i = budget - i
 
-loop-holds : tie.Need-loop-init Inv μ
+loop-holds : tie.Need-loop-i-init Inv μ
 loop-holds c =
-    let s = c.before.before.before in
+    let s = c in
     let a = s.args in
     let start = state_in (held a.owners.now a.items.now a.origins.now a.start) in (
       running-start a.ceiling (table_of a.table.now) a.budget start a.picks.now a.target.now,
@@ -46,74 +46,74 @@ loop-holds c =
     )
 
 -- the search in a turn of the loop
-next-move-requires : tie.Need-next-move-requires Inv μ
+next-move-requires : tie.Need-next_move-first-requires Inv μ
 next-move-requires c κs =
-    let l = c.before.before.before.before.before.before.loop in
-    let s = c.before.before.before.before.before.before.before.before.before.before in
+    let l = c.loop-i in
+    let s = c in
     searchable l.owners l.items l.origins l.at s.args.ceiling l.invariant.1 l.invariant.2 s.requires.0.0 s.requires.0.1 refl l.invariant.5 l.invariant.3
 
-returns : tie.Need-returns Inv μ
+returns : tie.Need-returns-then-not-first Inv μ
 returns c =
-    let turn = c.before.before in
-    let l = turn.before.before.before.before.before.before.before.loop in
-    let s = turn.before.before.before.before.before.before.before.before.before.before.before in
+    let turn = c in
+    let l = turn.loop-i in
+    let s = turn in
     let a = s.args in
     let T = table_of a.table.now in
     let now = state_in (held l.owners l.items l.origins l.at) in
     let start = state_in (held a.owners.now a.items.now a.origins.now a.start) in
-    let f = searched l.owners l.items l.origins l.at a.ceiling l.invariant.1 l.invariant.2 T turn.next-move.ensures.0 in
-    let none = first-none (enabled a.ceiling T now) turn.next-move.result f (not-true _ c.if1.true) in
+    let f = searched l.owners l.items l.origins l.at a.ceiling l.invariant.1 l.invariant.2 T turn.next_move-first.ensures.0 in
+    let none = first-none (enabled a.ceiling T now) turn.next_move-first.result f (not-true _ c.if-not-first.true) in
     let (made, same) = none_made a.ceiling T a.budget start l.i (a.budget - l.i) now none in
     (running-done a.ceiling T a.budget start l.invariant.0 made same (sym ((still-empty a.ceiling T now).1 none)), l.invariant.4)
 
 -- a turn, after the search has found a move
-loop-again : tie.Need-loop-preserved Inv μ
+loop-again : tie.Need-loop-i-preserved Inv μ
 loop-again c =
-    let noted = c.before.before.before.before.before.before.before.before.before.before.before in
-    let turn-if = noted.before.before.before.before in
-    let turn = noted.before.before.before.before.before.before in
-    let l = turn.before.before.before.before.before.before.before.loop in
-    let test = turn.before.before.before.before.before.before.loop-test.true in
-    let s = turn.before.before.before.before.before.before.before.before.before.before.before in
+    let noted = c in
+    let turn-if = noted in
+    let turn = noted in
+    let l = turn.loop-i in
+    let test = turn.loop-i-test.true in
+    let s = turn in
     let a = s.args in
     let T = table_of a.table.now in
     let now = state_in (held l.owners l.items l.origins l.at) in
     let start = state_in (held a.owners.now a.items.now a.origins.now a.start) in
-    let f = searched l.owners l.items l.origins l.at a.ceiling l.invariant.1 l.invariant.2 T turn.next-move.ensures.0 in
-    let (m, ms, first, head, picks) = first_found (enabled a.ceiling T now) turn.next-move.result f (not-false _ turn-if.if1.false) in
+    let f = searched l.owners l.items l.origins l.at a.ceiling l.invariant.1 l.invariant.2 T turn.next_move-first.ensures.0 in
+    let (m, ms, first, head, picks) = first_found (enabled a.ceiling T now) turn.next_move-first.result f (not-false _ turn-if.if-not-first.false) in
     let columns = noted.note.ensures in
-    let (made, kept) = c.before.make-tracked.ensures in
-    let words : turn.next-move.result.mv.head ∷ turn.next-move.result.mv.picks ≡ move_words m =
-    ap (λ (h : ℕ). h ∷ turn.next-move.result.mv.picks) head ∙ ap (λ (l : List ℕ). head_of m ∷ l) picks in
+    let (made, kept) = c.make_tracked-made.ensures in
+    let words : turn.next_move-first.result.mv.head ∷ turn.next_move-first.result.mv.picks ≡ move_words m =
+    ap (λ (h : ℕ). h ∷ turn.next_move-first.result.mv.picks) head ∙ ap (λ (l : List ℕ). head_of m ∷ l) picks in
     let (same, sound) = made-first a.table.now s.requires.0.0.table a.ceiling l.invariant.1.limit l.i l.invariant.2 made m ms first words in
     let run = running_more a.ceiling T a.budget start l.invariant.0 test first head picks (omega (arith, test, s.requires.0.3, l.invariant.4)) in
-    (rw (same, columns.0.value, columns.1) run, made.workable, sound, turn.next-move.ensures.1, columns.0.size ∙ l.invariant.4, kept)
+    (rw (same, columns.0.value, columns.1) run, made.workable, sound, turn.next_move-first.ensures.1, columns.0.size ∙ l.invariant.4, kept)
 
 note-requires : tie.Need-note-requires Inv μ
 note-requires c κs =
-    let turn = c.before.before.before.before.before in
-    let l = turn.before.before.before.before.before.before.before.loop in
-    let test = turn.before.before.before.before.before.before.loop-test.true in
-    let s = turn.before.before.before.before.before.before.before.before.before.before.before in
+    let turn = c in
+    let l = turn.loop-i in
+    let test = turn.loop-i-test.true in
+    let s = turn in
     let p = s.requires.0 in
     let size = running-length _ _ _ _ l.invariant.0 in
     (omega (arith, test, p.2), omega (arith, test, p.3, l.invariant.4), omega (arith, test, p.4, size))
 
-make-tracked-requires : tie.Need-make-tracked-requires Inv μ
+make-tracked-requires : tie.Need-make_tracked-made-requires Inv μ
 make-tracked-requires c κs =
-    let note = c.before.before.before.before.before.before.before.before.before in
-    let turn-if = note.before.before.before.before in
-    let turn = turn-if.before.before in
-    let l = turn.before.before.before.before.before.before.before.loop in
-    let test = turn.before.before.before.before.before.before.loop-test.true in
-    let s = turn.before.before.before.before.before.before.before.before.before.before.before in
+    let note = c in
+    let turn-if = note in
+    let turn = turn-if in
+    let l = turn.loop-i in
+    let test = turn.loop-i-test.true in
+    let s = turn in
     let a = s.args in
     let T = table_of a.table.now in
     let now = state_in (held l.owners l.items l.origins l.at) in
-    let f = searched l.owners l.items l.origins l.at a.ceiling l.invariant.1 l.invariant.2 T turn.next-move.ensures.0 in
-    let (m, ms, first, head, picks) = first_found (enabled a.ceiling T now) turn.next-move.result f (not-false _ turn-if.if1.false) in
-    let words : turn.next-move.result.mv.head ∷ turn.next-move.result.mv.picks ≡ move_words m =
-    ap (λ (h : ℕ). h ∷ turn.next-move.result.mv.picks) head ∙ ap (λ (l : List ℕ). head_of m ∷ l) picks in
+    let f = searched l.owners l.items l.origins l.at a.ceiling l.invariant.1 l.invariant.2 T turn.next_move-first.ensures.0 in
+    let (m, ms, first, head, picks) = first_found (enabled a.ceiling T now) turn.next_move-first.result f (not-false _ turn-if.if-not-first.false) in
+    let words : turn.next_move-first.result.mv.head ∷ turn.next_move-first.result.mv.picks ≡ move_words m =
+    ap (λ (h : ℕ). h ∷ turn.next_move-first.result.mv.picks) head ∙ ap (λ (l : List ℕ). head_of m ∷ l) picks in
     record {
       indexed = s.requires.0.0;
       place = omega (arith, test, s.requires.0.2);
@@ -123,46 +123,46 @@ make-tracked-requires c κs =
       tracked = l.invariant.5;
     }
 
-next-move-requires-2 : tie.Need-next-move-requires-2 Inv μ
+next-move-requires-2 : tie.Need-next_move-first-requires-2 Inv μ
 next-move-requires-2 c κs =
-    let l = c.before.before.before.before.before.before.loop in
-    let s = c.before.before.before.before.before.before.before.before.before.before in
+    let l = c.loop-i in
+    let s = c in
     searchable l.owners l.items l.origins l.at s.args.ceiling l.invariant.1 l.invariant.2 s.requires.0.0 s.requires.0.1 refl l.invariant.5 l.invariant.3
 
-returns-2 : tie.Need-returns-2 Inv μ
+returns-2 : tie.Need-returns Inv μ
 returns-2 c =
-    let turn = c.before in
-    let l = turn.before.before.before.before.before.before.before.loop in
-    let s = turn.before.before.before.before.before.before.before.before.before.before.before in
+    let turn = c in
+    let l = turn.loop-i in
+    let s = turn in
     let a = s.args in
     let T = table_of a.table.now in
     let now = state_in (held l.owners l.items l.origins l.at) in
     let start = state_in (held a.owners.now a.items.now a.origins.now a.start) in
-    let f = searched l.owners l.items l.origins l.at a.ceiling l.invariant.1 l.invariant.2 T turn.next-move2.ensures.0 in
-    let none : a.budget - l.i ≡ 0 = omega (arith, turn.before.before.before.before.before.before.loop-test.false) in
+    let f = searched l.owners l.items l.origins l.at a.ceiling l.invariant.1 l.invariant.2 T turn.next_move-first-2.ensures.0 in
+    let none : a.budget - l.i ≡ 0 = omega (arith, turn.loop-i-test.false) in
     let (made, same) = spent-made a.ceiling T a.budget start l.i (a.budget - l.i) now none in
     (running-done a.ceiling T a.budget start l.invariant.0 made same (still-found a.ceiling T now f), l.invariant.4)
 
-pub walk-spec : {M : Type 1} → statement M
-walk-spec =
+pub walk_spec : {M : Type 1} → statement M
+walk_spec =
     tie.close
     (tie.spec
     Inv
     μ
     loop-holds
     next-move-requires
-    (λ c. c.before.before.before.before.before.before.before.before.before.loop.invariant.4)
-    (λ c. running-length _ _ _ _ c.before.before.before.before.before.before.before.before.before.loop.invariant.0)
+    (λ c. c.loop-i.invariant.4)
+    (λ c. running-length _ _ _ _ c.loop-i.invariant.0)
     returns
     note-requires
     make-tracked-requires
-    (λ c. let noted = c.before.before.before.before.before.before.before.before.before.before.before in
-    let turn = noted.before.before.before.before.before.before.before.before.before.before.before.before in
-    omega (arith, turn.loop-test.true, turn.before.before.before.before.before.requires.0.2))
-    (λ c. let noted = c.before.before.before.before.before.before.before.before.before.before.before in
-    omega (arith, noted.before.before.before.before.before.before.before.before.before.before.before.before.loop-test.true))
+    (λ c. let noted = c in
+    let turn = noted in
+    omega (arith, turn.loop-i-test.true, turn.requires.0.2))
+    (λ c. let noted = c in
+    omega (arith, noted.loop-i-test.true))
     loop-again
     next-move-requires-2
-    (λ c. c.before.before.before.before.before.before.before.before.loop.invariant.4)
-    (λ c. running-length _ _ _ _ c.before.before.before.before.before.before.before.before.loop.invariant.0)
+    (λ c. c.loop-i.invariant.4)
+    (λ c. running-length _ _ _ _ c.loop-i.invariant.0)
     returns-2)
