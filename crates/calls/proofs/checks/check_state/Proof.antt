@@ -4,7 +4,7 @@ use Rattle.calls.proofs.checks.check_state.Statement.{statement}
 use Rattle.calls.proofs.checks.check_state.Tie as tie
 
 returns : tie.Need-returns
-returns c = state-answer _ _ _ _ c.before.ready.ensures.verdict c.outcome-of-check.ensures
+returns c = state-answer _ _ _ _ c.ready.ensures.verdict c.outcome_of_check.ensures
 
-pub check-state-spec : {M : Type 1} → statement M
-check-state-spec = tie.close (tie.spec (λ c κs. search rules) (λ c κs. search rules) returns)
+pub check_state_spec : {M : Type 1} → statement M
+check_state_spec = tie.close (tie.spec (λ c κs. search rules) (λ c κs. search rules) returns)

@@ -6,38 +6,38 @@ use borrow.Author.Rules.{rules}
 use Rattle.calls.proofs.logs.run.Statement.{statement}
 use Rattle.calls.proofs.logs.run.Tie as tie
 
-returns : tie.Need-returns
-returns c = run-denied _ _ _ _ _ _ (sym c.before.before.before.ready.ensures.verdict ∙ c.before.checked.given.1)
+returns : tie.Need-returns-in-Denied
+returns c = run-denied _ _ _ _ _ _ (sym c.ready-checked.ensures.verdict ∙ c.in-Denied.is)
 
-returns-2 : tie.Need-returns-2
+returns-2 : tie.Need-returns-then-not-sizes_ok
 returns-2 c =
-    let told = c.before.before in
-    run-missized _ _ _ _ _ (sym told.before.before.ready.ensures.verdict ∙ told.enum_told.given.1) c.before.sizes-ok.ensures
-    (not-true _ c.if1.true)
+    let told = c in
+    run-missized _ _ _ _ _ (sym told.ready-checked.ensures.verdict ∙ told.in_default.is) c.sizes_ok.ensures
+    (not-true _ c.if-not-sizes_ok.true-raw)
 
-returns-3 : tie.Need-returns-3
+returns-3 : tie.Need-returns-then-target-lt-MAX_WORDS
 returns-3 c =
-    let told = c.before.before.before in
-    run_short _ _ _ _ _ (sym told.before.before.ready.ensures.verdict ∙ told.enum_told.given.1) c.before.before.sizes-ok.ensures
-    (not-false _ c.before.if1.false) c.if2.true
+    let told = c in
+    run_short _ _ _ _ _ (sym told.ready-checked.ensures.verdict ∙ told.in_default.is) c.sizes_ok.ensures
+    (not-false _ c.if-not-sizes_ok.false-raw) c.if-target-lt-MAX_WORDS.true
 
-run-and-store-requires : tie.Need-run-and-store-requires
+run-and-store-requires : tie.Need-run_and_store-requires
 run-and-store-requires c κs =
-    let sized = c.before.before.before.before in
-    let told = sized.before.before in
-    let said = told.before.before.ready.ensures in
+    let sized = c in
+    let told = sized in
+    let said = told.ready-checked.ensures in
     record {
-      ready = said.ready (sym said.verdict ∙ told.enum_told.given.1);
-      sizes = sym sized.before.sizes-ok.ensures ∙ not-false _ sized.if1.false;
-      room = c.before.before.before.if2.false;
+      ready = said.ready (sym said.verdict ∙ told.in_default.is);
+      sizes = sym sized.sizes_ok.ensures ∙ not-false _ sized.if-not-sizes_ok.false-raw;
+      room = c.if-target-lt-MAX_WORDS.false;
     }
 
-returns-4 : tie.Need-returns-4
+returns-4 : tie.Need-returns
 returns-4 c =
-    let sized = c.before.before.before.before.before.before.before in
-    let told = sized.before.before in
-    run-done _ _ _ _ _ (sym told.before.before.ready.ensures.verdict ∙ told.enum_told.given.1) sized.before.sizes-ok.ensures
-    (not-false _ sized.if1.false) c.before.before.before.before.before.before.if2.false c.before.before.run-and-store.ensures
+    let sized = c in
+    let told = sized in
+    run-done _ _ _ _ _ (sym told.ready-checked.ensures.verdict ∙ told.in_default.is) sized.sizes_ok.ensures
+    (not-false _ sized.if-not-sizes_ok.false-raw) c.if-target-lt-MAX_WORDS.false c.run_and_store.ensures
 
 pub run_spec : {M : Type 1} → statement M
 run_spec =

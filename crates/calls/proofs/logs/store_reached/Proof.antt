@@ -4,19 +4,19 @@ use Rattle.calls.proofs.Results.{stored-to}
 use Rattle.calls.proofs.logs.store_reached.Statement.{statement}
 use Rattle.calls.proofs.logs.store_reached.Tie as tie
 
-returns : tie.Need-returns
+returns : tie.Need-returns-in-Denied
 returns c = λ gs.
-    let told = c.before.verdict.given.1 in
+    let told = c.in-Denied.is in
     record { comes = record { outcome = rw told; target = rw told }; tally = rw told }
 
-returns-2 : tie.Need-returns-2
+returns-2 : tie.Need-returns
 returns-2 c = λ gs.
-    let put = c.before.before.before.before in
-    rw put.before.before.before.enum_told.given.1
-    (record { comes = stored-to (c.before.before.store.ensures gs) _; tally = put.put-tally.ensures })
+    let put = c in
+    rw put.in_default.is
+    (record { comes = stored-to (c.store.ensures gs) _; tally = put.put_tally.ensures })
 
-pub store-reached-spec : {M : Type 1} → statement M
-store-reached-spec =
+pub store_reached_spec : {M : Type 1} → statement M
+store_reached_spec =
     tie.close
     (tie.spec
     (λ c. search rules) returns (λ c. search rules) (λ c. search rules) (λ c κs. search rules) (λ c κs. search rules) (λ c. search rules) returns-2)

@@ -8,15 +8,15 @@ use borrow.Author.Rules.{rules}
 use Rattle.calls.proofs.moves.make_and_store.Statement.{statement}
 use Rattle.calls.proofs.moves.make_and_store.Tie as tie
 
-load-requires : tie.Need-load-requires
+load-requires : tie.Need-load-at-requires
 load-requires c κs =
-    let p = c.before.before.before.before.before.before.before.before.before.before.requires in
+    let p = c.requires in
     (loadable _ _ p.ready.accepted, search rules)
 
-make-requires : tie.Need-make-requires
+make-requires : tie.Need-make-made-requires
 make-requires c κs =
-    let p = c.before.before.before.before.before.before.before.before.before.before.before.before.before.before.requires in
-    let loaded = c.before.before.before.load.ensures in
+    let p = c.requires in
+    let loaded = c.load-at.ensures in
     record {
       indexed = words-indexed _ _ p.ready.accepted p.ready.starts;
       maker-fits = (omega arith, omega arith);
@@ -24,20 +24,20 @@ make-requires c κs =
     }
 
 -- the start's extent would fit as well, so that code which stores it fails on what it answers
-store-made-requires : tie.Need-store-made-requires
+store-made-requires : tie.Need-store_made-requires
 store-made-requires c κs =
-    let made = c.before.before.before in
-    let w = made.make.ensures.workable in
-    let p = made.before.before.before.before.before.before.before.before.before.before.before.before.before.before.before.requires in
-    let loaded = made.before.before.before.before.load.ensures.holds.fits in (
+    let made = c in
+    let w = made.make-made.ensures.workable in
+    let p = made.requires in
+    let loaded = made.load-at.ensures.holds.fits in (
       record { owners = w.arrays.owners; items = w.arrays.items; fits = omega (arith, w.bounds.fits, loaded) },
       omega (arith, w.bounds.fits, loaded, p.room),
     )
 
 returns : tie.Need-returns
 returns c =
-    let made = c.before.before.before.before.before.before in
-    moved_to _ _ _ _ made.before.before.before.before.load.ensures made.make.ensures (c.before.before.store-made.ensures _)
+    let made = c in
+    moved_to _ _ _ _ made.load-at.ensures made.make-made.ensures (c.store_made.ensures _)
 
-pub make-and-store-spec : {M : Type 1} → statement M
-make-and-store-spec = tie.close (tie.spec (λ c κs. search rules) load-requires make-requires store-made-requires (λ c. search rules) returns)
+pub make_and_store_spec : {M : Type 1} → statement M
+make_and_store_spec = tie.close (tie.spec (λ c κs. search rules) load-requires make-requires store-made-requires (λ c. search rules) returns)

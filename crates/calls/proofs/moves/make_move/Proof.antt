@@ -8,57 +8,57 @@ use borrow.Author.Rules.{rules}
 use Rattle.calls.proofs.moves.make_move.Statement.{statement}
 use Rattle.calls.proofs.moves.make_move.Tie as tie
 
-returns : tie.Need-returns
-returns c = move-fault _ _ _ _ _ (inl (sym c.before.before.before.ready.ensures.verdict ∙ c.before.checked.given.1))
+returns : tie.Need-returns-in-Denied
+returns c = move-fault _ _ _ _ _ (inl (sym c.ready-checked.ensures.verdict ∙ c.in-Denied.is))
 
-returns-2 : tie.Need-returns-2
-returns-2 c = move-unsized _ _ _ _ (sym c.before.before.before.ready.ensures.verdict ∙ c.before.enum_told.given.1) c.if1.true
+returns-2 : tie.Need-returns-then-mv-ne5
+returns-2 c = move-unsized _ _ _ _ (sym c.ready-checked.ensures.verdict ∙ c.in_default.is) c.if-mv-ne5.true
 
-form-ok-requires : tie.Need-form-ok-requires
+form-ok-requires : tie.Need-form_ok-requires
 form-ok-requires c κs =
-    let told = c.before.before.before.before.before.before.before in
-    let said = told.before.before.ready.ensures in
-    let r = said.ready (sym said.verdict ∙ told.enum_told.given.1) in
+    let told = c in
+    let said = told.ready-checked.ensures in
+    let r = said.ready (sym said.verdict ∙ told.in_default.is) in
     record { table = ready-table r; starts = r.starts }
 
-returns-3 : tie.Need-returns-3
+returns-3 : tie.Need-returns-then-not-form_ok
 returns-3 c =
-    let sized = c.before.before.before.before.before.before.before.before in
-    let told = sized.before in
-    let a = told.before.before.before.before.before.before.before.before.args in
-    move-malformed _ _ _ _ (sym told.before.before.ready.ensures.verdict ∙ told.enum_told.given.1)
-    (form-read a.table.now a.mv.now sized.if1.false c.before.form-ok.ensures) (not-true _ c.if2.true)
+    let sized = c in
+    let told = sized in
+    let a = told.args in
+    move-malformed _ _ _ _ (sym told.ready-checked.ensures.verdict ∙ told.in_default.is)
+    (form-read a.table.now a.mv.now sized.if-mv-ne5.false c.form_ok.ensures) (not-true _ c.if-not-form_ok.true-raw)
 
-returns-4 : tie.Need-returns-4
+returns-4 : tie.Need-returns-then-target-lt-MAX_WORDS
 returns-4 c =
-    let formed = c.before in
-    let sized = formed.before.before.before.before.before.before.before.before in
-    let told = sized.before in
-    let a = told.before.before.before.before.before.before.before.before.args in
-    move-short _ _ _ _ (sym told.before.before.ready.ensures.verdict ∙ told.enum_told.given.1)
-    (form-read a.table.now a.mv.now sized.if1.false formed.before.form-ok.ensures) (not-false _ formed.if2.false)
-    c.if3.true
+    let formed = c in
+    let sized = formed in
+    let told = sized in
+    let a = told.args in
+    move-short _ _ _ _ (sym told.ready-checked.ensures.verdict ∙ told.in_default.is)
+    (form-read a.table.now a.mv.now sized.if-mv-ne5.false formed.form_ok.ensures) (not-false _ formed.if-not-form_ok.false-raw)
+    c.if-target-lt-MAX_WORDS.true
 
-make-and-store-requires : tie.Need-make-and-store-requires
+make-and-store-requires : tie.Need-make_and_store-requires
 make-and-store-requires c κs =
-    let roomy = c.before.before in
-    let told = roomy.before.before.before.before.before.before.before.before.before.before in
-    let said = told.before.before.ready.ensures in
-    record { ready = said.ready (sym said.verdict ∙ told.enum_told.given.1); room = roomy.if3.false }
+    let roomy = c in
+    let told = roomy in
+    let said = told.ready-checked.ensures in
+    record { ready = said.ready (sym said.verdict ∙ told.in_default.is); room = roomy.if-target-lt-MAX_WORDS.false }
 
-returns-5 : tie.Need-returns-5
+returns-5 : tie.Need-returns
 returns-5 c =
-    let roomy = c.before.before.before.before.before in
-    let formed = roomy.before in
-    let sized = formed.before.before.before.before.before.before.before.before in
-    let told = sized.before in
-    let a = told.before.before.before.before.before.before.before.before.args in
-    move-done _ _ _ _ (sym told.before.before.ready.ensures.verdict ∙ told.enum_told.given.1)
-    (form-read a.table.now a.mv.now sized.if1.false formed.before.form-ok.ensures) (not-false _ formed.if2.false)
-    roomy.if3.false (rw (five a.mv.now sized.if1.false) at c.before.before.make-and-store.ensures)
+    let roomy = c in
+    let formed = roomy in
+    let sized = formed in
+    let told = sized in
+    let a = told.args in
+    move-done _ _ _ _ (sym told.ready-checked.ensures.verdict ∙ told.in_default.is)
+    (form-read a.table.now a.mv.now sized.if-mv-ne5.false formed.form_ok.ensures) (not-false _ formed.if-not-form_ok.false-raw)
+    roomy.if-target-lt-MAX_WORDS.false (rw (five a.mv.now sized.if-mv-ne5.false) at c.make_and_store.ensures)
 
-pub make-move-spec : {M : Type 1} → statement M
-make-move-spec =
+pub make_move_spec : {M : Type 1} → statement M
+make_move_spec =
     tie.close
     (tie.spec
     (λ c κs. search rules)

@@ -7,31 +7,31 @@ use borrow.Author.Rules.{rules}
 use Rattle.calls.proofs.pages.list_moves.Statement.{statement}
 use Rattle.calls.proofs.pages.list_moves.Tie as tie
 
-returns : tie.Need-returns
+returns : tie.Need-returns-in-Denied
 returns c =
-    list-fault _ _ _ _ _ _ (inl (sym c.before.before.before.before.ready.ensures.verdict ∙ c.before.before.checked.given.1)) c.refused.ensures
+    list-fault _ _ _ _ _ _ (inl (sym c.ready-checked.ensures.verdict ∙ c.in-Denied.is)) c.refused.ensures
 
-returns-2 : tie.Need-returns-2
+returns-2 : tie.Need-returns-then-target-most
 returns-2 c =
-    let told = c.before.before.before in
-    list-short _ _ _ _ _ (sym told.before.before.ready.ensures.verdict ∙ told.enum_told.given.1) c.before.before.page-count.ensures
-    c.before.if1.true c.refused2.ensures
+    let told = c in
+    list-short _ _ _ _ _ (sym told.ready-checked.ensures.verdict ∙ told.in_default.is) c.page_count-most.ensures
+    c.if-target-most.true c.refused-then-target-most.ensures
 
-list-page-requires : tie.Need-list-page-requires
+list-page-requires : tie.Need-list_page-requires
 list-page-requires c κs =
-    let told = c.before.before.before.before in
-    let said = told.before.before.ready.ensures in
-    (said.ready (sym said.verdict ∙ told.enum_told.given.1), omega (arith, c.before.before.before.page-count.ensures), c.before.before.if1.false)
+    let told = c in
+    let said = told.ready-checked.ensures in
+    (said.ready (sym said.verdict ∙ told.in_default.is), omega (arith, c.page_count-most.ensures), c.if-target-most.false)
 
-returns-3 : tie.Need-returns-3
+returns-3 : tie.Need-returns
 returns-3 c =
-    let told = c.before.before.before.before.before.before.before in
-    list_done _ _ _ _ _ (sym told.before.before.ready.ensures.verdict ∙ told.enum_told.given.1)
-    c.before.before.before.before.before.before.page-count.ensures
-    c.before.before.before.before.before.if1.false c.before.before.list-page.ensures
+    let told = c in
+    list_done _ _ _ _ _ (sym told.ready-checked.ensures.verdict ∙ told.in_default.is)
+    c.page_count-most.ensures
+    c.if-target-most.false c.list_page.ensures
 
-pub list-moves-spec : {M : Type 1} → statement M
-list-moves-spec =
+pub list_moves_spec : {M : Type 1} → statement M
+list_moves_spec =
     tie.close
     (tie.spec
     (λ c κs. search rules)
@@ -40,7 +40,7 @@ list-moves-spec =
     returns
     (λ c. search rules)
     (λ c κs. search rules)
-    (λ c. omega (arith, c.page-count.ensures))
+    (λ c. omega (arith, c.page_count-most.ensures))
     (λ c κs. search rules)
     returns-2
     list-page-requires

@@ -8,22 +8,22 @@ use Rattle.calls.proofs.Listing.{page-written}
 use Rattle.calls.proofs.pages.list_page.Statement.{statement}
 use Rattle.calls.proofs.pages.list_page.Tie as tie
 
-few : (c : tie.After-open-moves) → c.open-moves.result.written ≤ 256
-few c = let p = c.before.before.before.before.before.requires in omega (arith, paged-le _ 5 c.open-moves.ensures.paged, p.1)
+few : (c : tie.After-open_moves-part) → c.open_moves-part.result.written ≤ 256
+few c = let p = c.requires in omega (arith, paged-le _ 5 c.open_moves-part.ensures.paged, p.1)
 
 returns : tie.Need-returns
 returns c =
-    let o = c.before.before.before in
-    let s = o.before.before.before.before.before in
+    let o = c in
+    let s = o in
     page-written (all_open s.args.table.now s.args.state.now) s.args.first s.args.count s.args.target.now s.requires.2
-    o.open-moves.ensures refl
+    o.open_moves-part.ensures refl
 
-pub list-page-spec : {M : Type 1} → statement M
-list-page-spec =
+pub list_page_spec : {M : Type 1} → statement M
+list_page_spec =
     tie.close
     (tie.spec
-    (λ c κs. let p = c.before.before.before.before.requires in (p.0, (p.1, p.2)))
+    (λ c κs. let p = c.requires in (p.0, (p.1, p.2)))
     (λ c. omega (arith, few c.before.before.before))
     (λ c. omega (arith, few c.before.before.before))
-    (λ c. paged-length _ 5 c.before.before.before.open-moves.ensures.paged)
+    (λ c. paged-length _ 5 c.open_moves-part.ensures.paged)
     returns)

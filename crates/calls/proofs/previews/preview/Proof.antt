@@ -5,26 +5,26 @@ use borrow.Author.Rules.{rules}
 use Rattle.calls.proofs.previews.preview.Statement.{statement}
 use Rattle.calls.proofs.previews.preview.Tie as tie
 
-returns : tie.Need-returns
-returns c = preview-denied _ _ _ (sym c.before.before.before.ready.ensures.verdict ∙ c.before.checked.given.1)
+returns : tie.Need-returns-in-Denied
+returns c = preview-denied _ _ _ (sym c.ready-checked.ensures.verdict ∙ c.in-Denied.is)
 
-returns-2 : tie.Need-returns-2
-returns-2 c = preview-unsized _ _ _ (sym c.before.before.before.ready.ensures.verdict ∙ c.before.enum_told.given.1) c.if1.true
+returns-2 : tie.Need-returns-then-mv-ne5
+returns-2 c = preview-unsized _ _ _ (sym c.ready-checked.ensures.verdict ∙ c.in_default.is) c.if-mv-ne5.true
 
-preview-words-requires : tie.Need-preview-words-requires
+preview-words-requires : tie.Need-preview_words-requires
 preview-words-requires c κs =
-    let told = c.before.before.before.before.before.before.before in
-    let said = told.before.before.ready.ensures in
-    said.ready (sym said.verdict ∙ told.enum_told.given.1)
+    let told = c in
+    let said = told.ready-checked.ensures in
+    said.ready (sym said.verdict ∙ told.in_default.is)
 
-returns-3 : tie.Need-returns-3
+returns-3 : tie.Need-returns
 returns-3 c =
-    let sized = c.before.before.before.before.before.before.before in
-    preview-made _ _ _ (sym sized.before.before.before.ready.ensures.verdict ∙ sized.before.enum_told.given.1) sized.if1.false
-    c.preview-words.ensures
+    let sized = c in
+    preview-made _ _ _ (sym sized.ready-checked.ensures.verdict ∙ sized.in_default.is) sized.if-mv-ne5.false
+    c.preview_words.ensures
 
-pub preview-spec : {M : Type 1} → statement M
-preview-spec =
+pub preview_spec : {M : Type 1} → statement M
+preview_spec =
     tie.close
     (tie.spec
     (λ c κs. search rules) (λ c. search rules) returns (λ c. search rules) returns-2
