@@ -4,7 +4,7 @@ use Rattle.coordinator.proofs.coordinator_check_state.Statement.{statement}
 use Rattle.coordinator.proofs.coordinator_check_state.Tie as tie
 
 returns : tie.Need-returns
-returns c = c.answer-of.ensures ∙ c.before.check-state.ensures
+returns c = c.answer_of.ensures ∙ c.check_state.ensures
 
-pub coordinator-check-state-spec : {M : Type 1} → statement M
-coordinator-check-state-spec = tie.close (tie.spec (λ c κs. search rules) (λ c κs. search rules) returns)
+pub coordinator_check_state_spec : {M : Type 1} → statement M
+coordinator_check_state_spec = tie.close (tie.spec (λ c κs. search rules) (λ c κs. search rules) returns)

@@ -5,8 +5,8 @@ use Rattle.coordinator.proofs.coordinator_run.Tie as tie
 
 returns : tie.Need-returns
 returns c =
-    let e = c.before.before.before.run.ensures in
-    (c.answer-of.ensures ∙ e.0, e.1)
+    let e = c.run.ensures in
+    (c.answer_of.ensures ∙ e.0, e.1)
 
-pub coordinator-run-spec : {M : Type 1} → statement M
-coordinator-run-spec = tie.close (tie.spec (λ c κs. search rules) (λ c κs. search rules) (λ c. search rules) returns)
+pub coordinator_run_spec : {M : Type 1} → statement M
+coordinator_run_spec = tie.close (tie.spec (λ c κs. search rules) (λ c κs. search rules) (λ c. search rules) returns)

@@ -5,8 +5,8 @@ use Rattle.coordinator.proofs.coordinator_run_unattended.Tie as tie
 
 returns : tie.Need-returns
 returns c =
-    let e = c.before.before.before.run-unattended.ensures in
-    (c.unattended-of.ensures ∙ e.0, e.1)
+    let e = c.run_unattended.ensures in
+    (c.unattended_of.ensures ∙ e.0, e.1)
 
-pub coordinator-run-unattended-spec : {M : Type 1} → statement M
-coordinator-run-unattended-spec = tie.close (tie.spec (λ c κs. search rules) (λ c κs. search rules) (λ c. search rules) returns)
+pub coordinator_run_unattended_spec : {M : Type 1} → statement M
+coordinator_run_unattended_spec = tie.close (tie.spec (λ c κs. search rules) (λ c κs. search rules) (λ c. search rules) returns)

@@ -5,8 +5,8 @@ use Rattle.coordinator.proofs.coordinator_serialize.Tie as tie
 
 returns : tie.Need-returns
 returns c =
-    let e = c.before.before.before.serialize.ensures in
-    (c.answer-of.ensures ∙ e.0, e.1)
+    let e = c.serialize.ensures in
+    (c.answer_of.ensures ∙ e.0, e.1)
 
-pub coordinator-serialize-spec : {M : Type 1} → statement M
-coordinator-serialize-spec = tie.close (tie.spec (λ c κs. search rules) (λ c κs. search rules) (λ c. search rules) returns)
+pub coordinator_serialize_spec : {M : Type 1} → statement M
+coordinator_serialize_spec = tie.close (tie.spec (λ c κs. search rules) (λ c κs. search rules) (λ c. search rules) returns)
