@@ -15,7 +15,7 @@ use Rattle.wellformed.specs.Preservation.{RuleKnown, applied-keeps}
 use Rattle.cells.specs.Origins.{is_in_o}
 use Rattle.cells.specs.ByOrigin.{Uniq}
 use Rattle.cells.specs.Rules.{Shaped}
-use Rattle.cells.specs.Deeds.{Deed, with_move, touched, act_of}
+use Rattle.cells.specs.Deeds.{Deed, with_move, act_of}
 use Rattle.cells.specs.Actions.{Seen, end-ok, action_by, astep, Ok, Runs}
 use Rattle.cells.specs.Moves.{react-allowed, after-allowed}
 use Rattle.cells.specs.SmallestId.{Named, named-of, smallest}

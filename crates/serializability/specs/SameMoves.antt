@@ -17,7 +17,6 @@ use Rattle.cells.specs.Origins.{is_in_o}
 use Rattle.cells.specs.ByOrigin.{Uniq}
 use Rattle.cells.specs.Deeds.{Deed, handled, act_of}
 use Rattle.serializability.specs.Keys.{deeds}
-use Rattle.cells.specs.SmallestId.{smallest}
 use Rattle.cells.specs.Replay.{Again, reacts, commits, aborts, Agains}
 use Rattle.serializability.specs.Keys.{deeds}
 

@@ -1,1 +1,3 @@
+#![tactic(auto)]
+
 // Theorems about the definitions of the crate semantics. No code: see specs/.

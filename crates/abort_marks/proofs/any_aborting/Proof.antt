@@ -33,32 +33,28 @@ by-ids : (c : tie.Start Inv μ) (gs : List ℕ) {r : Bool} → r ≡ any (abort_
 by-ids c gs h = h ∙ marked-ids (ids c) (state_of c gs)
 
 loop-holds : tie.Need-loop-from-init Inv μ
-loop-holds c = let s = c in (s.requires.0, λ gs. passing-start _ _ s.requires.1 c.pass_start-from.ensures)
+loop-holds c = (c.requires.0, λ gs. passing-start _ _ c.requires.1 c.pass_start-from.ensures)
 
 chunk-aborting-requires : tie.Need-chunk_aborting-requires Inv μ
 chunk-aborting-requires c κs =
-    let turn = c in
-    let v = turn.loop-from.invariant in
+    let v = c.loop-from.invariant in
     let e = c.chunk_end-end.ensures in (
       record { owners = v.0.owners; items = v.0.items; fits = omega (arith, e.within, v.0.fits) },
       omega (arith, e.more),
       e.few,
-      chunk-room _ _ (v.1 []) v.0.fits turn.loop-from-test.true,
+      chunk-room _ _ (v.1 []) v.0.fits c.loop-from-test.true,
     )
 
 returns : tie.Need-returns-then-chunk_aborting Inv μ
 returns c gs =
-    let end = c in
-    let l = end in
-    by-ids l.before.before.before.before.before.before gs
-    (passing-found _ _ (l.loop-from.invariant.1 gs) end.chunk_end-end.ensures (sym (c.chunk_aborting.ensures gs) ∙ c.if-chunk_aborting.true))
+    by-ids c.before.before.before.before.before.before gs
+    (passing-found _ _ (c.loop-from.invariant.1 gs) c.chunk_end-end.ensures (sym (c.chunk_aborting.ensures gs) ∙ c.if-chunk_aborting.true))
 
 loop-again : tie.Need-loop-from-preserved Inv μ
 loop-again c =
-    let end = c in
-    let v = end.loop-from.invariant in
-    let e = end.chunk_end-end.ensures in
-    (v.0, λ gs. passing-next _ _ (v.1 gs) e end.loop-from-test.true (sym (c.chunk_aborting.ensures gs) ∙ c.if-chunk_aborting.false))
+    let v = c.loop-from.invariant in
+    let e = c.chunk_end-end.ensures in
+    (v.0, λ gs. passing-next _ _ (v.1 gs) e c.loop-from-test.true (sym (c.chunk_aborting.ensures gs) ∙ c.if-chunk_aborting.false))
 
 pub any_aborting_spec : {M : Type 1} → statement M
 any_aborting_spec =

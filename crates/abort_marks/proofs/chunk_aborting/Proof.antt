@@ -10,9 +10,8 @@ use Rattle.abort_marks.proofs.chunk_aborting.Tie as tie
 
 returns : tie.Need-returns-then-not-chunk_marked
 returns c gs =
-    let s = c in
-    let a = s.args in
-    sym (unmarked (a.a ∷ a.b ∷ a.c ∷ a.d ∷ []) (row_of a.owners.now a.items.now gs) a.from a.end s.requires.1 s.requires.2
+    let a = c.args in
+    sym (unmarked (a.a ∷ a.b ∷ a.c ∷ a.d ∷ []) (row_of a.owners.now a.items.now gs) a.from a.end c.requires.1 c.requires.2
     (sym (c.chunk_marked.ensures a.owners.now gs) ∙ not-true _ c.if-not-chunk_marked.true-raw))
 
 pub chunk_aborting_spec : {M : Type 1} → statement M

@@ -26,9 +26,8 @@ loop-holds c = (search rules, c.requires.0, c.requires.1, λ os gs. finding-from
 
 loop-again : tie.Need-loop-i-preserved Inv μ
 loop-again c =
-    let turn = c in
-    let l = turn.loop-i in
-    (l.invariant.0, l.invariant.1, l.invariant.2, λ os gs. rw c.kind_of.ensures (finding-next (rows-tails _ _) (l.invariant.3 os gs) turn.loop-i-test.true))
+    let l = c.loop-i in
+    (l.invariant.0, l.invariant.1, l.invariant.2, λ os gs. rw c.kind_of.ensures (finding-next (rows-tails _ _) (l.invariant.3 os gs) c.loop-i-test.true))
 
 returns : tie.Need-returns Inv μ
 returns c os gs =

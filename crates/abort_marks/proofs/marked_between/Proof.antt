@@ -25,10 +25,8 @@ loop-holds c = (c.requires.0, λ gs. finding-from _ _ _ _ c.requires.1)
 
 loop-again : tie.Need-loop-i-preserved Inv μ
 loop-again c =
-    let one = c in
-    let turn = one in
-    let l = turn.loop-i in
-    (l.invariant.0, λ gs. rw (c.kind_of.ensures, one.one_of.ensures) (finding-next (rows-tails _ _) (l.invariant.1 gs) turn.loop-i-test.true))
+    let l = c.loop-i in
+    (l.invariant.0, λ gs. rw (c.kind_of.ensures, c.one_of.ensures) (finding-next (rows-tails _ _) (l.invariant.1 gs) c.loop-i-test.true))
 
 returns : tie.Need-returns Inv μ
 returns c gs = finding-done (rows-tails _ _) (c.loop-i.invariant.1 gs) c.loop-i-test.false

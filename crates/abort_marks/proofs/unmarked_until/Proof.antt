@@ -17,19 +17,17 @@ abbrev μ : tie.decreases-loop-from
 
 loop-holds : tie.Need-loop-from-init Inv μ
 loop-holds c =
-    let s = c in
     let r = c.pass_start-from.ensures in
-    (s.requires.0, s.requires.1, r.2, λ j l. s.requires.3 j (omega (arith, r.1)))
+    (c.requires.0, c.requires.1, r.2, λ j l. c.requires.3 j (omega (arith, r.1)))
 
 loop-again : tie.Need-loop-from-preserved Inv μ
 loop-again c =
-    let turn = c in
-    let v = turn.loop-from.invariant in
-    let words = turn.args.items.now in (
+    let v = c.loop-from.invariant in
+    let words = c.args.items.now in (
       v.0,
       v.1,
-      (λ l. omega (arith, v.2 turn.loop-from-test.true)),
-      unmarked-more words turn.loop-from.from v.3 c.chunk_marked.ensures c.if-chunk_marked.false,
+      (λ l. omega (arith, v.2 c.loop-from-test.true)),
+      unmarked-more words c.loop-from.from v.3 c.chunk_marked.ensures c.if-chunk_marked.false,
     )
 
 pub unmarked_until_spec : {M : Type 1} → statement M

@@ -21,8 +21,7 @@ loop-holds c = ends-start _ _ _ _ _ _ _ _
 
 put-if-requires : tie.Need-put_if-written-requires Inv μ
 put-if-requires c κs =
-    let start = c in
-    (start.requires.0.2, ends-room c.loop-i.invariant start.requires.1.1)
+    (c.requires.0.2, ends-room c.loop-i.invariant c.requires.1.1)
 
 add-written : tie.Need-overflow_add-written Inv μ
 add-written c =
@@ -32,17 +31,14 @@ add-written c =
 
 loop-again : tie.Need-loop-i-preserved Inv μ
 loop-again c =
-    let turn = c in
-    let start = turn in
-    let enough : start.args.m ≤ length start.args.ids.now = omega (arith, start.requires.0.0, start.requires.0.1) in
-    ends_next turn.loop-i.invariant enough turn.loop-i-test.true c.agrees-hit.ensures
+    let enough : c.args.m ≤ length c.args.ids.now = omega (arith, c.requires.0.0, c.requires.0.1) in
+    ends_next c.loop-i.invariant enough c.loop-i-test.true c.agrees-hit.ensures
     c.put_if-written.ensures c.one_if-length.ensures.0
 
 returns : tie.Need-returns Inv μ
 returns c =
-    let start = c in
-    let enough : start.args.m ≤ length start.args.ids.now = omega (arith, start.requires.0.0, start.requires.0.1) in
-    ends-done c.loop-i.invariant enough c.loop-i-test.false start.requires.0.0
+    let enough : c.args.m ≤ length c.args.ids.now = omega (arith, c.requires.0.0, c.requires.0.1) in
+    ends-done c.loop-i.invariant enough c.loop-i-test.false c.requires.0.0
 
 pub ends_spec : {M : Type 1} → statement M
 ends_spec =

@@ -16,8 +16,7 @@ returns-2 c = rw c.if-left-eq0.true (paged-empty _ 5 _ _ _ _)
 
 returns-3 : tie.Need-returns
 returns-3 c =
-    let start = c in
-    let a = start.args in
+    let a = c.args in
     let some : 1 ≤ a.left = omega (arith, c.if-left-eq0.false) in
     let due = not-false a.due c.if-not-due.false-raw in
     rw (due, c.put.ensures, c.head_of.ensures)

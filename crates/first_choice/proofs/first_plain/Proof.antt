@@ -17,11 +17,10 @@ choose-requires c κs = let p = c.requires in (p.0, omega arith, p.2, p.3, (refl
 
 returns : tie.Need-returns
 returns c z of d =
-    let s = c in
-    let a = s.args in
+    let a = c.args in
     let ks = column_keys z a.stopped.now a.owners.now a.items.now a.n in
     let h = columns-plain z a.stopped.now a.owners.now a.items.now a.n a.takes.now a.k
-    (omega (arith, s.requires.2, s.requires.3)) s.requires.1 of d in
+    (omega (arith, c.requires.2, c.requires.3)) c.requires.1 of d in
     c.choose.ensures ks a.takes.now (rw c.last_owner.ensures h) (used-none ks)
     ∙ first_alone (choices_from ks [] (take a.k a.takes.now))
 

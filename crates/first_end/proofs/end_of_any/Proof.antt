@@ -12,21 +12,19 @@ start c = c.before.before.before.before
 
 returns : tie.Need-returns-then-free-lt65536
 returns c gs T ceiling ports few =
-    let f = c in
-    let s = start f.before.before in
+    let s = start c.before.before in
     let a = s.args in
     c.end_of.ensures
     ∙ free-first a.owners.now a.items.now gs a.at s.requires.1 s.requires.2 T ceiling few a.globals ports
-    (f.gather_blocked.ensures gs) (f.first_free-free.ensures a.items.now gs) c.if-free-lt65536.true
+    (c.gather_blocked.ensures gs) (c.first_free-free.ensures a.items.now gs) c.if-free-lt65536.true
 
 returns-2 : tie.Need-returns
 returns-2 c gs T ceiling ports few =
-    let f = c in
-    let s = start f.before.before in
+    let s = start c.before.before in
     let a = s.args in
     c.first_abort.ensures gs T ceiling few
     ∙ none_free a.owners.now a.items.now gs a.at s.requires.1 s.requires.2 T ceiling few a.globals ports
-    (f.gather_blocked.ensures gs) (f.first_free-free.ensures a.items.now gs) c.if-free-lt65536.false
+    (c.gather_blocked.ensures gs) (c.first_free-free.ensures a.items.now gs) c.if-free-lt65536.false
 
 pub end_of_any_spec : {M : Type 1} → statement M
 end_of_any_spec =

@@ -18,10 +18,9 @@ abbrev μ : tie.decreases-loop-low
 
 loop-holds : tie.Need-loop-low-init Inv μ
 loop-holds c =
-    let s = c in
-    let a = s.args in
-    let p = s.requires.0 in
-    let (low, first, inside) = s.requires.1 in
+    let a = c.args in
+    let p = c.requires.0 in
+    let (low, first, inside) = c.requires.1 in
     let is = c.lowest_owner-low.ensures a.items.now in (
       omega (arith, found-above a.owners.now a.items.now [] a.at p.1 p.2 a.free low (is [])),
       λ gs T ports. turn-behind a.owners.now a.items.now gs a.at p.1 p.2 T a.at.len (omega arith) a.globals ports
@@ -35,40 +34,35 @@ start m = m.before.before.before.before
 -- the next one is above it
 rises : (c : tie.After-lowest_owner-low-in-loop-low Inv μ) → c.loop-low.low < c.lowest_owner-low-in-loop-low.result
 rises c =
-    let m = c in
-    let s = start m.before.before in
+    let s = start c.before.before in
     let a = s.args in
-    found-above a.owners.now a.items.now [] a.at s.requires.0.1 s.requires.0.2 m.loop-low.low m.loop-low-test.true
+    found-above a.owners.now a.items.now [] a.at s.requires.0.1 s.requires.0.2 c.loop-low.low c.loop-low-test.true
     (c.lowest_owner-low-in-loop-low.ensures a.items.now [])
 
 loop-again : tie.Need-loop-low-preserved Inv μ
 loop-again c =
-    let m = c in
-    let s = start m.before.before in
+    let s = start c.before.before in
     let a = s.args in
-    let l = m.loop-low in (
+    let l = c.loop-low in (
       omega (arith, rises c),
       λ gs T ports.
-          turn-above a.owners.now a.items.now gs a.at s.requires.0.1 s.requires.0.2 T (l.invariant.1 gs T ports) m.loop-low-test.true
-          (sym c.if-may_commit.false ∙ m.may_commit.ensures gs T ports) (c.lowest_owner-low-in-loop-low.ensures a.items.now gs),
+          turn-above a.owners.now a.items.now gs a.at s.requires.0.1 s.requires.0.2 T (l.invariant.1 gs T ports) c.loop-low-test.true
+          (sym c.if-may_commit.false ∙ c.may_commit.ensures gs T ports) (c.lowest_owner-low-in-loop-low.ensures a.items.now gs),
     )
 
 returns : tie.Need-returns-then-may_commit Inv μ
 returns c gs T ceiling ports few =
-    let m = c in
-    let s = start m.before.before in
+    let s = start c.before.before in
     let a = s.args in
     c.end_of.ensures
-    ∙ turn-commits a.owners.now a.items.now gs a.at s.requires.0.1 s.requires.0.2 T ceiling few (m.loop-low.invariant.1 gs T ports)
-    m.loop-low-test.true (sym c.if-may_commit.true ∙ m.may_commit.ensures gs T ports)
+    ∙ turn-commits a.owners.now a.items.now gs a.at s.requires.0.1 s.requires.0.2 T ceiling few (c.loop-low.invariant.1 gs T ports)
+    c.loop-low-test.true (sym c.if-may_commit.true ∙ c.may_commit.ensures gs T ports)
 
 returns-2 : tie.Need-returns Inv μ
 returns-2 c gs T ceiling ports few =
-    let l = c in
-    let s = l in
-    let a = s.args in
+    let a = c.args in
     c.first_abort.ensures gs T ceiling few
-    ∙ turns-over a.owners.now a.items.now gs a.at s.requires.0.1 s.requires.0.2 T ceiling few (l.loop-low.invariant.1 gs T ports)
+    ∙ turns-over a.owners.now a.items.now gs a.at c.requires.0.1 c.requires.0.2 T ceiling few (c.loop-low.invariant.1 gs T ports)
     c.loop-low-test.false
 
 pub end_of_few_spec : {M : Type 1} → statement M

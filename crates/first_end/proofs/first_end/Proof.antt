@@ -8,12 +8,10 @@ use Rattle.first_end.proofs.first_end.Tie as tie
 
 returns : tie.Need-returns-then-lowest-ge65536
 returns c gs T ceiling ports few =
-    let o = c in
-    let s = o in
-    let a = s.args in
+    let a = c.args in
     c.no_end.ensures
-    ∙ no-owner a.owners.now a.items.now gs a.at s.requires.1 s.requires.2 T ceiling few
-    (o.lowest_owner-lowest.ensures a.items.now gs) c.if-lowest-ge65536.true
+    ∙ no-owner a.owners.now a.items.now gs a.at c.requires.1 c.requires.2 T ceiling few
+    (c.lowest_owner-lowest.ensures a.items.now gs) c.if-lowest-ge65536.true
 
 -- where the first without an abort mark is known
 abbrev start : tie.After-lowest_unstopped-free → tie.Start
@@ -21,32 +19,27 @@ start c = c.before.before.before
 
 returns-2 : tie.Need-returns-then-free-ge65536
 returns-2 c gs T ceiling ports few =
-    let u = c in
-    let s = start u.before.before in
+    let s = start c.before.before in
     let a = s.args in
     c.first_abort.ensures gs T ceiling few
     ∙ all-stopped a.owners.now a.items.now gs a.at s.requires.1 s.requires.2 T ceiling few a.globals ports
-    (s.requires.3 gs) (u.lowest_unstopped-free.ensures a.items.now gs) c.if-free-ge65536.true
+    (s.requires.3 gs) (c.lowest_unstopped-free.ensures a.items.now gs) c.if-free-ge65536.true
 
 returns-3 : tie.Need-returns-then-not-has_inside
 returns-3 c gs T ceiling ports few =
-    let b = c in
-    let u = b in
-    let s = start u.before.before.before.before in
+    let s = start c.before.before.before.before in
     let a = s.args in
     c.end_of.ensures
     ∙ outside-first a.owners.now a.items.now gs a.at s.requires.1 s.requires.2 T ceiling few a.globals ports
-    (s.requires.3 gs) (u.lowest_unstopped-free.ensures a.items.now gs) b.if-free-ge65536.false
-    (sym (b.has_inside.ensures gs) ∙ not-true _ c.if-not-has_inside.true-raw)
+    (s.requires.3 gs) (c.lowest_unstopped-free.ensures a.items.now gs) c.if-free-ge65536.false
+    (sym (c.has_inside.ensures gs) ∙ not-true _ c.if-not-has_inside.true-raw)
 
 end-of-few-requires : tie.Need-end_of_few-requires
 end-of-few-requires c κs =
-    let b = c in
-    let u = b in
-    let s = start u.before.before.before.before in
+    let s = start c.before.before.before.before in
     let items = s.args.items.now in (
       s.requires,
-      (search rules, u.lowest_unstopped-free.ensures items, λ gs. sym (b.has_inside.ensures gs) ∙ not-false _ c.if-not-has_inside.false-raw),
+      (search rules, c.lowest_unstopped-free.ensures items, λ gs. sym (c.has_inside.ensures gs) ∙ not-false _ c.if-not-has_inside.false-raw),
     )
 
 pub first_end_spec : {M : Type 1} → statement M

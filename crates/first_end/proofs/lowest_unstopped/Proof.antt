@@ -9,17 +9,15 @@ use Rattle.first_end.proofs.lowest_unstopped.Tie as tie
 
 returns : tie.Need-returns-then-not-has
 returns c ws gs =
-    let s = c in
-    let a = s.args in
-    let g = s.requires.0 in
-    lowest-stays a.owners.now ws gs a.at g.2 g.3 (λ v. not (has a.stopped.now v)) (s.requires.1.1 ws gs) s.requires.1.0
+    let a = c.args in
+    let g = c.requires.0 in
+    lowest-stays a.owners.now ws gs a.at g.2 g.3 (λ v. not (has a.stopped.now v)) (c.requires.1.1 ws gs) c.requires.1.0
     (ap not (sym c.has.ensures) ∙ c.if-not-has.true-raw)
 
 returns-2 : tie.Need-returns
 returns-2 c ws gs =
-    let s = c in
-    let a = s.args in
-    let g = s.requires.0 in
+    let a = c.args in
+    let g = c.requires.0 in
     lowest-holder a.owners.now ws gs a.at g.2 g.3 0 (λ v. not (has a.stopped.now v)) (c.first_free.ensures ws gs)
 
 pub lowest_unstopped_spec : {M : Type 1} → statement M

@@ -15,36 +15,32 @@ use Rattle.next_move.proofs.next_move.Tie as tie
 
 returns : tie.Need-returns-then-reaction
 returns c =
-    let turn = c in
-    let s = turn in
-    let a = s.args in
+    let a = c.args in
     let (e, long) = c.first_reaction-reaction.ensures in
     let T = table_of a.table.now in
     let xs = reactions_by a.ceiling a.table.now a.at.len a.at.next _ in
     let found : (first_move xs).found ≡ true = sym (ap (λ (x : First). x.found) e) ∙ c.if-reaction.true in (
       (λ gs right.
           c.handed_on.ensures ∙ e ∙ first-here xs (open_ends a.ceiling T (state_from a.owners.now a.items.now gs a.at)) found
-          ∙ sym (ap first_move (whole-list a.table.now s.requires.0.indexed.table a.owners.now a.items.now gs a.at right a.ceiling
-          (columns-keyed (sizes_of a.table.now) a.owners.now a.items.now gs a.at (s.requires.0.state.stops gs))))),
+          ∙ sym (ap first_move (whole-list a.table.now c.requires.0.indexed.table a.owners.now a.items.now gs a.at right a.ceiling
+          (columns-keyed (sizes_of a.table.now) a.owners.now a.items.now gs a.at (c.requires.0.state.stops gs))))),
       long,
     )
 
 returns-2 : tie.Need-returns
 returns-2 c =
-    let turn = c in
-    let s = turn in
-    let a = s.args in
+    let a = c.args in
     let (e, long) = c.first_reaction-reaction.ensures in
     let T = table_of a.table.now in
-    let z = turn.sizes_of-z.ensures in
+    let z = c.sizes_of-z.ensures in
     let globals = ap (λ z. z.globals) (sizes-table_of a.table.now ∙ sym z) in
     let xs = reactions_by a.ceiling a.table.now a.at.len a.at.next _ in
     let none : (first_move xs).found ≡ false = sym (ap (λ (x : First). x.found) e) ∙ c.if-reaction.false in (
       (λ gs right.
-          c.first_end.ensures gs T a.ceiling globals s.requires.4
+          c.first_end.ensures gs T a.ceiling globals c.requires.4
           ∙ first-behind xs (open_ends a.ceiling T (state_from a.owners.now a.items.now gs a.at)) none
-          ∙ sym (ap first_move (whole-list a.table.now s.requires.0.indexed.table a.owners.now a.items.now gs a.at right a.ceiling
-          (columns-keyed (sizes_of a.table.now) a.owners.now a.items.now gs a.at (s.requires.0.state.stops gs))))),
+          ∙ sym (ap first_move (whole-list a.table.now c.requires.0.indexed.table a.owners.now a.items.now gs a.at right a.ceiling
+          (columns-keyed (sizes_of a.table.now) a.owners.now a.items.now gs a.at (c.requires.0.state.stops gs))))),
       long,
     )
 

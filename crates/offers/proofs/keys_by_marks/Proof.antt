@@ -8,12 +8,10 @@ use Rattle.offers.proofs.keys_by_marks.Tie as tie
 
 returns : tie.Need-returns-then-none_stopped
 returns c =
-    let t = c in
-    let s = t in
-    let a = s.args in
-    let e = all-outside a.owners.now a.items.now [] a.at.len (s.requires.1 []) (t.none_stopped.ensures t.if-none_stopped.true) in
+    let a = c.args in
+    let e = all-outside a.owners.now a.items.now [] a.at.len (c.requires.1 []) (c.none_stopped.ensures c.if-none_stopped.true) in
     let h = rw e at c.keys_free.ensures in
-    (row-keys h s.requires.0.0.fits, (h.filled.size, keys-small h))
+    (row-keys h c.requires.0.0.fits, (h.filled.size, keys-small h))
 
 returns-2 : tie.Need-returns
 returns-2 c =

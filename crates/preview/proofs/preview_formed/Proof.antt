@@ -8,7 +8,7 @@ preview_formed_spec =
     tie.close
     (tie.spec
     (λ c κs. search rules)
-    (λ c κs. let s = c in (s.requires.0, (s.requires.1, sym c.kind_of.ensures ∙ c.if-kind_of-eq-REACT.true)))
+    (λ c κs. (c.requires.0, (c.requires.1, sym c.kind_of.ensures ∙ c.if-kind_of-eq-REACT.true)))
     (λ c. c.preview_reaction.ensures)
-    (λ c κs. let s = c in (s.requires.1, λ e. c.if-kind_of-eq-REACT.false (c.kind_of.ensures ∙ e)))
+    (λ c κs. (c.requires.1, λ e. c.if-kind_of-eq-REACT.false (c.kind_of.ensures ∙ e)))
     (λ c. c.preview_end.ensures))

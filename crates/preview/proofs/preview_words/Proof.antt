@@ -20,14 +20,13 @@ load-requires c κs =
 preview-formed-requires : tie.Need-preview_formed-requires
 preview-formed-requires c κs =
     let loaded = c.load-at.ensures in
-    let formed = c in
-    let p = formed.requires in (
+    let p = c.requires in (
       p.starts,
       record {
         table = ready-table p;
         columns = record { owners = loaded.arrays.owners; items = loaded.arrays.items; fits = loaded.holds.fits };
         fits = loaded.holds.fits;
-        form = sym formed.form_ok.ensures ∙ not-false _ formed.if-not-form_ok.false-raw;
+        form = sym c.form_ok.ensures ∙ not-false _ c.if-not-form_ok.false-raw;
       },
     )
 

@@ -5,11 +5,9 @@ use Rattle.replay.proofs.again_at.Tie as tie
 
 returns : tie.Need-returns
 returns c ws =
-    let used = c in
-    let start = used in
-    words-made used.head_at-was.ensures (used.head_again-head.ensures ws) used.picks_used-k.ensures
+    words-made c.head_at-was.ensures (c.head_again-head.ensures ws) c.picks_used-k.ensures
     c.wanted_at-picked.ensures
-    (c.places_of-picks.ensures start.args.owners.now ws)
+    (c.places_of-picks.ensures c.args.owners.now ws)
 
 pub again_at_spec : {M : Type 1} → statement M
 again_at_spec =

@@ -10,23 +10,19 @@ returns c ws = head-react _ _ _ (sym c.kind_of-kind.ensures ∙ c.if-kind-eq-REA
 
 returns-2 : tie.Need-returns-then-kind-eq-COMMIT
 returns-2 c ws =
-    let owner = c in
-    let kind = owner in
-    let a = kind.args in
+    let a = c.args in
     c.head_of.ensures
-    ∙ (head-commit _ _ _ (λ e. owner.if-kind-eq-REACT.false (kind.kind_of-kind.ensures ∙ e)) (owner.owner_at-id.ensures ws a.origins.now)
-    (owner.place_of.ensures.0 a.owners.now ws)
-    (sym kind.kind_of-kind.ensures ∙ c.if-kind-eq-COMMIT.true))
+    ∙ (head-commit _ _ _ (λ e. c.if-kind-eq-REACT.false (c.kind_of-kind.ensures ∙ e)) (c.owner_at-id.ensures ws a.origins.now)
+    (c.place_of.ensures.0 a.owners.now ws)
+    (sym c.kind_of-kind.ensures ∙ c.if-kind-eq-COMMIT.true))
 
 returns-3 : tie.Need-returns-else-kind-eq-COMMIT
 returns-3 c ws =
-    let owner = c in
-    let kind = owner in
-    let a = kind.args in
+    let a = c.args in
     c.head_of-else-kind-eq-COMMIT.ensures
-    ∙ (head-abort _ _ _ (λ e. owner.if-kind-eq-REACT.false (kind.kind_of-kind.ensures ∙ e)) (owner.owner_at-id.ensures ws a.origins.now)
-    (owner.place_of.ensures.0 a.owners.now ws)
-    (λ e. c.if-kind-eq-COMMIT.false (kind.kind_of-kind.ensures ∙ e)))
+    ∙ (head-abort _ _ _ (λ e. c.if-kind-eq-REACT.false (c.kind_of-kind.ensures ∙ e)) (c.owner_at-id.ensures ws a.origins.now)
+    (c.place_of.ensures.0 a.owners.now ws)
+    (λ e. c.if-kind-eq-COMMIT.false (c.kind_of-kind.ensures ∙ e)))
 
 pub head_again_spec : {M : Type 1} → statement M
 head_again_spec =

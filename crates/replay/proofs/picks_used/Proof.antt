@@ -16,26 +16,23 @@ returns c =
 
 returns-2 : tie.Need-returns-then-sizes-number
 returns-2 c =
-    let kind = c in
-    let t = kind.args.table.now in
+    let t = c.args.table.now in
     let e = ap (λ (z : Sizes). z.rules) c.sizes_of-sizes.ensures in (
-      used-no-rule t _ (sym kind.kind_of.ensures ∙ c.if-kind_of-ne-REACT.false)
+      used-no-rule t _ (sym c.kind_of.ensures ∙ c.if-kind_of-ne-REACT.false)
           (omega (arith, e, c.number_of-number.ensures, c.if-sizes-number.true)),
       omega arith,
     )
 
 consumes-at-requires : tie.Need-consumes_at-requires
 consumes-at-requires c κs =
-    let s = c in
-    (s.requires.table, below-rules s.args.table.now c.sizes_of-sizes.ensures c.if-sizes-number.false, s.requires.starts)
+    (c.requires.table, below-rules c.args.table.now c.sizes_of-sizes.ensures c.if-sizes-number.false, c.requires.starts)
 
 returns-3 : tie.Need-returns
 returns-3 c =
-    let kind = c in
-    let a = kind.args in
+    let a = c.args in
     let number = c.number_of-number.ensures in (
       (rw number at c.consumes_at.ensures.0) ∙ sym (used-rule (table_of a.table.now) a.head
-          (sym kind.kind_of.ensures ∙ c.if-kind_of-ne-REACT.false)),
+          (sym c.kind_of.ensures ∙ c.if-kind_of-ne-REACT.false)),
       c.consumes_at.ensures.1,
     )
 

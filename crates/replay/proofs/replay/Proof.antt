@@ -26,19 +26,17 @@ turn-of c = c.before.before.before.before.before.before.before.before.before.bef
 
 again-at-requires : tie.Need-again_at-mv-requires Inv μ
 again-at-requires c κs =
-    let turn = c in
-    let g = turn.loop-j.invariant in
+    let g = c.loop-j.invariant in
     let a = g.workable.arrays in (
       g.given.read,
       record { owners = a.owners; items = a.origins; fits = omega (arith, g.workable.bounds.fits, g.workable.limit) },
-      g.given.places _ turn.loop-j-test.true,
+      g.given.places _ c.loop-j-test.true,
     )
 
 put-move-requires : tie.Need-put_move-requires Inv μ
 put-move-requires c κs =
-    let turn = c in
-    let g = turn.loop-j.invariant in
-    (turn.loop-j-test.true, g.given.read.log.few, going-room g)
+    let g = c.loop-j.invariant in
+    (c.loop-j-test.true, g.given.read.log.few, going-room g)
 
 make-requires : tie.Need-make-made-requires Inv μ
 make-requires c κs =
@@ -48,30 +46,21 @@ make-requires c κs =
 
 same_length : tie.Need-shape_of-out-in-Denied Inv μ
 same_length c =
-    let put = c in
-    let l = put.loop-j in
-    put.put_move.ensures.size ∙ length-set l.out _ _ ∙ simp length-set at l.invariant.size
+    let l = c.loop-j in
+    c.put_move.ensures.size ∙ length-set l.out _ _ ∙ simp length-set at l.invariant.size
 
 returns : tie.Need-returns-in-Denied Inv μ
 unfolding state_in
 returns c =
-    let m = c in
-    let put = m in
-    let read = put in
-    let turn = read in
-    let l = turn.loop-j in
-    going-denied l.invariant turn.loop-j-test.true (read.again_at-mv.ensures l.items) put.put_move.ensures m.make-made.ensures
+    let l = c.loop-j in
+    going-denied l.invariant c.loop-j-test.true (c.again_at-mv.ensures l.items) c.put_move.ensures c.make-made.ensures
     c.in-Denied.is refl
 
 loop-again : tie.Need-loop-j-preserved Inv μ
 unfolding state_in
 loop-again c =
-    let m = c in
-    let put = m in
-    let read = put in
-    let turn = read in
-    let l = turn.loop-j in
-    going_next l.invariant turn.loop-j-test.true (read.again_at-mv.ensures l.items) put.put_move.ensures m.make-made.ensures
+    let l = c.loop-j in
+    going_next l.invariant c.loop-j-test.true (c.again_at-mv.ensures l.items) c.put_move.ensures c.make-made.ensures
     c.in_default.is
 
 returns-2 : tie.Need-returns Inv μ

@@ -20,7 +20,7 @@ make-requires c κs =
     record { indexed = p.0.0.indexed; maker-fits = (omega arith, omega (arith, p.0.1, p.0.0.log.few)); workable = p.1 }
 
 returns : tie.Need-returns
-returns c = let made = c in rw made.move_at-mv.ensures at made.make-made.ensures
+returns c = rw c.move_at-mv.ensures at c.make-made.ensures
 
 pub make_at_spec : {M : Type 1} → statement M
 make_at_spec = tie.close (tie.spec move-at-requires (λ c. search rules) cast-by make-requires returns)

@@ -30,41 +30,33 @@ more c = omega (arith, c.loop-i.invariant.1, c.loop-i-test.true)
 
 make-at-requires : tie.Need-make_at-made-requires Inv μ
 make-at-requires c κs =
-    let turn = c in
-    ((turn.loop-i.invariant.0, more turn.before.before.before), turn.loop-i.invariant.2.folded.reached.workable)
+    ((c.loop-i.invariant.0, more c.before.before.before), c.loop-i.invariant.2.folded.reached.workable)
 
 returns : tie.Need-returns-in-Denied Inv μ
 returns c =
-    let made = c in
-    let turn = made in
-    let v = turn.loop-i.invariant.2 in
+    let v = c.loop-i.invariant.2 in
     let refused = c.in-Denied.is in
     rw c.came_to.ensures (record {
-      ran = reached-refused v.folded.reached (more turn.before.before.before.before.before.before.before) made.make_at-made.ensures refused refl refl;
-      tally = tally-at-refused v (more turn.before.before.before.before.before.before.before) made.make_at-made.ensures refused;
-      few = tally-few v turn.loop-i.invariant.0.log.few;
+      ran = reached-refused v.folded.reached (more c.before.before.before.before.before.before.before) c.make_at-made.ensures refused refl refl;
+      tally = tally-at-refused v (more c.before.before.before.before.before.before.before) c.make_at-made.ensures refused;
+      few = tally-few v c.loop-i.invariant.0.log.few;
     })
 
 tally-at-requires : tie.Need-tally_at-tally-requires Inv μ
 tally-at-requires c κs =
-    let made = c in
-    let turn = made in
-    let v = turn.loop-i.invariant in
+    let v = c.loop-i.invariant in
     let sized = v.0.log in
-    (record { sizes = sized; within = more turn.before.before.before.before.before.before }, tally-room v.2 (more turn.before.before.before.before.before.before) made.make_at-made.ensures c.in_default.is sized.few)
+    (record { sizes = sized; within = more c.before.before.before.before.before.before }, tally-room v.2 (more c.before.before.before.before.before.before) c.make_at-made.ensures c.in_default.is sized.few)
 
 loop-again : tie.Need-loop-i-preserved Inv μ
 loop-again c =
-    let made = c in
-    let turn = made in
-    let v = turn.loop-i.invariant in
-    (v.0, v.1, rw c.tally_at-tally.ensures (tally-at-made v.2 (more turn.before.before.before.before.before.before.before) made.make_at-made.ensures c.in_default.is))
+    let v = c.loop-i.invariant in
+    (v.0, v.1, rw c.tally_at-tally.ensures (tally-at-made v.2 (more c.before.before.before.before.before.before.before) c.make_at-made.ensures c.in_default.is))
 
 returns-2 : tie.Need-returns Inv μ
 returns-2 c =
-    let end = c in
-    let v = end.loop-i.invariant in
-    let all : move_count end.args.log.now ≤ end.loop-i.i = omega (arith, end.loop-i-test.false, v.1) in
+    let v = c.loop-i.invariant in
+    let all : move_count c.args.log.now ≤ c.loop-i.i = omega (arith, c.loop-i-test.false, v.1) in
     rw c.came_to-2.ensures
     (record { ran = reached-end v.2.folded.reached all refl refl; tally = tally-at-end v.2 all; few = tally-few v.2 v.0.log.few })
 
@@ -73,7 +65,7 @@ run_log_spec =
     tie.close
     (tie.spec
     Inv μ (λ c κs. search rules) loop-holds make-at-requires (λ c. search rules)
-    (λ c κs. let turn = c in let v = turn.loop-i.invariant in
-    omega (arith, more turn.before.before.before.before.before.before, v.1, v.0.log.few))
+    (λ c κs. let v = c.loop-i.invariant in
+    omega (arith, more c.before.before.before.before.before.before, v.1, v.0.log.few))
     returns (λ c. search rules) tally-at-requires (λ c. search rules) (λ c. search rules) loop-again
     (λ c κs. let v = c.loop-i.invariant in omega (arith, v.1, v.2.folded.reached.within, v.0.log.few)) returns-2)

@@ -24,8 +24,7 @@ few c = omega (arith, c.loop-j-test.true, c.requires.fits)
 
 loop-again : tie.Need-loop-j-preserved Inv μ
 loop-again c =
-    let turn = c in
-    rw c.may_fit-found.ensures (finding-next (rows-tails _ _) turn.loop-j.invariant turn.loop-j-test.true)
+    rw c.may_fit-found.ensures (finding-next (rows-tails _ _) c.loop-j.invariant c.loop-j-test.true)
 
 pub chunk_may_fit_spec : {M : Type 1} → statement M
 chunk_may_fit_spec =

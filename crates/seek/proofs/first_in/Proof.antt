@@ -34,6 +34,5 @@ first_in_spec =
     (λ c. omega (arith, few c.before.before.before.before.before.before))
     (λ c. omega (arith, c.loop-p-test.true))
     (λ c.
-    let turn = c in
-    (omega (arith, turn.loop-p-test.true), sought-next turn.loop-p.invariant.1 (sym c.fits.ensures ∙ c.if-fits.false)))
+    (omega (arith, c.loop-p-test.true), sought-next c.loop-p.invariant.1 (sym c.fits.ensures ∙ c.if-fits.false)))
     (λ c. sought-end c.loop-p.invariant.1 c.loop-p.invariant.0 c.loop-p-test.false))

@@ -27,10 +27,8 @@ next_fit_spec =
     (λ c κs. (c.loop-at-test.true, c.requires.0.fits))
     next-in-chunk-requires
     (λ c.
-    let turn = c in
-    sought-place turn.loop-at.invariant.1 c.next_in_chunk-next.ensures c.chunk_end-end.ensures.within c.if-next-end.true)
+    sought-place c.loop-at.invariant.1 c.next_in_chunk-next.ensures c.chunk_end-end.ensures.within c.if-next-end.true)
     (λ c. let e = c.chunk_end-end.ensures in omega (arith, c.loop-at-test.true, e.more, e.within))
     (λ c.
-    let turn = c in
-    (c.chunk_end-end.ensures.within, sought-chunk turn.loop-at.invariant.1 c.next_in_chunk-next.ensures c.if-next-end.false))
+    (c.chunk_end-end.ensures.within, sought-chunk c.loop-at.invariant.1 c.next_in_chunk-next.ensures c.if-next-end.false))
     (λ c. sought-end c.loop-at.invariant.1 c.loop-at.invariant.0 c.loop-at-test.false))

@@ -10,15 +10,14 @@ use Rattle.seek.proofs.next_in_chunk.Tie as tie
 
 returns-2 : tie.Need-returns-then-not-chunk_may_fit
 returns-2 c =
-    let s = c in
-    let a = s.args in
+    let a = c.args in
     let lacks = rows-lack _ (λ j. a.from + j) 0 32 (sym c.chunk_may_fit.ensures ∙ not-true _ c.if-not-chunk_may_fit.true-raw) in
     record {
-      low = s.requires.1;
+      low = c.requires.1;
       high = omega arith;
       none = λ j l u.
           let at : a.from + (j - a.from) ≡ j = omega arith in
-          false-and _ (rw at at (lacks (j - a.from) (omega arith) (omega (arith, s.requires.2))));
+          false-and _ (rw at at (lacks (j - a.from) (omega arith) (omega (arith, c.requires.2))));
       here = λ l. absurd (omega arith);
     }
 

@@ -8,23 +8,18 @@ use Rattle.serial.proofs.order_log.Tie as tie
 
 keys-of-requires : tie.Need-keys_of-requires
 keys-of-requires c κs =
-    let counted = c in
-    let p = counted.requires.0 in
-    (p.log, omega (arith, counted.count_of-k.ensures.0), p.members-size, p.ends-size, length-replicate {A = ℕ} 1024 0)
+    let p = c.requires.0 in
+    (p.log, omega (arith, c.count_of-k.ensures.0), p.members-size, p.ends-size, length-replicate {A = ℕ} 1024 0)
 
 order-of-requires : tie.Need-order_of-requires
 order-of-requires c κs =
-    let keyed = c in
-    let counted = keyed in
-    let p = counted.requires in
-    (keys-fit p.0 counted.count_of-k.ensures.0 keyed.keys_of.ensures, length-replicate {A = ℕ} 1024 0, p.1)
+    let p = c.requires in
+    (keys-fit p.0 c.count_of-k.ensures.0 c.keys_of.ensures, length-replicate {A = ℕ} 1024 0, p.1)
 
 returns : tie.Need-returns
 returns c =
-    let keyed = c in
-    let counted = keyed in
-    let p = counted.requires in
-    sorted-as p.0 counted.count_of-k.ensures.0 keyed.keys_of.ensures c.order_of.ensures
+    let p = c.requires in
+    sorted-as p.0 c.count_of-k.ensures.0 c.keys_of.ensures c.order_of.ensures
 
 pub order_log_spec : {M : Type 1} → statement M
 order_log_spec = tie.close (tie.spec (λ c κs. search rules) keys-of-requires order-of-requires returns)

@@ -17,31 +17,21 @@ load-requires c κs =
 
 replay-requires : tie.Need-replay-fits-requires
 replay-requires c κs =
-    let loaded = c in
-    let ordered = loaded in
-    let p = ordered.requires in
-    replay-asked _ _ _ _ _ _ _ _ p.0 ordered.order_log.ensures loaded.load-at.ensures
+    let p = c.requires in
+    replay-asked _ _ _ _ _ _ _ _ p.0 c.order_log.ensures c.load-at.ensures
     (omega (arith, p.2, p.0.begun.room))
 
 store-serial-requires : tie.Need-store_serial-requires
 store-serial-requires c κs =
-    let counted = c in
-    let replayed = counted in
-    let loaded = replayed in
-    let ordered = loaded in
-    let p = ordered.requires in
-    written-asked _ _ _ _ _ _ _ _ p.0 ordered.order_log.ensures loaded.load-at.ensures replayed.replay-fits.ensures
-    counted.count_of.ensures.0 (omega (arith, p.2, p.0.begun.room))
+    let p = c.requires in
+    written-asked _ _ _ _ _ _ _ _ p.0 c.order_log.ensures c.load-at.ensures c.replay-fits.ensures
+    c.count_of.ensures.0 (omega (arith, p.2, p.0.begun.room))
 
 returns : tie.Need-returns
 returns c =
-    let counted = c in
-    let replayed = counted in
-    let loaded = replayed in
-    let ordered = loaded in
-    let p = ordered.requires in
-    reordered-as _ _ _ _ _ _ _ _ p.0 ordered.order_log.ensures loaded.load-at.ensures replayed.replay-fits.ensures
-    counted.count_of.ensures.0 c.store_serial.ensures
+    let p = c.requires in
+    reordered-as _ _ _ _ _ _ _ _ p.0 c.order_log.ensures c.load-at.ensures c.replay-fits.ensures
+    c.count_of.ensures.0 c.store_serial.ensures
 
 pub reordered_spec : {M : Type 1} → statement M
 reordered_spec =

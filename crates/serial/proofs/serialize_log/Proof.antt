@@ -8,10 +8,9 @@ use Rattle.serial.proofs.serialize_log.Tie as tie
 
 serialized-requires : tie.Need-serialized-requires
 serialized-requires c κs =
-    let counted = c in
-    let n = counted.count_of.ensures.0 in
+    let n = c.count_of.ensures.0 in
     let short = c.if-count_of-le128.true in (
-      counted.requires,
+      c.requires,
       record {
         notes = omega (arith, n, short, length-replicate {A = ℕ} 512 0);
         words = omega (arith, n, short, length-replicate {A = ℕ} 641 0);
@@ -20,9 +19,8 @@ serialized-requires c κs =
 
 serialized-requires-2 : tie.Need-serialized-requires-2
 serialized-requires-2 c κs =
-    let counted = c in
-    let n = counted.count_of.ensures.0 in
-    let p = counted.requires in
+    let n = c.count_of.ensures.0 in
+    let p = c.requires in
     let few = (log-sized _ p.sizes).few in (
       p,
       record {

@@ -14,16 +14,13 @@ load-requires c κs = (
 
 record-requires : tie.Need-record-ran-requires
 record-requires c κs =
-    let loaded = c in
-    let p = loaded.requires in
-    (recordable _ _ _ _ _ p.0 loaded.load-at.ensures, record-room _ _ _ p.1)
+    let p = c.requires in
+    (recordable _ _ _ _ _ p.0 c.load-at.ensures, record-room _ _ _ p.1)
 
 returns : tie.Need-returns-in-Denied
 returns c =
-    let ran = c in
-    let loaded = ran in
-    let p = loaded.requires in
-    ran-refused _ _ _ _ _ p.0 loaded.load-at.ensures ran.record-ran.ensures.0 c.in-Denied.is
+    let p = c.requires in
+    ran-refused _ _ _ _ _ p.0 c.load-at.ensures c.record-ran.ensures.0 c.in-Denied.is
 
 any-owned-requires : tie.Need-any_owned-requires
 any-owned-requires c κs =
@@ -32,32 +29,24 @@ any-owned-requires c κs =
 
 returns-2 : tie.Need-returns-then-any_owned
 returns-2 c =
-    let ran = c in
-    let loaded = ran in
-    let p = loaded.requires in
-    ran_open _ _ _ _ _ p.0 loaded.load-at.ensures ran.record-ran.ensures.0 c.in_default.is
+    let p = c.requires in
+    ran_open _ _ _ _ _ p.0 c.load-at.ensures c.record-ran.ensures.0 c.in_default.is
     c.any_owned.ensures c.if-any_owned.true
 
 reordered-requires : tie.Need-reordered-requires
 reordered-requires c κs =
-    let tested = c in
-    let ran = tested in
-    let loaded = ran in
-    let p = loaded.requires in (
-      reorder-asked _ _ _ _ _ p.0 loaded.load-at.ensures ran.record-ran.ensures.0 tested.in_default.is
-          tested.any_owned.ensures tested.if-any_owned.false refl ran.record-ran.ensures.1,
-      ran.record-ran.ensures.0.ran.workable.arrays,
+    let p = c.requires in (
+      reorder-asked _ _ _ _ _ p.0 c.load-at.ensures c.record-ran.ensures.0 c.in_default.is
+          c.any_owned.ensures c.if-any_owned.false refl c.record-ran.ensures.1,
+      c.record-ran.ensures.0.ran.workable.arrays,
       p.1.words,
     )
 
 returns-3 : tie.Need-returns
 returns-3 c =
-    let tested = c in
-    let ran = tested in
-    let loaded = ran in
-    let p = loaded.requires in
-    ran-closed _ _ _ _ _ p.0 loaded.load-at.ensures ran.record-ran.ensures.0 tested.in_default.is
-    tested.any_owned.ensures tested.if-any_owned.false c.reordered.ensures
+    let p = c.requires in
+    ran-closed _ _ _ _ _ p.0 c.load-at.ensures c.record-ran.ensures.0 c.in_default.is
+    c.any_owned.ensures c.if-any_owned.false c.reordered.ensures
 
 pub serialized_spec : {M : Type 1} → statement M
 serialized_spec =

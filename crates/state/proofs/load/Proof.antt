@@ -16,29 +16,24 @@ owners-whole c = omega (arith, c.entry_count-len.ensures.0, c.owners_of.ensures.
 
 narrow-words-requires : tie.Need-narrow_words-requires
 narrow-words-requires c κs =
-    let count = c in
-    let p = count.requires in
-    ((owners-whole c.before, omega (arith, within count.before.before, p.1.owners)), λ k _. rw c.owners_of.ensures.value (p.0.narrow k))
+    let p = c.requires in
+    ((owners-whole c.before, omega (arith, within c.before.before, p.1.owners)), λ k _. rw c.owners_of.ensures.value (p.0.narrow k))
 
 items-whole : (c : tie.After-items_of) → c.entry_count-len.result ≤ length c.items_of.result.now
 items-whole c = omega (arith, c.entry_count-len.ensures.0, c.items_of.ensures.size)
 
 copy-words-requires : tie.Need-copy_words-requires
 copy-words-requires c κs =
-    let count = c in
-    (items-whole c.before, omega (arith, within count.before.before.before.before.before, count.requires.1.items))
+    (items-whole c.before, omega (arith, within c.before.before.before.before.before, c.requires.1.items))
 
 returns : tie.Need-returns
 returns c =
-    let items = c in
-    let owners = items in
-    let count = owners in
-    let sizes = count.requires.1 in
-    let (n, q) = count.entry_count-len.ensures in
+    let sizes = c.requires.1 in
+    let (n, q) = c.entry_count-len.ensures in
     loaded q n
-    (rw owners.owners_of.ensures.value at (copied-column _ _ _ _ (owners-whole owners.before.before.before.before.before.before.before.before) sizes.owners (within count.before.before.before.before.before.before.before.before.before)
-    items.narrow_words.ensures))
-    (rw items.items_of.ensures.value at (copied-column _ _ _ _ (items-whole items.before.before.before.before.before) sizes.items (within count.before.before.before.before.before.before.before.before.before)
+    (rw c.owners_of.ensures.value at (copied-column _ _ _ _ (owners-whole c.before.before.before.before.before.before.before.before) sizes.owners (within c.before.before.before.before.before.before.before.before.before)
+    c.narrow_words.ensures))
+    (rw c.items_of.ensures.value at (copied-column _ _ _ _ (items-whole c.before.before.before.before.before) sizes.items (within c.before.before.before.before.before.before.before.before.before)
     c.copy_words.ensures))
     c.number_column.ensures
 

@@ -16,9 +16,8 @@ widen-column-at-requires c κs = let start = c.requires in
 
 copy-words-at-requires : tie.Need-copy_words_at-requires
 copy-words-at-requires c κs =
-    let first = c in
-    let start = first.requires in
-    (omega (arith, start.0.fits, start.0.items), omega (arith, start.1, simp length-set at first.widen_column_at.ensures.size))
+    let start = c.requires in
+    (omega (arith, start.0.fits, start.0.items), omega (arith, start.1, simp length-set at c.widen_column_at.ensures.size))
 
 same_length : tie.Need-shape_of-target
 same_length c = simp length-set at (c.copy_words_at.ensures.size
@@ -26,9 +25,8 @@ same_length c = simp length-set at (c.copy_words_at.ensures.size
 
 returns : tie.Need-returns
 returns c =
-    let first = c in
-    let start = first.requires in
-    λ gs. stored-words _ _ _ _ start.0.owners start.0.items start.0.fits start.1 first.widen_column_at.ensures
+    let start = c.requires in
+    λ gs. stored-words _ _ _ _ start.0.owners start.0.items start.0.fits start.1 c.widen_column_at.ensures
     c.copy_words_at.ensures
 
 pub store_spec : {M : Type 1} → statement M

@@ -9,32 +9,25 @@ use Rattle.supply.proofs.count_atom.Tie as tie
 
 sub-totals : tie.Need-overflow_sub-totals
 sub-totals c =
-    let role = c in
-    let s = role in
-    one-there _ s.args.totals.now role.port_of-port.ensures (sym role.role_of.ensures ∙ c.if-role_of-eq0.true) s.requires.1
+    one-there _ c.args.totals.now c.port_of-port.ensures (sym c.role_of.ensures ∙ c.if-role_of-eq0.true) c.requires.1
 
 returns : tie.Need-returns-then-role_of-eq0
 returns c =
-    let role = c in
-    let s = role in
-    counted-less _ _ _ _ role.port_of-port.ensures s.requires.0 (sym role.role_of.ensures ∙ c.if-role_of-eq0.true) s.requires.1
+    counted-less _ _ _ _ c.port_of-port.ensures c.requires.0 (sym c.role_of.ensures ∙ c.if-role_of-eq0.true) c.requires.1
 
 returns-2 : tie.Need-returns-then-not-supplies_any
 returns-2 c =
-    let role = c in
-    counted_none _ _ _ _ role.requires.0 (λ e. c.if-role_of-eq0.false (role.role_of.ensures ∙ e))
+    counted_none _ _ _ _ c.requires.0 (λ e. c.if-role_of-eq0.false (c.role_of.ensures ∙ e))
     (sym c.supplies_any.ensures ∙ not-true _ c.if-not-supplies_any.true-raw)
 
 add-totals : tie.Need-overflow_add-totals
 add-totals c =
-    let s = c in
-    rw c.port_of-port.ensures (omega (arith, s.requires.2))
+    rw c.port_of-port.ensures (omega (arith, c.requires.2))
 
 returns-3 : tie.Need-returns
 returns-3 c =
-    let role = c in
-    counted-more _ _ _ _ role.port_of-port.ensures role.requires.0
-    (λ e. c.if-role_of-eq0.false (role.role_of.ensures ∙ e))
+    counted-more _ _ _ _ c.port_of-port.ensures c.requires.0
+    (λ e. c.if-role_of-eq0.false (c.role_of.ensures ∙ e))
     (sym c.supplies_any.ensures ∙ not-false _ c.if-not-supplies_any.false-raw)
 
 pub count_atom_spec : {M : Type 1} → statement M

@@ -17,15 +17,13 @@ loop-holds c = counting-start _ _ _ _ _ c.requires.size
 
 count-atom-requires : tie.Need-count_atom-requires Inv μ
 count-atom-requires c κs =
-    let turn = c in
-    let inv = turn.loop-i.invariant in
-    let given = turn.requires in
-    (inv.so_far.size, counting-low inv turn.loop-i-test.true given, counting-high inv turn.loop-i-test.true given)
+    let inv = c.loop-i.invariant in
+    let given = c.requires in
+    (inv.so_far.size, counting-low inv c.loop-i-test.true given, counting-high inv c.loop-i-test.true given)
 
 loop-again : tie.Need-loop-i-preserved Inv μ
 loop-again c =
-    let turn = c in
-    counting-next turn.loop-i.invariant turn.loop-i-test.true c.count_atom.ensures
+    counting-next c.loop-i.invariant c.loop-i-test.true c.count_atom.ensures
 
 returns : tie.Need-returns Inv μ
 returns c = counting-done c.loop-i.invariant c.loop-i-test.false

@@ -13,24 +13,22 @@ rule-words-requires c κs =
 
 last-aborts-requires : tie.Need-last_aborts-aborts-requires
 last-aborts-requires c κs =
-    let words = c in
-    let p = words.requires in
-    words-some _ _ _ p.0 p.1 p.2 words.atom_words_of.ensures words.sizes_of-z.ensures words.rule_words-ws.ensures
+    let p = c.requires in
+    words-some _ _ _ p.0 p.1 p.2 c.atom_words_of.ensures c.sizes_of-z.ensures c.rule_words-ws.ensures
 
 count-atoms-requires : tie.Need-count_atoms-requires
 count-atoms-requires c κs =
     let p = c.requires in
-    let words = c in
-    words-enough _ _ _ p.0 p.1 p.2 words.atom_words_of.ensures words.sizes_of-z.ensures words.rule_words-ws.ensures
+    words-enough _ _ _ p.0 p.1 p.2 c.atom_words_of.ensures c.sizes_of-z.ensures c.rule_words-ws.ensures
     p.3.2
 
 returns : tie.Need-returns
 returns c =
     let p = c.requires in
-    let words = c in (
+    (
       c.count_atoms.ensures.size,
       λ s ps i reacts calm.
-          words-after _ _ _ p.0 p.1 p.2 words.atom_words_of.ensures words.sizes_of-z.ensures words.rule_words-ws.ensures
+          words-after _ _ _ p.0 p.1 p.2 c.atom_words_of.ensures c.sizes_of-z.ensures c.rule_words-ws.ensures
           reacts c.rule_class-class.ensures c.last_aborts-aborts.ensures c.count_atoms.ensures calm i,
     )
 

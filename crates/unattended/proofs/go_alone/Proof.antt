@@ -18,9 +18,8 @@ use Rattle.unattended.proofs.go_alone.Tie as tie
 
 track-requires : tie.Need-track-requires
 track-requires c κs =
-    let load = c in
-    let p = load.requires in
-    let loaded = load.load-at.ensures in
+    let p = c.requires in
+    let loaded = c.load-at.ensures in
     let table = (ready-indexed p.0).table in (
       record { owners = loaded.arrays.owners; items = loaded.arrays.items; fits = loaded.holds.fits },
       rw c.sizes_of-z.ensures (well-formed _ table).sizes.ports,
@@ -32,48 +31,33 @@ track-requires c κs =
 
 walk-requires : tie.Need-walk-gone-requires
 walk-requires c κs =
-    let tracked = c in
-    let sized = tracked in
-    let wanted = sized in
-    let load = wanted in
-    let p = load.requires in
-    let loaded = load.load-at.ensures in (
-      (ready-indexed p.0, wanted.fill_wants.ensures, p.1, search rules, p.2),
-      (loaded-workable _ (ready-sizes p.0) loaded, loaded-held p.0 loaded, rw sized.sizes_of-z.ensures at tracked.track.ensures),
+    let p = c.requires in
+    let loaded = c.load-at.ensures in (
+      (ready-indexed p.0, c.fill_wants.ensures, p.1, search rules, p.2),
+      (loaded-workable _ (ready-sizes p.0) loaded, loaded-held p.0 loaded, rw c.sizes_of-z.ensures at c.track.ensures),
     )
 
 lay-out-requires : tie.Need-lay_out-requires
 lay-out-requires c κs =
-    let walked = c in
-    let tracked = walked in
-    let load = tracked in
-    let e = walked.walk-gone.ensures in
-    let loaded = load.load-at.ensures in
-    let s = load in
-    let p = s.requires in
-    let a = s.args in
+    let e = c.walk-gone.ensures in
+    let loaded = c.load-at.ensures in
+    let p = c.requires in
+    let a = c.args in
     let few = made-few a.table.now a.state.now loaded e.0 in
     let size = middle-length a.table.now a.state.now loaded e.0 in
     (omega (arith, few, p.1), omega (arith, few, p.1, e.1), omega (arith, few, p.2, size))
 
 returns : tie.Need-returns
 returns c =
-    let walked = c in
-    let tracked = walked in
-    let load = tracked in
-    let a = load.args in
-    left_as a.table.now a.state.now load.load-at.ensures walked.walk-gone.ensures.0 c.lay_out.ensures
+    let a = c.args in
+    left_as a.table.now a.state.now c.load-at.ensures c.walk-gone.ensures.0 c.lay_out.ensures
 
 same_length : tie.Need-shape_of-target
 same_length c =
-    let walked = c in
-    let tracked = walked in
-    let load = tracked in
-    let s = load in
-    let a = s.args in
-    let left = left_as a.table.now a.state.now load.load-at.ensures walked.walk-gone.ensures.0 c.lay_out.ensures in
+    let a = c.args in
+    let left = left_as a.table.now a.state.now c.load-at.ensures c.walk-gone.ensures.0 c.lay_out.ensures in
     ap length left.log ∙ log-fits (alone_moves 1024 a.table.now a.state.now a.budget) a.budget a.target.now
-    (moves-within 1024 (table_of a.table.now) a.budget 0 (state_of a.state.now)) s.requires.2
+    (moves-within 1024 (table_of a.table.now) a.budget 0 (state_of a.state.now)) c.requires.2
 
 pub go_alone_spec : {M : Type 1} → statement M
 go_alone_spec =

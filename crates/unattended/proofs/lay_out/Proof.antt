@@ -12,19 +12,17 @@ use Rattle.unattended.proofs.lay_out.Tie as tie
 
 copy-words-at-requires : tie.Need-copy_words_at-requires
 copy-words-at-requires c κs =
-    let s = c in
-    (s.requires.1, omega (arith, s.requires.2, length-set s.args.target.now 0 s.args.k))
+    (c.requires.1, omega (arith, c.requires.2, length-set c.args.target.now 0 c.args.k))
 
 returns : tie.Need-returns
 returns c =
-    let s = c in
-    let a = s.args in
+    let a = c.args in
     let e = c.copy_words_at.ensures in
     let ps = a.picks.now in
     let k = a.k in
     λ t hs q size.
     e.value ∙ ap (λ (d : List ℕ). paste (set d 0 k) (1 + k) ps (4 * k)) q
-    ∙ laid t hs ps k size s.requires.1 (omega (arith, s.requires.2, ap length q, length-sets t 1 hs))
+    ∙ laid t hs ps k size c.requires.1 (omega (arith, c.requires.2, ap length q, length-sets t 1 hs))
 
 pub lay_out_spec : {M : Type 1} → statement M
 lay_out_spec =

@@ -31,10 +31,8 @@ below c = rw (← ap (λ z. z.rules) c.sizes_of-z.ensures) c.loop-r-test.true
 
 takes-of-requires : tie.Need-takes_of-requires Inv μ
 takes-of-requires c κs =
-    let turn = c in
-    let s = turn in
     let d = c.rule_at-rule.ensures in
-    (decodes-itself _ _ d, small-ports d (consumed-below s.args.table.now s.requires.0 turn.loop-r.r (below turn.before)))
+    (decodes-itself _ _ d, small-ports d (consumed-below c.args.table.now c.requires.0 c.loop-r.r (below c.before)))
 
 -- one rule more
 next : (f : ℕ → List ℕ) (wants : List ℕ) (r w : ℕ) → r < length wants → ((q : ℕ) → q < r → WantedWord (f q) (get_or wants q 0)) → WantedWord (f r) w
@@ -45,29 +43,25 @@ next f wants r w low all here q l = by_bool (eqb q r)
 
 few : (c : tie.In-loop-r Inv μ) → c.loop-r.r < 64
 few c =
-    let s = c in
-    omega (arith, below c, (well-formed s.args.table.now s.requires.0).sizes.rules)
+    omega (arith, below c, (well-formed c.args.table.now c.requires.0).sizes.rules)
 
 loop-again : tie.Need-loop-r-preserved Inv μ
 loop-again c =
-    let turn = c in
-    let loop = turn.loop-r in
-    let s = turn in
+    let loop = c.loop-r in
     let d = c.rule_at-rule.ensures in
     let rule = c.rule_at-rule.result in
-    let ports : take rule.consumes c.takes_of.result ≡ consumed (rule_at (table_of s.args.table.now) loop.r) =
-    c.takes_of.ensures.0 ∙ ap consumed (rule-in rule (rule_at (table_of s.args.table.now) loop.r) d) in
+    let ports : take rule.consumes c.takes_of.result ≡ consumed (rule_at (table_of c.args.table.now) loop.r) =
+    c.takes_of.ensures.0 ∙ ap consumed (rule-in rule (rule_at (table_of c.args.table.now) loop.r) d) in
     let word = c.wants_of.ensures in (
-      omega (arith, below turn.before.before.before.before),
+      omega (arith, below c.before.before.before.before),
       length-set loop.wants loop.r c.wants_of.result ∙ loop.invariant.1,
-      next (λ q. consumed (rule_at (table_of s.args.table.now) q)) loop.wants loop.r c.wants_of.result (omega
-          (arith, few turn.before.before.before.before, loop.invariant.1)) loop.invariant.2 (rw ports at word),
+      next (λ q. consumed (rule_at (table_of c.args.table.now) q)) loop.wants loop.r c.wants_of.result (omega
+          (arith, few c.before.before.before.before, loop.invariant.1)) loop.invariant.2 (rw ports at word),
     )
 
 returns : tie.Need-returns Inv μ
 returns c =
     let loop = c.loop-r in
-    let s = c in
     let e = ap (λ z. z.rules) c.sizes_of-z.ensures in
     record { size = loop.invariant.1; each = λ r l. loop.invariant.2 r (omega (arith, c.loop-r-test.false, e)) }
 

@@ -7,8 +7,7 @@ returns c = rw (← c.short.ensures, c.if-short.true)
 
 returns-2 : tie.Need-returns
 returns-2 c =
-    let other = c in
-    rw (c.short-2.ensures, c.short-3.ensures, c.short-4.ensures, ← other.short.ensures, other.if-short.false)
+    rw (c.short-2.ensures, c.short-3.ensures, c.short-4.ensures, ← c.short.ensures, c.if-short.false)
 
 pub lacks_spec : {M : Type 1} → statement M
 lacks_spec =

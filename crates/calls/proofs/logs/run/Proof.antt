@@ -11,33 +11,27 @@ returns c = run-denied _ _ _ _ _ _ (sym c.ready-checked.ensures.verdict ∙ c.in
 
 returns-2 : tie.Need-returns-then-not-sizes_ok
 returns-2 c =
-    let told = c in
-    run-missized _ _ _ _ _ (sym told.ready-checked.ensures.verdict ∙ told.in_default.is) c.sizes_ok.ensures
+    run-missized _ _ _ _ _ (sym c.ready-checked.ensures.verdict ∙ c.in_default.is) c.sizes_ok.ensures
     (not-true _ c.if-not-sizes_ok.true-raw)
 
 returns-3 : tie.Need-returns-then-target-lt-MAX_WORDS
 returns-3 c =
-    let told = c in
-    run_short _ _ _ _ _ (sym told.ready-checked.ensures.verdict ∙ told.in_default.is) c.sizes_ok.ensures
+    run_short _ _ _ _ _ (sym c.ready-checked.ensures.verdict ∙ c.in_default.is) c.sizes_ok.ensures
     (not-false _ c.if-not-sizes_ok.false-raw) c.if-target-lt-MAX_WORDS.true
 
 run-and-store-requires : tie.Need-run_and_store-requires
 run-and-store-requires c κs =
-    let sized = c in
-    let told = sized in
-    let said = told.ready-checked.ensures in
+    let said = c.ready-checked.ensures in
     record {
-      ready = said.ready (sym said.verdict ∙ told.in_default.is);
-      sizes = sym sized.sizes_ok.ensures ∙ not-false _ sized.if-not-sizes_ok.false-raw;
+      ready = said.ready (sym said.verdict ∙ c.in_default.is);
+      sizes = sym c.sizes_ok.ensures ∙ not-false _ c.if-not-sizes_ok.false-raw;
       room = c.if-target-lt-MAX_WORDS.false;
     }
 
 returns-4 : tie.Need-returns
 returns-4 c =
-    let sized = c in
-    let told = sized in
-    run-done _ _ _ _ _ (sym told.ready-checked.ensures.verdict ∙ told.in_default.is) sized.sizes_ok.ensures
-    (not-false _ sized.if-not-sizes_ok.false-raw) c.if-target-lt-MAX_WORDS.false c.run_and_store.ensures
+    run-done _ _ _ _ _ (sym c.ready-checked.ensures.verdict ∙ c.in_default.is) c.sizes_ok.ensures
+    (not-false _ c.if-not-sizes_ok.false-raw) c.if-target-lt-MAX_WORDS.false c.run_and_store.ensures
 
 pub run_spec : {M : Type 1} → statement M
 run_spec =

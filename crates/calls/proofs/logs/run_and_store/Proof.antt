@@ -22,11 +22,10 @@ run-log-requires c κs =
 -- the start's extent would fit as well, so that code which stores it fails on what it answers
 store-reached-requires : tie.Need-store_reached-requires
 store-reached-requires c κs =
-    let ran = c in
-    let w = ran.run_log-tallied.ensures.ran.workable in
-    let few = ran.run_log-tallied.ensures.few in
-    let p = ran.requires in
-    let loaded = ran.load-at.ensures.holds.fits in (
+    let w = c.run_log-tallied.ensures.ran.workable in
+    let few = c.run_log-tallied.ensures.few in
+    let p = c.requires in
+    let loaded = c.load-at.ensures.holds.fits in (
       (
         record { owners = w.arrays.owners; items = w.arrays.items; fits = omega (arith, w.bounds.fits, loaded) },
         omega (arith, w.bounds.fits, loaded, p.room),
@@ -36,8 +35,7 @@ store-reached-requires c κs =
 
 returns : tie.Need-returns
 returns c =
-    let ran = c in
-    ran_to _ _ _ _ _ ran.load-at.ensures ran.run_log-tallied.ensures (c.store_reached.ensures _)
+    ran_to _ _ _ _ _ c.load-at.ensures c.run_log-tallied.ensures (c.store_reached.ensures _)
 
 pub run_and_store_spec : {M : Type 1} → statement M
 run_and_store_spec =

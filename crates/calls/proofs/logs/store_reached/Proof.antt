@@ -11,9 +11,8 @@ returns c = λ gs.
 
 returns-2 : tie.Need-returns
 returns-2 c = λ gs.
-    let put = c in
-    rw put.in_default.is
-    (record { comes = stored-to (c.store.ensures gs) _; tally = put.put_tally.ensures })
+    rw c.in_default.is
+    (record { comes = stored-to (c.store.ensures gs) _; tally = c.put_tally.ensures })
 
 pub store_reached_spec : {M : Type 1} → statement M
 store_reached_spec =

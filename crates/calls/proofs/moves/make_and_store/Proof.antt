@@ -26,18 +26,16 @@ make-requires c κs =
 -- the start's extent would fit as well, so that code which stores it fails on what it answers
 store-made-requires : tie.Need-store_made-requires
 store-made-requires c κs =
-    let made = c in
-    let w = made.make-made.ensures.workable in
-    let p = made.requires in
-    let loaded = made.load-at.ensures.holds.fits in (
+    let w = c.make-made.ensures.workable in
+    let p = c.requires in
+    let loaded = c.load-at.ensures.holds.fits in (
       record { owners = w.arrays.owners; items = w.arrays.items; fits = omega (arith, w.bounds.fits, loaded) },
       omega (arith, w.bounds.fits, loaded, p.room),
     )
 
 returns : tie.Need-returns
 returns c =
-    let made = c in
-    moved_to _ _ _ _ made.load-at.ensures made.make-made.ensures (c.store_made.ensures _)
+    moved_to _ _ _ _ c.load-at.ensures c.make-made.ensures (c.store_made.ensures _)
 
 pub make_and_store_spec : {M : Type 1} → statement M
 make_and_store_spec = tie.close (tie.spec (λ c κs. search rules) load-requires make-requires store-made-requires (λ c. search rules) returns)

@@ -16,46 +16,34 @@ returns-2 c = move-unsized _ _ _ _ (sym c.ready-checked.ensures.verdict ∙ c.in
 
 form-ok-requires : tie.Need-form_ok-requires
 form-ok-requires c κs =
-    let told = c in
-    let said = told.ready-checked.ensures in
-    let r = said.ready (sym said.verdict ∙ told.in_default.is) in
+    let said = c.ready-checked.ensures in
+    let r = said.ready (sym said.verdict ∙ c.in_default.is) in
     record { table = ready-table r; starts = r.starts }
 
 returns-3 : tie.Need-returns-then-not-form_ok
 returns-3 c =
-    let sized = c in
-    let told = sized in
-    let a = told.args in
-    move-malformed _ _ _ _ (sym told.ready-checked.ensures.verdict ∙ told.in_default.is)
-    (form-read a.table.now a.mv.now sized.if-mv-ne5.false c.form_ok.ensures) (not-true _ c.if-not-form_ok.true-raw)
+    let a = c.args in
+    move-malformed _ _ _ _ (sym c.ready-checked.ensures.verdict ∙ c.in_default.is)
+    (form-read a.table.now a.mv.now c.if-mv-ne5.false c.form_ok.ensures) (not-true _ c.if-not-form_ok.true-raw)
 
 returns-4 : tie.Need-returns-then-target-lt-MAX_WORDS
 returns-4 c =
-    let formed = c in
-    let sized = formed in
-    let told = sized in
-    let a = told.args in
-    move-short _ _ _ _ (sym told.ready-checked.ensures.verdict ∙ told.in_default.is)
-    (form-read a.table.now a.mv.now sized.if-mv-ne5.false formed.form_ok.ensures) (not-false _ formed.if-not-form_ok.false-raw)
+    let a = c.args in
+    move-short _ _ _ _ (sym c.ready-checked.ensures.verdict ∙ c.in_default.is)
+    (form-read a.table.now a.mv.now c.if-mv-ne5.false c.form_ok.ensures) (not-false _ c.if-not-form_ok.false-raw)
     c.if-target-lt-MAX_WORDS.true
 
 make-and-store-requires : tie.Need-make_and_store-requires
 make-and-store-requires c κs =
-    let roomy = c in
-    let told = roomy in
-    let said = told.ready-checked.ensures in
-    record { ready = said.ready (sym said.verdict ∙ told.in_default.is); room = roomy.if-target-lt-MAX_WORDS.false }
+    let said = c.ready-checked.ensures in
+    record { ready = said.ready (sym said.verdict ∙ c.in_default.is); room = c.if-target-lt-MAX_WORDS.false }
 
 returns-5 : tie.Need-returns
 returns-5 c =
-    let roomy = c in
-    let formed = roomy in
-    let sized = formed in
-    let told = sized in
-    let a = told.args in
-    move-done _ _ _ _ (sym told.ready-checked.ensures.verdict ∙ told.in_default.is)
-    (form-read a.table.now a.mv.now sized.if-mv-ne5.false formed.form_ok.ensures) (not-false _ formed.if-not-form_ok.false-raw)
-    roomy.if-target-lt-MAX_WORDS.false (rw (five a.mv.now sized.if-mv-ne5.false) at c.make_and_store.ensures)
+    let a = c.args in
+    move-done _ _ _ _ (sym c.ready-checked.ensures.verdict ∙ c.in_default.is)
+    (form-read a.table.now a.mv.now c.if-mv-ne5.false c.form_ok.ensures) (not-false _ c.if-not-form_ok.false-raw)
+    c.if-target-lt-MAX_WORDS.false (rw (five a.mv.now c.if-mv-ne5.false) at c.make_and_store.ensures)
 
 pub make_move_spec : {M : Type 1} → statement M
 make_move_spec =

@@ -13,20 +13,17 @@ returns c =
 
 returns-2 : tie.Need-returns-then-target-most
 returns-2 c =
-    let told = c in
-    list-short _ _ _ _ _ (sym told.ready-checked.ensures.verdict ∙ told.in_default.is) c.page_count-most.ensures
+    list-short _ _ _ _ _ (sym c.ready-checked.ensures.verdict ∙ c.in_default.is) c.page_count-most.ensures
     c.if-target-most.true c.refused-then-target-most.ensures
 
 list-page-requires : tie.Need-list_page-requires
 list-page-requires c κs =
-    let told = c in
-    let said = told.ready-checked.ensures in
-    (said.ready (sym said.verdict ∙ told.in_default.is), omega (arith, c.page_count-most.ensures), c.if-target-most.false)
+    let said = c.ready-checked.ensures in
+    (said.ready (sym said.verdict ∙ c.in_default.is), omega (arith, c.page_count-most.ensures), c.if-target-most.false)
 
 returns-3 : tie.Need-returns
 returns-3 c =
-    let told = c in
-    list_done _ _ _ _ _ (sym told.ready-checked.ensures.verdict ∙ told.in_default.is)
+    list_done _ _ _ _ _ (sym c.ready-checked.ensures.verdict ∙ c.in_default.is)
     c.page_count-most.ensures
     c.if-target-most.false c.list_page.ensures
 

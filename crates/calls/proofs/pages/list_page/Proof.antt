@@ -13,10 +13,8 @@ few c = let p = c.requires in omega (arith, paged-le _ 5 c.open_moves-part.ensur
 
 returns : tie.Need-returns
 returns c =
-    let o = c in
-    let s = o in
-    page-written (all_open s.args.table.now s.args.state.now) s.args.first s.args.count s.args.target.now s.requires.2
-    o.open_moves-part.ensures refl
+    page-written (all_open c.args.table.now c.args.state.now) c.args.first c.args.count c.args.target.now c.requires.2
+    c.open_moves-part.ensures refl
 
 pub list_page_spec : {M : Type 1} → statement M
 list_page_spec =

@@ -13,14 +13,12 @@ returns-2 c = preview-unsized _ _ _ (sym c.ready-checked.ensures.verdict ∙ c.i
 
 preview-words-requires : tie.Need-preview_words-requires
 preview-words-requires c κs =
-    let told = c in
-    let said = told.ready-checked.ensures in
-    said.ready (sym said.verdict ∙ told.in_default.is)
+    let said = c.ready-checked.ensures in
+    said.ready (sym said.verdict ∙ c.in_default.is)
 
 returns-3 : tie.Need-returns
 returns-3 c =
-    let sized = c in
-    preview-made _ _ _ (sym sized.ready-checked.ensures.verdict ∙ sized.in_default.is) sized.if-mv-ne5.false
+    preview-made _ _ _ (sym c.ready-checked.ensures.verdict ∙ c.in_default.is) c.if-mv-ne5.false
     c.preview_words.ensures
 
 pub preview_spec : {M : Type 1} → statement M

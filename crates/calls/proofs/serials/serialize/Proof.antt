@@ -45,14 +45,12 @@ module _ (c : tie.Else-target-count_of) where
 
 begins-emit-requires : tie.Need-begins_emit-requires
 begins-emit-requires c κs =
-    let long = c in
-    ((state-given _ _ (ok long.before)).0, (long.ready-checked.ensures.ready (ok long.before)).starts)
+    ((state-given _ _ (ok c.before)).0, (c.ready-checked.ensures.ready (ok c.before)).starts)
 
 returns-4 : tie.Need-returns-then-begins_emit
 returns-4 c =
-    let long = c in
-    let a = (start long.before.before.before).args in
-    serial-emits a.table.now a.state.now a.log.now a.target.now (ok long.before.before.before) (sizes long.before.before.before) (room long.before.before.before)
+    let a = (start c.before.before.before).args in
+    serial-emits a.table.now a.state.now a.log.now a.target.now (ok c.before.before.before) (sizes c.before.before.before) (room c.before.before.before)
     (sym c.begins_emit.ensures ∙ c.if-begins_emit.true)
 
 open-in-requires : tie.Need-open_in-requires
@@ -60,31 +58,28 @@ open-in-requires c κs = (state-given _ _ (ok c.before.before.before)).1
 
 returns-5 : tie.Need-returns-then-open_in
 returns-5 c =
-    let long = c in
-    let a = (start long.before.before.before.before.before).args in
-    serial-open a.table.now a.state.now a.log.now a.target.now (ok long.before.before.before.before.before) (sizes long.before.before.before.before.before) (room long.before.before.before.before.before)
+    let a = (start c.before.before.before.before.before).args in
+    serial-open a.table.now a.state.now a.log.now a.target.now (ok c.before.before.before.before.before) (sizes c.before.before.before.before.before) (room c.before.before.before.before.before)
     (sym c.begins_emit.ensures ∙ c.if-begins_emit.false) (sym c.open_in.ensures ∙ c.if-open_in.true)
 
 serialize-log-requires : tie.Need-serialize_log-requires
 serialize-log-requires c κs =
-    let long = c in
     record {
-      state = ok long.before.before.before.before.before.before.before;
-      starts = (long.ready-checked.ensures.ready (ok long.before.before.before.before.before.before.before)).starts;
-      sizes = sizes long.before.before.before.before.before.before.before;
-      room = room long.before.before.before.before.before.before.before;
+      state = ok c.before.before.before.before.before.before.before;
+      starts = (c.ready-checked.ensures.ready (ok c.before.before.before.before.before.before.before)).starts;
+      sizes = sizes c.before.before.before.before.before.before.before;
+      room = room c.before.before.before.before.before.before.before;
       quiet = sym c.begins_emit.ensures ∙ c.if-begins_emit.false;
       closed = sym c.open_in.ensures ∙ c.if-open_in.false;
     }
 
 returns-6 : tie.Need-returns
 returns-6 c =
-    let long = c in
-    let a = (start long.before.before.before.before.before.before.before.before.before.before).args in
+    let a = (start c.before.before.before.before.before.before.before.before.before.before).args in
     let quiet = sym c.begins_emit.ensures
     ∙ c.if-begins_emit.false in
     let closed = sym c.open_in.ensures ∙ c.if-open_in.false in
-    serial-done a.table.now a.state.now a.log.now a.target.now (ok long.before.before.before.before.before.before.before.before.before.before) (sizes long.before.before.before.before.before.before.before.before.before.before) (room long.before.before.before.before.before.before.before.before.before.before) quiet closed
+    serial-done a.table.now a.state.now a.log.now a.target.now (ok c.before.before.before.before.before.before.before.before.before.before) (sizes c.before.before.before.before.before.before.before.before.before.before) (room c.before.before.before.before.before.before.before.before.before.before) quiet closed
     c.serialize_log.ensures
 
 pub serialize_spec : {M : Type 1} → statement M

@@ -27,8 +27,7 @@ next_with_spec =
     (λ c κs. (few c, c.requires.2))
     (λ c κs. search rules)
     (λ c.
-    let turn = c in
-    passed-place turn.loop-at.invariant c.next_in_chunk-next.ensures c.if-next-end.true turn.loop-at-test.true c.smaller.ensures)
-    (λ c. let turn = c in omega (arith, turn.loop-at-test.true))
+    passed-place c.loop-at.invariant c.next_in_chunk-next.ensures c.if-next-end.true c.loop-at-test.true c.smaller.ensures)
+    (λ c. omega (arith, c.loop-at-test.true))
     (λ c. passed-chunk c.loop-at.invariant c.next_in_chunk-next.ensures c.if-next-end.false)
     (λ c. passed-past c.loop-at.invariant c.requires.0 c.loop-at-test.false))

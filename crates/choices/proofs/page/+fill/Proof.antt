@@ -69,19 +69,16 @@ pub +fill_spec : {M : Type 1} → statement M
     (λ c. search rules)
     (λ c κs. search rules)
     (λ c.
-    let s = c in
-    let p = s.requires.1 in
+    let p = c.requires.1 in
     let v = level-at p.0 p.1.1 (search rules) (search rules) c.if-i-k.false in
-    let a = s.args in
+    let a = c.args in
     level-start v a.head a.first a.count a.at a.target.now c.next_with-p.ensures)
     (λ c. paged-length _ 5 c.loop-p.invariant.paging.paged)
     (λ c.
-    let s = c in
-    let p = s.requires.1 in
+    let p = c.requires.1 in
     let v = level-at p.0 p.1.1 (search rules) (search rules) c.if-i-k.false in
-    let a = s.args in
-    let turn = c in
-    let l = turn.loop-p in
+    let a = c.args in
+    let l = c.loop-p in
     level-full v a.head a.first a.count a.at a.target.now l.invariant c.if-done-count.true)
     (λ c. search rules)
     (λ c κs. search rules)
@@ -89,26 +86,22 @@ pub +fill_spec : {M : Type 1} → statement M
     (λ c κs. search rules)
     (λ c. omega (arith, c.next_with-p-then-is_picked.ensures.low, c.loop-p-test.true))
     (λ c.
-    let s = c in
-    let p = s.requires.1 in
+    let p = c.requires.1 in
     let v = level-at p.0 p.1.1 (search rules) (search rules) c.if-i-k.false in
-    let a = s.args in
-    let turn = c in
-    let l = turn.loop-p in
-    level-picked v a.head a.first a.count a.at a.target.now l.invariant turn.loop-p-test.true
+    let a = c.args in
+    let l = c.loop-p in
+    level-picked v a.head a.first a.count a.at a.target.now l.invariant c.loop-p-test.true
     c.is_picked.ensures c.if-is_picked.true
     c.next_with-p-then-is_picked.ensures)
     (λ c. search rules)
     (λ c κs. search rules)
     (λ c. omega (arith, c.next_with-p-then-width-skip.ensures.low, c.loop-p-test.true))
     (λ c.
-    let s = c in
-    let p = s.requires.1 in
+    let p = c.requires.1 in
     let v = level-at p.0 p.1.1 (search rules) (search rules) c.if-i-k.false in
-    let a = s.args in
-    let turn = c in
-    let l = turn.loop-p in
-    level-skipped v a.head a.first a.count a.at a.target.now l.invariant turn.loop-p-test.true
+    let a = c.args in
+    let l = c.loop-p in
+    level-skipped v a.head a.first a.count a.at a.target.now l.invariant c.loop-p-test.true
     c.is_picked.ensures c.if-is_picked.false
     c.if-width-skip.true c.next_with-p-then-width-skip.ensures)
     (λ c. search rules)
@@ -118,28 +111,24 @@ pub +fill_spec : {M : Type 1} → statement M
     (λ c. let d = paged-le _ 5 c.loop-p.invariant.paging.paged in search rules)
     (λ c. let d = paged-le _ 5 c.loop-p.invariant.paging.paged in search rules)
     (λ c κs.
-    let turn = c in
-    let g = turn.loop-p.invariant.paging.paged in
+    let g = c.loop-p.invariant.paging.paged in
     let d = paged-le _ 5 g in
     let z = paged-length _ 5 g in
-    omega (arith, c.if-done-count.false, turn.requires.1.1.0))
+    omega (arith, c.if-done-count.false, c.requires.1.1.0))
     (λ c.
-    let turn = c in
-    omega (arith, paged-le _ 5 turn.loop-p.invariant.paging.paged, turn.requires.1.1.0))
+    omega (arith, paged-le _ 5 c.loop-p.invariant.paging.paged, c.requires.1.1.0))
     (λ c. search rules)
     (λ c κs. search rules)
     (λ c. omega (arith, c.next_with-p-then-i-k-2.ensures.low, c.loop-p-test.true))
     (λ c.
-    let s = c in
-    let p = s.requires.1 in
+    let p = c.requires.1 in
     let v = level-at p.0 p.1.1 (search rules) (search rules)
     c.if-i-k.false in
-    let a = s.args in
-    let turn = c in
-    let l = turn.loop-p in
+    let a = c.args in
+    let l = c.loop-p in
     let room : 1 ≤ a.count - l.done = omega
     (arith, paged-le _ 5 l.invariant.paging.paged, c.if-done-count.false) in
-    level-last v a.head a.first a.count a.at a.target.now l.invariant turn.loop-p-test.true
+    level-last v a.head a.first a.count a.at a.target.now l.invariant c.loop-p-test.true
     c.is_picked.ensures
     c.if-is_picked.false (omega (arith, c.if-width-skip.false))
     c.if-i-k-2.true room c.put-then-i-k-2.ensures c.next_with-p-then-i-k-2.ensures)
@@ -151,12 +140,10 @@ pub +fill_spec : {M : Type 1} → statement M
     (λ c. let d = paged-le _ 5 c.loop-p.invariant.paging.paged in search rules)
     (λ c. let d = paged-le _ 5 c.loop-p.invariant.paging.paged in search rules)
     (λ c κs.
-    let s = c in
-    let p = s.requires.1 in
+    let p = c.requires.1 in
     let v = level-at p.0 p.1.1 (search rules) (search rules) c.if-i-k.false in
-    let a = s.args in
-    let turn = c in
-    let l = turn.loop-p in
+    let a = c.args in
+    let l = c.loop-p in
     let z = paged-length _ 5 l.invariant.paging.paged in
     let d = paged-le _ 5 l.invariant.paging.paged in (
       omega arith,
@@ -166,7 +153,7 @@ pub +fill_spec : {M : Type 1} → statement M
           (omega (arith, p.1.0), omega (arith, p.1.0)),
           (
             p.1.1.0,
-            below-used v a.head a.first a.count a.at a.target.now l.invariant turn.loop-p-test.true
+            below-used v a.head a.first a.count a.at a.target.now l.invariant c.loop-p-test.true
                 c.is_picked.ensures
                 c.if-is_picked.false,
           ),
@@ -174,28 +161,24 @@ pub +fill_spec : {M : Type 1} → statement M
       ),
     ))
     (λ c.
-    let turn = c in
     let d = paged-le _ 5 c.fill-done.ensures in
-    omega (arith, paged-le _ 5 turn.loop-p.invariant.paging.paged, turn.requires.1.1.0.0))
+    omega (arith, paged-le _ 5 c.loop-p.invariant.paging.paged, c.requires.1.1.0.0))
     (λ c. search rules)
     (λ c κs. search rules)
     (λ c. omega (arith, c.next_with-p-else-i-k-2.ensures.low, c.loop-p-test.true))
     (λ c.
-    let s = c in
-    let p = s.requires.1 in
+    let p = c.requires.1 in
     let v = level-at p.0 p.1.1 (search rules) (search rules)
     c.if-i-k.false in
-    let a = s.args in
-    let turn = c in
-    let l = turn.loop-p in
-    level-below v a.head a.first a.count a.at a.target.now l.invariant turn.loop-p-test.true
+    let a = c.args in
+    let l = c.loop-p in
+    level-below v a.head a.first a.count a.at a.target.now l.invariant c.loop-p-test.true
     c.is_picked.ensures
     c.if-is_picked.false (omega (arith, c.if-width-skip.false))
     c.fill-done.ensures c.next_with-p-else-i-k-2.ensures)
     (λ c. paged-length _ 5 c.loop-p.invariant.paging.paged)
     (λ c.
-    let s = c in
-    let p = s.requires.1 in
+    let p = c.requires.1 in
     let v = level-at p.0 p.1.1 (search rules) (search rules) c.if-i-k.false in
-    let a = s.args in
+    let a = c.args in
     level-end v a.head a.first a.count a.at a.target.now c.loop-p.invariant c.loop-p-test.false)

@@ -18,14 +18,11 @@ mul-t26 c = record {
 
 returns : tie.Need-returns
 returns c =
-    let one = c in
-    let two = c in
-    let three = c in
-    let a = one.args in
+    let a = c.args in
     widths-as a.wanted a.left a.k _ _ _
-    (rw one.one_if.ensures.0 at c.ways_at-second.ensures.0)
-    (rw two.two_of.ensures.0 at c.ways_at-third.ensures.0)
-    (rw three.three_of.ensures.0 at c.ways_at-fourth.ensures.0)
+    (rw c.one_if.ensures.0 at c.ways_at-second.ensures.0)
+    (rw c.two_of.ensures.0 at c.ways_at-third.ensures.0)
+    (rw c.three_of.ensures.0 at c.ways_at-fourth.ensures.0)
 
 pub widths_spec : {M : Type 1} → statement M
 widths_spec =

@@ -45,18 +45,16 @@ returns c origin =
 
 returns-2 : tie.Need-returns-then-owner-eq0
 returns-2 c origin =
-    let m = c in
-    let a = (start m.before.before.before).args in
-    let port = m.port_of-port.ensures in
-    rw port (key-global a.z (outside a.aborting.now) a.ids.now a.m (entry m.before.before.before origin) (message m.before.before.before) (port-small a.item)
-    (omega (arith, port, c.if-port-z.true)) c.if-owner-eq0.true (ap not (start m.before.before.before).requires.4))
+    let a = (start c.before.before.before).args in
+    let port = c.port_of-port.ensures in
+    rw port (key-global a.z (outside a.aborting.now) a.ids.now a.m (entry c.before.before.before origin) (message c.before.before.before) (port-small a.item)
+    (omega (arith, port, c.if-port-z.true)) c.if-owner-eq0.true (ap not (start c.before.before.before).requires.4))
 
 returns-3 : tie.Need-returns-else-owner-eq0
 returns-3 c origin =
-    let m = c in
-    let a = (start m.before.before.before).args in
-    key-inside a.z (outside a.aborting.now) a.ids.now a.m (entry m.before.before.before origin) (message m.before.before.before) (port-small a.item)
-    (omega (arith, m.port_of-port.ensures, c.if-port-z.true)) c.if-owner-eq0.false
+    let a = (start c.before.before.before).args in
+    key-inside a.z (outside a.aborting.now) a.ids.now a.m (entry c.before.before.before origin) (message c.before.before.before) (port-small a.item)
+    (omega (arith, c.port_of-port.ensures, c.if-port-z.true)) c.if-owner-eq0.false
 
 returns-4 : tie.Need-returns-then-has
 returns-4 c origin =
@@ -67,33 +65,30 @@ returns-4 c origin =
 
 local-key-requires : tie.Need-local_key-requires
 local-key-requires c κs =
-    let out = c in
-    let m = ported out.before.before.before in
+    let m = ported c.before.before.before in
     let s = start m in
     let a = s.args in
     let port = m.port_of-port.ensures in
-    let l = is-local a.z (outside a.aborting.now) a.ids.now a.m (entry m 0) (message m) (port-small a.item) (inner out.before.before.before) (takes out.before.before)
+    let l = is-local a.z (outside a.aborting.now) a.ids.now a.m (entry m 0) (message m) (port-small a.item) (inner c.before.before.before) (takes c.before.before)
     (omega (arith, port, c.if-port-z-2.true)) in
     (s.requires.1, s.requires.2, s.requires.3 0 l, omega (arith, port, port-small a.item))
 
 returns-5 : tie.Need-returns-then-port-z-2
 returns-5 c origin =
-    let out = c in
-    let m = ported out.before.before.before.before in
+    let m = ported c.before.before.before.before in
     let s = start m in
     let a = s.args in
     let port = m.port_of-port.ensures in
-    key-local a.z (outside a.aborting.now) a.ids.now a.m (entry m origin) (message m) (port-small a.item) (inner out.before.before.before.before) (takes out.before.before.before)
+    key-local a.z (outside a.aborting.now) a.ids.now a.m (entry m origin) (message m) (port-small a.item) (inner c.before.before.before.before) (takes c.before.before.before)
     (omega (arith, port, c.if-port-z-2.true)) s.requires.1 (rw port at c.local_key.ensures)
 
 returns-6 : tie.Need-returns
 returns-6 c origin =
-    let out = c in
-    let m = ported out.before.before.before in
+    let m = ported c.before.before.before in
     let a = (start m).args in
     let port = m.port_of-port.ensures in
-    rw port (key-merge a.z (outside a.aborting.now) a.ids.now a.m (entry m origin) (message m) (port-small a.item) (inner out.before.before.before)
-    (takes out.before.before) (omega (arith, port, c.if-port-z-2.false)))
+    rw port (key-merge a.z (outside a.aborting.now) a.ids.now a.m (entry m origin) (message m) (port-small a.item) (inner c.before.before.before)
+    (takes c.before.before) (omega (arith, port, c.if-port-z-2.false)))
 
 pub key_of_spec : {M : Type 1} → statement M
 key_of_spec =

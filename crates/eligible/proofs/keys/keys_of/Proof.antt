@@ -25,18 +25,15 @@ loop-holds c = (omega arith, c.requires.4, λ gs. record { size = c.requires.4; 
 
 key-of-requires : tie.Need-key_of-requires Inv μ
 key-of-requires c κs =
-    let turn = c in
-    let s = turn in
-    let p = turn.loop-p.p in
-    (s.requires.0, s.requires.1, s.requires.2, (λ origin l. s.requires.5 [] p turn.loop-p-test.true l), s.requires.6)
+    let p = c.loop-p.p in
+    (c.requires.0, c.requires.1, c.requires.2, (λ origin l. c.requires.5 [] p c.loop-p-test.true l), c.requires.6)
 
 loop-again : tie.Need-loop-p-preserved Inv μ
 loop-again c =
-    let turn = c in
-    let l = turn.loop-p in (
-      omega (arith, turn.loop-p-test.true),
+    let l = c.loop-p in (
+      omega (arith, c.loop-p-test.true),
       length-set l.keys l.p _ ∙ l.invariant.1,
-      λ gs. column-more (l.invariant.2 gs) (few turn.before.before.before.before.before.before) (c.key_of.ensures (get_or gs l.p 0)),
+      λ gs. column-more (l.invariant.2 gs) (few c.before.before.before.before.before.before) (c.key_of.ensures (get_or gs l.p 0)),
     )
 
 returns : tie.Need-returns Inv μ

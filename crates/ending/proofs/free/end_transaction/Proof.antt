@@ -49,19 +49,17 @@ loop-holds c =
 
 loop-again : tie.Need-loop-i-preserved Inv μ
 loop-again c =
-    let within = c in
-    let turn = within in
-    let l = turn.loop-i in
-    let a = turn.args in
+    let l = c.loop-i in
+    let a = c.args in
     let o = get_or l.owners l.i 0 in
     let x = get_or l.items l.i 0 in (
-      compacting-turn _ _ l.invariant.0 turn.loop-i-test.true _ _ _ _
-          (c.same-w.ensures.0 ∙ ap (λ (k : ℕ). one_if (eqb k a.kind)) within.kind_within-within.ensures ∙ counts-staying a.id a.kind o x)
-          (λ h. rw (within.owner_after.ensures, within.item_after.ensures)
+      compacting-turn _ _ l.invariant.0 c.loop-i-test.true _ _ _ _
+          (c.same-w.ensures.0 ∙ ap (λ (k : ℕ). one_if (eqb k a.kind)) c.kind_within-within.ensures ∙ counts-staying a.id a.kind o x)
+          (λ h. rw (c.owner_after.ensures, c.item_after.ensures)
           (freed-entry a.id a.kind o x (get_or l.origins l.i 0) h)),
       l.invariant.1,
-      counted-turn _ l.invariant.2 turn.loop-i-test.true
-          (c.same-members.ensures.0 ∙ ap (λ (k : ℕ). one_if (eqb k 3)) within.kind_within-within.ensures ∙ counts-marks a.id a.kind o x l.invariant.1)
+      counted-turn _ l.invariant.2 c.loop-i-test.true
+          (c.same-members.ensures.0 ∙ ap (λ (k : ℕ). one_if (eqb k 3)) c.kind_within-within.ensures ∙ counts-marks a.id a.kind o x l.invariant.1)
           c.same-members.ensures.1 _
           (λ k m. stored_other l.owners l.items l.origins l.w _ _ _ k (λ e. omega (arith, l.invariant.0.sifting.behind))),
     )

@@ -27,21 +27,18 @@ loop-holds c =
 
 returns : tie.Need-returns-then-p-n Inv μ
 returns c ks wanted h u =
-    let turn = c in
-    picking-none h turn.requires.2 (turn.loop-i.invariant.2 ks wanted h u) turn.loop-i-test.true c.first_free-p.ensures
+    picking-none h c.requires.2 (c.loop-i.invariant.2 ks wanted h u) c.loop-i-test.true c.first_free-p.ensures
     c.if-p-n.true
 
 loop-again : tie.Need-loop-i-preserved Inv μ
 loop-again c =
-    let other = c in
-    let turn = other in
-    let l = turn.loop-i in (
-      omega (arith, turn.loop-i-test.true),
+    let l = c.loop-i in (
+      omega (arith, c.loop-i-test.true),
       search rules,
       λ ks wanted h u.
           rw c.placed-more.ensures
-          (picking-next h turn.requires.2 (l.invariant.2 ks wanted h u) turn.loop-i-test.true other.first_free-p.ensures
-          other.if-p-n.false),
+          (picking-next h c.requires.2 (l.invariant.2 ks wanted h u) c.loop-i-test.true c.first_free-p.ensures
+          c.if-p-n.false),
     )
 
 returns-2 : tie.Need-returns Inv μ

@@ -17,21 +17,16 @@ abbrev μ : tie.decreases-loop-from
 
 returns : tie.Need-returns-then-p-n Inv μ
 returns c =
-    let found = c in
-    searching-end (searching-passed found.loop-from.invariant found.next_fit-p.ensures) (omega (arith, c.if-p-n.true))
+    searching-end (searching-passed c.loop-from.invariant c.next_fit-p.ensures) (omega (arith, c.if-p-n.true))
 
 returns-2 : tie.Need-returns-then-not-is_picked Inv μ
 returns-2 c =
-    let other = c in
-    let found = other in
-    searching-found found.loop-from.invariant found.next_fit-p.ensures other.if-p-n.false c.is_picked.ensures
+    searching-found c.loop-from.invariant c.next_fit-p.ensures c.if-p-n.false c.is_picked.ensures
     (not-true _ c.if-not-is_picked.true-raw)
 
 loop-again : tie.Need-loop-from-preserved Inv μ
 loop-again c =
-    let other = c in
-    let found = other in
-    searching-on found.loop-from.invariant found.next_fit-p.ensures other.if-p-n.false c.is_picked.ensures
+    searching-on c.loop-from.invariant c.next_fit-p.ensures c.if-p-n.false c.is_picked.ensures
     (not-false _ c.if-not-is_picked.false-raw)
 
 pub first_free_spec : {M : Type 1} → statement M

@@ -30,10 +30,9 @@ four-set (a ∷ b ∷ c ∷ d ∷ x ∷ xs) e i p l = absurd (omega arith)
 
 returns : tie.Need-returns
 returns c =
-    let s = c in
-    let four : length s.args.picks ≡ 4 = search rules in
+    let four : length c.args.picks ≡ 4 = search rules in
     rw (c.either-4.ensures, c.either-3.ensures, c.either-2.ensures, c.either.ensures)
-    (four-set s.args.picks four s.args.i s.args.p s.requires)
+    (four-set c.args.picks four c.args.i c.args.p c.requires)
 
 pub placed_spec : {M : Type 1} → statement M
 placed_spec =

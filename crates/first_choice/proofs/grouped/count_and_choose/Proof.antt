@@ -13,22 +13,18 @@ long c = omega (arith, c.requires.0.columns.fits, c.requires.0.long)
 
 count-groups-requires : tie.Need-count_groups-requires
 count-groups-requires c κs =
-    let made = c in
-    let s = made in
-    let a = s.args in
-    let b = s.requires.0 in (
-      (rw made.low_keys-lows.ensures (lows-below a.keys.now a.n b.columns.fits (long s.before.before.before.before.before.before.before.before)), b.low 0, b.low 1, b.low 2, b.low 3),
+    let a = c.args in
+    let b = c.requires.0 in (
+      (rw c.low_keys-lows.ensures (lows-below a.keys.now a.n b.columns.fits (long c.before.before.before.before.before.before.before.before)), b.low 0, b.low 1, b.low 2, b.low 3),
       (search rules, λ g. get_or-replicate-any 1024 g 0),
     )
 
 first-counted-requires : tie.Need-first_counted-requires
 first-counted-requires c κs =
-    let made = c in
-    let s = made in
-    let a = s.args in
-    let lows = made.low_keys-lows.ensures in
-    let g = rw (lows, lows-first a.keys.now a.n s.requires.0.columns.fits (long s.before.before.before.before.before.before.before.before.before.before)) at c.count_groups.ensures.0 in
-    (s.requires, g)
+    let a = c.args in
+    let lows = c.low_keys-lows.ensures in
+    let g = rw (lows, lows-first a.keys.now a.n c.requires.0.columns.fits (long c.before.before.before.before.before.before.before.before.before.before)) at c.count_groups.ensures.0 in
+    (c.requires, g)
 
 pub count_and_choose_spec : {M : Type 1} → statement M
 count_and_choose_spec =

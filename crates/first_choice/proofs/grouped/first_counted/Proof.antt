@@ -27,24 +27,19 @@ choose-counted-requires c κs =
 
 returns : tie.Need-returns-then-choice Inv μ
 returns c =
-    let found = c in
-    let turn = found in
-    let h = (start turn.before.before.before).requires.0.0.grouped in
+    let h = (start c.before.before.before).requires.0.0.grouped in
     c.passed_on.ensures
-    ∙ standing-found h turn.loop-p.invariant turn.loop-p-test.true found.choose_counted-choice.ensures found.if-choice.true
+    ∙ standing-found h c.loop-p.invariant c.loop-p-test.true c.choose_counted-choice.ensures c.if-choice.true
 
 loop-again : tie.Need-loop-p-preserved Inv μ
 loop-again c =
-    let other = c in
-    let turn = other in
-    let h = (start turn.before.before.before.before.before).requires.0.0.grouped in
-    standing-next h turn.loop-p.invariant turn.loop-p-test.true other.choose_counted-choice.ensures other.if-choice.false
+    let h = (start c.before.before.before.before.before).requires.0.0.grouped in
+    standing-next h c.loop-p.invariant c.loop-p-test.true c.choose_counted-choice.ensures c.if-choice.false
     c.next_fit-p-in-loop-p.ensures
 
 next-fit-requires-2 : tie.Need-next_fit-p-requires-in-loop-p Inv μ
 next-fit-requires-2 c κs =
-    let turn = c in
-    ((start turn.before.before.before.before).requires.0.0.columns, omega (arith, turn.loop-p-test.true))
+    ((start c.before.before.before.before).requires.0.0.columns, omega (arith, c.loop-p-test.true))
 
 pub first_counted_spec : {M : Type 1} → statement M
 first_counted_spec =
@@ -58,7 +53,7 @@ first_counted_spec =
     choose-counted-requires
     (λ c κs. c.if-choice.true)
     returns
-    (λ c. let turn = c in omega (arith, turn.loop-p-test.true, (start turn.before.before).requires.0.0.columns.fits))
+    (λ c. omega (arith, c.loop-p-test.true, (start c.before.before).requires.0.0.columns.fits))
     (λ c. search rules)
     next-fit-requires-2
     (λ c. omega (arith, c.next_fit-p-in-loop-p.ensures.low, c.loop-p-test.true))

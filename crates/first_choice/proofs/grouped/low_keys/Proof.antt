@@ -17,20 +17,17 @@ abbrev μ : tie.decreases-loop-i
 
 loop-again : tie.Need-loop-i-preserved Inv μ
 loop-again c =
-    let turn = c in
-    let s = turn in
-    let l = turn.loop-i in (
-      omega (arith, turn.loop-i-test.true),
-      fill-padded (λ x. x % 524288) s.args.keys.now 1024 l.i 0 0 (omega (arith, turn.loop-i-test.true, s.requires))
-          (omega (arith, turn.loop-i-test.true, s.requires)) l.invariant.1,
+    let l = c.loop-i in (
+      omega (arith, c.loop-i-test.true),
+      fill-padded (λ x. x % 524288) c.args.keys.now 1024 l.i 0 0 (omega (arith, c.loop-i-test.true, c.requires))
+          (omega (arith, c.loop-i-test.true, c.requires)) l.invariant.1,
     )
 
 returns : tie.Need-returns Inv μ
 returns c =
     let l = c.loop-i in
-    let s = c in
-    let e : l.i ≡ s.args.n = omega (arith, l.invariant.0, c.loop-i-test.false) in
-    l.invariant.1 ∙ ap (λ (j : ℕ). padded 1024 0 (low_keys (take j s.args.keys.now))) e
+    let e : l.i ≡ c.args.n = omega (arith, l.invariant.0, c.loop-i-test.false) in
+    l.invariant.1 ∙ ap (λ (j : ℕ). padded 1024 0 (low_keys (take j c.args.keys.now))) e
 
 pub low_keys_spec : {M : Type 1} → statement M
 low_keys_spec =

@@ -11,8 +11,7 @@ keys-by-marks-requires c κs =
 
 count-and-choose-requires : tie.Need-count_and_choose-requires
 count-and-choose-requires c κs =
-    let s = c in
-    let g = s.requires.0 in
+    let g = c.requires.0 in
     let made = c.keys_by_marks.ensures in (
       record {
         columns = g.columns;
@@ -23,7 +22,7 @@ count-and-choose-requires c κs =
         low = g.low;
         grouped = rw made.0 (groupable-keys g);
       },
-      s.requires.1,
+      c.requires.1,
     )
 
 returns : tie.Need-returns

@@ -31,17 +31,15 @@ keyed s = groupable-keys s.requires.0
 
 loop-holds : tie.Need-loop-p-init Inv μ
 loop-holds c =
-    let s = c in
-    let a = s.args in
-    let some : 1 ≤ length a.takes.now = omega (arith, s.requires.0.four) in
-    let whole = by-group (column_keys a.z a.stopped.now a.owners.now a.items.now a.at.len) a.k s.requires.0.some a.takes.now some in
-    (omega arith, s.requires.1, rw (← whole) (standing-start (keyed s.before.before.before.before) c.next_fit-p.ensures))
+    let a = c.args in
+    let some : 1 ≤ length a.takes.now = omega (arith, c.requires.0.four) in
+    let whole = by-group (column_keys a.z a.stopped.now a.owners.now a.items.now a.at.len) a.k c.requires.0.some a.takes.now some in
+    (omega arith, c.requires.1, rw (← whole) (standing-start (keyed c.before.before.before.before) c.next_fit-p.ensures))
 
 choose-by-keys-requires : tie.Need-choose_by_keys-requires Inv μ
 choose-by-keys-requires c κs =
-    let turn = c in
-    let l = turn.loop-p in
-    ((start turn.before.before).requires.0, l.invariant.2.within, l.invariant.1)
+    let l = c.loop-p in
+    ((start c.before.before).requires.0, l.invariant.2.within, l.invariant.1)
 
 returns : tie.Need-returns-then-tries-most Inv μ
 returns c =
@@ -56,29 +54,24 @@ choose-within-requires c κs =
 
 returns-2 : tie.Need-returns-then-choice Inv μ
 returns-2 c =
-    let found = c in
-    let turn = found in
-    let h = keyed (start turn.before.before.before.before) in
-    let l = turn.loop-p in (
+    let h = keyed (start c.before.before.before.before) in
+    let l = c.loop-p in (
       c.passed_on.ensures
-          ∙ standing-found h l.invariant.2 turn.loop-p-test.true (found.choose_within-choice.ensures _ h) found.if-choice.true,
+          ∙ standing-found h l.invariant.2 c.loop-p-test.true (c.choose_within-choice.ensures _ h) c.if-choice.true,
       l.invariant.1,
     )
 
 next-fit-requires-2 : tie.Need-next_fit-p-requires-in-loop-p Inv μ
 next-fit-requires-2 c κs =
-    let turn = c in
-    ((start turn.before.before.before.before.before).requires.0.columns, omega (arith, turn.loop-p-test.true))
+    ((start c.before.before.before.before.before).requires.0.columns, omega (arith, c.loop-p-test.true))
 
 loop-again : tie.Need-loop-p-preserved Inv μ
 loop-again c =
-    let other = c in
-    let turn = other in
-    let h = keyed (start turn.before.before.before.before.before.before) in
-    let l = turn.loop-p in (
-      omega (arith, l.invariant.0, other.if-tries-most.false),
+    let h = keyed (start c.before.before.before.before.before.before) in
+    let l = c.loop-p in (
+      omega (arith, l.invariant.0, c.if-tries-most.false),
       l.invariant.1,
-      standing-next h l.invariant.2 turn.loop-p-test.true (other.choose_within-choice.ensures _ h) other.if-choice.false c.next_fit-p-in-loop-p.ensures,
+      standing-next h l.invariant.2 c.loop-p-test.true (c.choose_within-choice.ensures _ h) c.if-choice.false c.next_fit-p-in-loop-p.ensures,
     )
 
 pub first_grouped_spec : {M : Type 1} → statement M
@@ -96,10 +89,9 @@ first_grouped_spec =
     choose-within-requires
     (λ c κs. c.if-choice.true)
     returns-2
-    (λ c. let l = c in omega (arith, l.loop-p.invariant.0, l.tries_of-most.ensures))
+    (λ c. omega (arith, c.loop-p.invariant.0, c.tries_of-most.ensures))
     (λ c.
-    let turn = c in
-    omega (arith, turn.loop-p-test.true, (start turn.before.before.before).requires.0.columns.fits))
+    omega (arith, c.loop-p-test.true, (start c.before.before.before).requires.0.columns.fits))
     (λ c. search rules)
     next-fit-requires-2
     (λ c. omega (arith, c.next_fit-p-in-loop-p.ensures.low, c.loop-p-test.true))

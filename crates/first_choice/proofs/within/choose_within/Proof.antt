@@ -11,12 +11,11 @@ use Rattle.first_choice.proofs.within.choose_within.Tie as tie
 
 returns : tie.Need-returns
 returns c ks h =
-    let s = c in
-    let a = s.args in
-    let some : 1 ≤ length a.takes.now = omega (arith, s.requires.4) in
-    let low : a.p < length ks = omega (arith, h.size, s.requires.3) in
-    let on : get_or ks a.p 0 % 512 ≡ get_or a.takes.now 0 0 = eqb-true _ _ (h.first a.p s.requires.3 ∙ s.requires.5) in
-    c.choose.ensures ks _ (h.within a.p s.requires.3 s.requires.5) (within-used ks a.takes.now a.k a.p some low on)
+    let a = c.args in
+    let some : 1 ≤ length a.takes.now = omega (arith, c.requires.4) in
+    let low : a.p < length ks = omega (arith, h.size, c.requires.3) in
+    let on : get_or ks a.p 0 % 512 ≡ get_or a.takes.now 0 0 = eqb-true _ _ (h.first a.p c.requires.3 ∙ c.requires.5) in
+    c.choose.ensures ks _ (h.within a.p c.requires.3 c.requires.5) (within-used ks a.takes.now a.k a.p some low on)
     ∙ ap first_choice (within-choices ks a.takes.now a.k a.p some low on)
 
 pub choose_within_spec : {M : Type 1} → statement M

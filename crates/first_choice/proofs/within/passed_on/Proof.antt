@@ -5,7 +5,7 @@ use Rattle.first_choice.proofs.within.passed_on.Statement.{statement}
 use Rattle.first_choice.proofs.within.passed_on.Tie as tie
 
 returns : tie.Need-returns
-returns c = let s = c in ap {B = Choice} (λ b. record { found = b; picks = s.args.choice.picks }) (sym s.requires)
+returns c = ap {B = Choice} (λ b. record { found = b; picks = c.args.choice.picks }) (sym c.requires)
 
 pub passed_on_spec : {M : Type 1} → statement M
 passed_on_spec = tie.close (tie.spec returns)

@@ -22,9 +22,8 @@ loop-holds c ws gs = lowest_start _ _ _ _ _ _
 
 loop-again : tie.Need-loop-i-preserved Inv μ
 loop-again c ws gs =
-    let turn = c in
-    let l = turn.loop-i in
-    lowest-next _ _ _ (l.invariant ws gs) turn.loop-i-test.true (c.lower_free-low.ensures (get_or ws l.i 0) (get_or gs l.i 0))
+    let l = c.loop-i in
+    lowest-next _ _ _ (l.invariant ws gs) c.loop-i-test.true (c.lower_free-low.ensures (get_or ws l.i 0) (get_or gs l.i 0))
 
 returns : tie.Need-returns Inv μ
 returns c ws gs = lowest-done _ _ _ (c.loop-i.invariant ws gs) c.loop-i-test.false

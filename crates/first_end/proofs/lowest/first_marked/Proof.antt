@@ -22,9 +22,8 @@ loop-holds c gs = lowest_start _ _ _ _ _ _
 
 loop-again : tie.Need-loop-i-preserved Inv μ
 loop-again c gs =
-    let turn = c in
-    let l = turn.loop-i in
-    lowest-next _ _ _ (l.invariant gs) turn.loop-i-test.true (c.lower_marked-low.ensures (get_or gs l.i 0))
+    let l = c.loop-i in
+    lowest-next _ _ _ (l.invariant gs) c.loop-i-test.true (c.lower_marked-low.ensures (get_or gs l.i 0))
 
 returns : tie.Need-returns Inv μ
 returns c gs = lowest-done _ _ _ (c.loop-i.invariant gs) c.loop-i-test.false

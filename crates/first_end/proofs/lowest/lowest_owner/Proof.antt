@@ -23,10 +23,9 @@ loop-holds c = (search rules, λ ws gs. lowest_start _ _ _ _ _ _)
 
 loop-again : tie.Need-loop-i-preserved Inv μ
 loop-again c =
-    let turn = c in
-    let l = turn.loop-i in (
+    let l = c.loop-i in (
       search rules,
-      λ ws gs. lowest-next _ _ _ (l.invariant.1 ws gs) turn.loop-i-test.true (c.lower_owner-low.ensures (get_or ws l.i 0) (get_or gs l.i 0)),
+      λ ws gs. lowest-next _ _ _ (l.invariant.1 ws gs) c.loop-i-test.true (c.lower_owner-low.ensures (get_or ws l.i 0) (get_or gs l.i 0)),
     )
 
 returns : tie.Need-returns Inv μ

@@ -24,13 +24,12 @@ loop-holds c = (c.requires.1.size, λ gs. gathering-start c.requires.1)
 
 loop-again : tie.Need-loop-i-preserved Inv μ
 loop-again c =
-    let turn = c in
-    let l = turn.loop-i in
-    let a = turn.args in
+    let l = c.loop-i in
+    let a = c.args in
     let row : List ℕ → Entry = λ gs. row_of a.owners.now a.items.now gs l.i in
     let t = c.enter_if.ensures in (
       (t 0).size,
-      λ gs. gathering-next (l.invariant.1 gs) turn.loop-i-test.true (owner-put (row gs) (blocks a.globals (row gs)) (t (get_or gs l.i 0))),
+      λ gs. gathering-next (l.invariant.1 gs) c.loop-i-test.true (owner-put (row gs) (blocks a.globals (row gs)) (t (get_or gs l.i 0))),
     )
 
 returns : tie.Need-returns Inv μ

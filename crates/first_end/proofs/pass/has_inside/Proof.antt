@@ -27,12 +27,10 @@ loop-holds c gs = finding-start _ _ _
 
 loop-again : tie.Need-loop-i-preserved Inv μ
 loop-again c gs =
-    let turn = c in
-    let l = turn.loop-i in
-    let first = turn in
-    let item = get_or first.args.items.now l.i 0 in
-    rw (c.kind_of-kind.ensures, inside-by-item item _ first.args.globals (first.messages_end-outside.ensures item))
-    (finding-next (rows-tails _ _) (l.invariant gs) turn.loop-i-test.true)
+    let l = c.loop-i in
+    let item = get_or c.args.items.now l.i 0 in
+    rw (c.kind_of-kind.ensures, inside-by-item item _ c.args.globals (c.messages_end-outside.ensures item))
+    (finding-next (rows-tails _ _) (l.invariant gs) c.loop-i-test.true)
 
 returns : tie.Need-returns Inv μ
 returns c gs = finding-done (rows-tails _ _) (c.loop-i.invariant gs) c.loop-i-test.false

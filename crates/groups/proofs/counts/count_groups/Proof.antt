@@ -48,14 +48,12 @@ short c =
 
 add-counts : tie.Need-overflow_add-counts Inv μ
 add-counts c =
-    let turn = c in
-    let (k, first, second, third, fourth, w, h, top) = turn.loop-i.invariant in
-    omega (arith, word_fits h (inside turn.before.before.before.before) (short turn.before.before.before.before) _ (here turn.before.before.before.before) (small turn.before.before.before.before), weight-small _ _ _ _ w _ (low-port turn.before.before.before.before))
+    let (k, first, second, third, fourth, w, h, top) = c.loop-i.invariant in
+    omega (arith, word_fits h (inside c.before.before.before.before) (short c.before.before.before.before) _ (here c.before.before.before.before) (small c.before.before.before.before), weight-small _ _ _ _ w _ (low-port c.before.before.before.before))
 
 loop-again : tie.Need-loop-i-preserved Inv μ
 loop-again c =
-    let turn = c in
-    let (k, first, second, third, fourth, w, h, top) = turn.loop-i.invariant in
+    let (k, first, second, third, fourth, w, h, top) = c.loop-i.invariant in
     let (low, high, most) = c.larger-top.ensures in (
       k,
       first,
@@ -63,8 +61,8 @@ loop-again c =
       third,
       fourth,
       w,
-      grouping-next h (inside turn.before.before.before.before.before) (short turn.before.before.before.before.before) _ (here turn.before.before.before.before.before) (small turn.before.before.before.before.before) first second third fourth (w.each _ (low-port turn.before.before.before.before.before)),
-      top-next turn.loop-i.i turn.args.keys.now top low high most,
+      grouping-next h (inside c.before.before.before.before.before) (short c.before.before.before.before.before) _ (here c.before.before.before.before.before) (small c.before.before.before.before.before) first second third fourth (w.each _ (low-port c.before.before.before.before.before)),
+      top-next c.loop-i.i c.args.keys.now top low high most,
     )
 
 returns : tie.Need-returns Inv μ
@@ -99,7 +97,7 @@ count_groups_spec =
     add-counts
     (λ c. omega (arith, small c.before.before.before.before, c.loop-i.invariant.6.counted.size))
     (λ c. omega (arith, small c.before.before.before.before))
-    (λ c κs. let turn = c in (turn.loop-i.invariant.7.few, omega (arith, small turn.before.before.before.before)))
+    (λ c κs. (c.loop-i.invariant.7.few, omega (arith, small c.before.before.before.before)))
     (λ c. omega (arith, few c.before.before.before.before.before))
     (λ c. omega (arith, c.loop-i-test.true))
     loop-again

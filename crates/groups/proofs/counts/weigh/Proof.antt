@@ -29,10 +29,9 @@ weigh_spec =
           (get_or c.args.weights.now c.args.b 0 + 1),
     ))
     (λ c.
-    let s = c in
-    let a = s.args in
-    let l : a.b < length a.weights.now = omega (arith, s.requires) in
-    omega (arith, weight-added a.weights.now a.b 1 a.c l, s.requires.1.1 a.c, one-small (eqb a.c a.b)))
+    let a = c.args in
+    let l : a.b < length a.weights.now = omega (arith, c.requires) in
+    omega (arith, weight-added a.weights.now a.b 1 a.c l, c.requires.1.1 a.c, one-small (eqb a.c a.b)))
     (λ c.
     let a = c.args in
     omega (arith, c.requires, length-set a.weights.now a.b (get_or a.weights.now a.b 0 + 1)))
@@ -48,16 +47,15 @@ weigh_spec =
           (get_or ys a.c 0 + 1048576),
     ))
     (λ c.
-    let s = c in
-    let a = s.args in
+    let a = c.args in
     let ys = set a.weights.now a.b (get_or a.weights.now a.b 0 + 1) in
-    let l : a.b < length a.weights.now = omega (arith, s.requires) in
-    let m : a.c < length ys = omega (arith, s.requires, length-set a.weights.now a.b (get_or a.weights.now a.b 0 + 1)) in
+    let l : a.b < length a.weights.now = omega (arith, c.requires) in
+    let m : a.c < length ys = omega (arith, c.requires, length-set a.weights.now a.b (get_or a.weights.now a.b 0 + 1)) in
     omega (
       arith,
       weight-added a.weights.now a.b 1 a.d l,
       weight-added ys a.c 1048576 a.d m,
-      s.requires.1.1 a.d,
+      c.requires.1.1 a.d,
       one-small
           (eqb a.d a.b),
       one-small (eqb a.d a.c),
@@ -75,15 +73,14 @@ weigh_spec =
     (λ c. search rules)
     (λ c. omega (arith, c.requires, long c.before.before.before.before))
     (λ c.
-    let s = c in
-    let a = s.args in
+    let a = c.args in
     let ys = set a.weights.now a.b (get_or a.weights.now a.b 0 + 1) in
     let zs = set ys a.c (get_or ys a.c 0 + 1048576) in
-    let l : a.b < length a.weights.now = omega (arith, s.requires) in
-    let m : a.c < length ys = omega (arith, s.requires, length-set a.weights.now a.b (get_or a.weights.now a.b 0 + 1)) in
+    let l : a.b < length a.weights.now = omega (arith, c.requires) in
+    let m : a.c < length ys = omega (arith, c.requires, length-set a.weights.now a.b (get_or a.weights.now a.b 0 + 1)) in
     let n : a.d < length zs = omega (
       arith,
-      s.requires,
+      c.requires,
       length-set a.weights.now a.b (get_or a.weights.now a.b 0 + 1),
       length-set ys a.c (get_or ys a.c 0 + 1048576),
     ) in
@@ -92,13 +89,12 @@ weigh_spec =
       weight-added a.weights.now a.b 1 a.a l,
       weight-added ys a.c 1048576 a.a m,
       weight-added zs a.d 1099511627776 a.a n,
-      s.requires.1.1 a.a,
+      c.requires.1.1 a.a,
       one-small (eqb a.a a.b),
       one-small (eqb a.a a.c),
       one-small (eqb a.a a.d),
     ))
     (λ c. omega (arith, c.requires, long c.before.before.before.before.before))
     (λ c.
-    let s = c in
-    let (p, q) = s.requires in
-    weighed s.args.a s.args.b s.args.c s.args.d s.args.weights.now p.0 p.1 p.2 p.3 q.0 q.1 _ _ _ refl refl refl))
+    let (p, q) = c.requires in
+    weighed c.args.a c.args.b c.args.c c.args.d c.args.weights.now p.0 p.1 p.2 p.3 q.0 q.1 _ _ _ refl refl refl))

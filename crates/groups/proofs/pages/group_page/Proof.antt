@@ -31,9 +31,8 @@ abbrev μ : tie.decreases-loop-p
 -- a turn's place, among the keys in use
 inside : (c : tie.In-loop-p Inv μ) → c.loop-p.p < length (take c.args.n c.args.keys.now)
 inside c =
-    let s = c in
-    let b = s.requires.0.0 in
-    rw (length-take-le s.args.n s.args.keys.now (omega (arith, b.few, b.size))) c.loop-p-test.true
+    let b = c.requires.0.0 in
+    rw (length-take-le c.args.n c.args.keys.now (omega (arith, b.few, b.size))) c.loop-p-test.true
 
 -- .. and its key
 here : (c : tie.In-loop-p Inv μ) → get_or (take c.args.n c.args.keys.now) c.loop-p.p 0
@@ -65,15 +64,14 @@ returns c =
 
 loop-again : tie.Need-loop-p-preserved-then-key-t Inv μ
 loop-again c =
-    let turn = c in
-    let a = turn.args in
-    let l = turn.loop-p in
+    let a = c.args in
+    let l = c.loop-p in
     let ks = take a.n a.keys.now in
-    let off : eqb (get_or ks l.p 0 % 512) (get_or a.takes 0 0) ≡ false = rw (here turn.before.before.before.before) (ne_eqb _ _ c.if-key-t.true) in (
-      omega (arith, turn.loop-p-test.true),
+    let off : eqb (get_or ks l.p 0 % 512) (get_or a.takes 0 0) ≡ false = rw (here c.before.before.before.before) (ne_eqb _ _ c.if-key-t.true) in (
+      omega (arith, c.loop-p-test.true),
       paging-pass (choice_words a.head no_picks 0) 5 (five-words a.head no_picks 0 refl) l.invariant.1
           (from-pass (choices_in ks (get_or a.takes 0 0) (rest_of a.takes a.k)) (λ p. eqb (get_or ks p 0 % 512) (get_or a.takes 0 0)) (length ks) l.p
-          (inside turn.before.before.before.before) off),
+          (inside c.before.before.before.before) off),
     )
 
 -- where the key is on the first port, the choices are within its group
@@ -87,14 +85,12 @@ grouped : (c : tie.Else-key-t Inv μ) → InGroup
     (get_or c.args.keys.now c.loop-p.p 0 / 512))
     c.args.k)
 grouped c =
-    let turn = c in
-    let s = turn in
-    let a = s.args in
-    let p = s.requires.0 in
+    let a = c.args in
+    let p = c.requires.0 in
     let four : length a.takes ≡ 4 = search rules in
-    let first : get_or (take a.n a.keys.now) turn.loop-p.p 0 % 512 ≡ get_or a.takes 0 0 = rw (here turn.before.before.before.before) (omega (arith, c.if-key-t.false)) in
-    rw (here turn.before.before.before.before) at (in_group (take a.n a.keys.now) a.k p.1 p.2 a.takes four p.3 turn.loop-p.p (inside turn.before.before.before.before)
-    (rw (here turn.before.before.before.before) (small turn.before.before.before.before)) first)
+    let first : get_or (take a.n a.keys.now) c.loop-p.p 0 % 512 ≡ get_or a.takes 0 0 = rw (here c.before.before.before.before) (omega (arith, c.if-key-t.false)) in
+    rw (here c.before.before.before.before) at (in_group (take a.n a.keys.now) a.k p.1 p.2 a.takes four p.3 c.loop-p.p (inside c.before.before.before.before)
+    (rw (here c.before.before.before.before) (small c.before.before.before.before)) first)
 
 -- .. and come next
 next : (c : tie.Else-key-t Inv μ) → groups_from
@@ -113,81 +109,69 @@ next : (c : tie.Else-key-t Inv μ) → groups_from
     (rest_of c.args.takes c.args.k)
     (c.loop-p.p + 1)
 next c =
-    let turn = c in
-    let a = turn.args in
+    let a = c.args in
     let ks = take a.n a.keys.now in
-    let q : eqb (get_or ks turn.loop-p.p 0 % 512) (get_or a.takes 0 0) ≡ true = rw (here turn.before.before.before.before)
-    (eq-eqb (get_or a.keys.now turn.loop-p.p 0 % 512) (get_or a.takes 0 0) (omega (arith, c.if-key-t.false))) in
+    let q : eqb (get_or ks c.loop-p.p 0 % 512) (get_or a.takes 0 0) ≡ true = rw (here c.before.before.before.before)
+    (eq-eqb (get_or a.keys.now c.loop-p.p 0 % 512) (get_or a.takes 0 0) (omega (arith, c.if-key-t.false))) in
     from-here (choices_in ks (get_or a.takes 0 0) (rest_of a.takes a.k)) (λ p. eqb (get_or ks p 0 % 512) (get_or a.takes 0 0)) (length ks)
-    turn.loop-p.p (inside turn.before.before.before.before) q
+    c.loop-p.p (inside c.before.before.before.before) q
 
 widths-in-requires : tie.Need-widths_in-below-requires Inv μ
 widths-in-requires c κs =
-    let turn = c in
-    (grouped-sized turn.requires.0.3, small turn.before.before.before.before)
+    (grouped-sized c.requires.0.3, small c.before.before.before.before)
 
 loop-again-2 : tie.Need-loop-p-preserved-then-width-skip Inv μ
 loop-again-2 c =
-    let first = c in
-    let turn = first in
-    let a = turn.args in
-    let w = (grouped first.before.before).width ∙ sym (ap (λ (x : List ℕ). get_or x 0 0) c.widths_in-below.ensures) in (
-      omega (arith, turn.loop-p-test.true),
-      rw (← w) (paging-skip (choice_words a.head no_picks 0) 5 (five-words a.head no_picks 0 refl) turn.loop-p.invariant.1
-          (choices_in (take a.n a.keys.now) (get_or a.takes 0 0) (rest_of a.takes a.k) turn.loop-p.p)
-          (groups_from (take a.n a.keys.now) (get_or a.takes 0 0) (rest_of a.takes a.k) (turn.loop-p.p + 1)) (next first.before.before)
+    let a = c.args in
+    let w = (grouped c.before.before).width ∙ sym (ap (λ (x : List ℕ). get_or x 0 0) c.widths_in-below.ensures) in (
+      omega (arith, c.loop-p-test.true),
+      rw (← w) (paging-skip (choice_words a.head no_picks 0) 5 (five-words a.head no_picks 0 refl) c.loop-p.invariant.1
+          (choices_in (take a.n a.keys.now) (get_or a.takes 0 0) (rest_of a.takes a.k) c.loop-p.p)
+          (groups_from (take a.n a.keys.now) (get_or a.takes 0 0) (rest_of a.takes a.k) (c.loop-p.p + 1)) (next c.before.before)
           (rw w c.if-width-skip.true)),
     )
 
 shifted-requires : tie.Need-shifted-wanted-requires Inv μ
 shifted-requires c κs =
-    let turn = c in
-    (omega (arith, small turn.before.before.before.before.before.before), turn.requires.1.2)
+    (omega (arith, small c.before.before.before.before.before.before), c.requires.1.2)
 
 fill-requires : tie.Need-fill-done-requires Inv μ
 fill-requires c κs =
-    let first = c in
-    let turn = first in
-    let s = turn in
-    let b = s.requires.0.0 in
-    let l = turn.loop-p in
-    let g = grouped first.before.before.before.before in
+    let b = c.requires.0.0 in
+    let l = c.loop-p in
+    let g = grouped c.before.before.before.before in
     let z = paged-length _ 5 l.invariant.1.paged in
-    let k : get_or (take s.args.n s.args.keys.now) l.p 0 ≡ get_or s.args.keys.now l.p 0 = here turn.before.before.before.before.before.before.before.before in (
-      (s.requires.0.1, s.requires.0.2, b.few, b.size),
+    let k : get_or (take c.args.n c.args.keys.now) l.p 0 ≡ get_or c.args.keys.now l.p 0 = here c.before.before.before.before.before.before.before.before in (
+      (c.requires.0.1, c.requires.0.2, b.few, b.size),
       (
-        (omega (arith, s.requires.1.0), omega (arith, s.requires.1.1, z, done-le turn.before.before.before.before.before.before.before.before)),
+        (omega (arith, c.requires.1.0), omega (arith, c.requires.1.1, z, done-le c.before.before.before.before.before.before.before.before)),
         (rw (c.shifted-wanted.ensures, c.widths_in-below.ensures) (rw k at g.widths), rw c.shifted-wanted.ensures (rw k at g.used)),
       ),
     )
 
 add_done : tie.Need-overflow_add-done Inv μ
 add_done c =
-    let turn = c in
-    omega (arith, paged-le _ 5 c.fill-done.ensures, done-le turn.before.before.before.before.before.before.before.before.before.before.before, turn.requires.1.0)
+    omega (arith, paged-le _ 5 c.fill-done.ensures, done-le c.before.before.before.before.before.before.before.before.before.before.before, c.requires.1.0)
 
 loop-again-3 : tie.Need-loop-p-preserved Inv μ
 loop-again-3 c =
-    let first = c in
-    let turn = first in
-    let a = turn.args in
-    let l = turn.loop-p in
-    let g = grouped first.before.before.before.before.before.before.before in
-    let k : get_or (take a.n a.keys.now) l.p 0 ≡ get_or a.keys.now l.p 0 = here turn.before.before.before.before.before.before.before.before.before.before.before in
+    let a = c.args in
+    let l = c.loop-p in
+    let g = grouped c.before.before.before.before.before.before.before in
+    let k : get_or (take a.n a.keys.now) l.p 0 ≡ get_or a.keys.now l.p 0 = here c.before.before.before.before.before.before.before.before.before.before.before in
     let w = g.width ∙ sym (ap (λ (x : List ℕ). get_or x 0 0) c.widths_in-below.ensures) in
     let wrote = g.paged (rw (c.shifted-wanted.ensures, ← k) at c.fill-done.ensures) in
     let more = paging-more (choice_words a.head no_picks 0) 5 (five-words a.head no_picks 0 refl) l.invariant.1
     (choices_in (take a.n a.keys.now) (get_or a.takes 0 0) (rest_of a.takes a.k) l.p)
-    (groups_from (take a.n a.keys.now) (get_or a.takes 0 0) (rest_of a.takes a.k) (l.p + 1)) _ _ (next first.before.before.before.before.before.before.before) wrote in
+    (groups_from (take a.n a.keys.now) (get_or a.takes 0 0) (rest_of a.takes a.k) (l.p + 1)) _ _ (next c.before.before.before.before.before.before.before) wrote in
     let none : l.skip - length (choices_in (take a.n a.keys.now) (get_or a.takes 0 0) (rest_of a.takes a.k) l.p) ≡ 0 = omega
     (arith, w, c.if-width-skip.false) in
-    (omega (arith, turn.loop-p-test.true), rw none at more)
+    (omega (arith, c.loop-p-test.true), rw none at more)
 
 returns-2 : tie.Need-returns Inv μ
 returns-2 c =
-    let s = c in
-    let a = s.args in
-    let b = s.requires.0.0 in
+    let a = c.args in
+    let b = c.requires.0.0 in
     let l = c.loop-p in
     let ks = take a.n a.keys.now in
     let past : length ks ≤ l.p = rw (length-take-le a.n a.keys.now (omega (arith, b.few, b.size))) c.loop-p-test.false in

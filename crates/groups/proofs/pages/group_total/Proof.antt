@@ -20,17 +20,15 @@ abbrev μ : tie.decreases-loop-g
 
 loop-again : tie.Need-loop-g-preserved Inv μ
 loop-again c =
-    let turn = c in
-    let l = turn.loop-g in
+    let l = c.loop-g in
     let w = c.group_ways-total.ensures in
-    (omega (arith, l.invariant.0, w.1), omega (arith, turn.loop-g-test.true), rw add-one (omega (arith, l.invariant.2, w.0)))
+    (omega (arith, l.invariant.0, w.1), omega (arith, c.loop-g-test.true), rw add-one (omega (arith, l.invariant.2, w.0)))
 
 returns : tie.Need-returns Inv μ
 returns c =
-    let s = c in
-    let a = s.args in
+    let a = c.args in
     let l = c.loop-g in
-    let (p, q) = s.requires in
+    let (p, q) = c.requires in
     let four : length a.takes ≡ 4 = search rules in
     let long = length-take-le a.n a.keys.now (omega (arith, p.0.few, p.0.size)) in
     let all : l.g ≡ a.top = omega (arith, l.invariant.1, c.loop-g-test.false) in

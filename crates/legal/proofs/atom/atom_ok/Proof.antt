@@ -7,15 +7,13 @@ use Rattle.legal.proofs.atom.atom_ok.Tie as tie
 returns : tie.Need-returns
 unfolding atom_ok
 returns c =
-    let value = c in
-    let mode = value in
     rw (
       c.value_ok.ensures,
       c.class_of.ensures,
-      value.value_of-value.ensures,
-      value.port_of-port.ensures,
-      mode.mode_of-mode.ensures,
-      mode.role_of-role.ensures,
+      c.value_of-value.ensures,
+      c.port_of-port.ensures,
+      c.mode_of-mode.ensures,
+      c.role_of-role.ensures,
     )
 
 pub atom_ok_spec : {M : Type 1} → statement M

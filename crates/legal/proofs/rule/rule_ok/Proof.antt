@@ -9,19 +9,15 @@ returns c = too_long _ _ c.if-ws-gt16.true
 
 returns-2 : tie.Need-returns
 returns-2 c =
-    let s4 = c in
-    let s3 = s4 in
-    let s2 = s3 in
-    let s1 = s2 in
-    let class = s1.rule_class-class.ensures in
+    let class = c.rule_class-class.ensures in
     rule-runs
     _
     _
-    (rw (s1.shape.ensures.0, class) at s2.run_end-consumes.ensures)
-    (rw (s2.shape-2.ensures.0, class) at s3.run_end-emits.ensures)
-    (rw (s3.shape-3.ensures.0, class) at s4.run_end-opened.ensures)
-    s1.if-ws-gt16.false
-    (rw (s4.shape-s.ensures.0, class) at c.rest_ok.ensures)
+    (rw (c.shape.ensures.0, class) at c.run_end-consumes.ensures)
+    (rw (c.shape-2.ensures.0, class) at c.run_end-emits.ensures)
+    (rw (c.shape-3.ensures.0, class) at c.run_end-opened.ensures)
+    c.if-ws-gt16.false
+    (rw (c.shape-s.ensures.0, class) at c.rest_ok.ensures)
 
 pub rule_ok_spec : {M : Type 1} → statement M
 rule_ok_spec =

@@ -27,23 +27,18 @@ reactions-requires c κs =
 
 tail-requires : tie.Need-tail-ends-requires
 tail-requires c κs =
-    let e = c in
-    let p = e.requires in
-    let same = paged-length _ 5 e.reactions-heads.ensures.0.paged in
-    ((p.0.4, p.0.5), (omega (arith, p.1.0), omega (arith, p.1.0, few e.before.before.before.before.before.before), omega (arith, p.1.1, same, few e.before.before.before.before.before.before)))
+    let p = c.requires in
+    let same = paged-length _ 5 c.reactions-heads.ensures.0.paged in
+    ((p.0.4, p.0.5), (omega (arith, p.1.0), omega (arith, p.1.0, few c.before.before.before.before.before.before), omega (arith, p.1.1, same, few c.before.before.before.before.before.before)))
 
 add-t27 : tie.Need-overflow_add-result-2
 add-t27 c =
-    let e = c in
-    let start = e in
-    omega (arith, few e.before.before.before.before.before.before.before.before.before.before.before.before.before, paged-le _ 5 c.tail-ends.ensures.0.paged, start.requires.1.0)
+    omega (arith, few c.before.before.before.before.before.before.before.before.before.before.before.before.before, paged-le _ 5 c.tail-ends.ensures.0.paged, c.requires.1.0)
 
 returns : tie.Need-returns
 returns c =
-    let e = c in
-    let f = c in
-    part-append move_words move_words-length _ _ e.reactions-heads.result f.tail-ends.result e.reactions-heads.ensures.0
-    (part-from-zero e.reactions-heads.result.written (rw f.less-rest.ensures.0 at f.tail-ends.ensures.0))
+    part-append move_words move_words-length _ _ c.reactions-heads.result c.tail-ends.result c.reactions-heads.ensures.0
+    (part-from-zero c.reactions-heads.result.written (rw c.less-rest.ensures.0 at c.tail-ends.ensures.0))
 
 pub listed_spec : {M : Type 1} → statement M
 listed_spec =
@@ -53,13 +48,11 @@ listed_spec =
     reactions-requires
     (λ c κs. search rules)
     (λ c. omega (arith, few c.before.before.before.before))
-    (λ c. let e = c in omega (arith, few e.before.before.before.before.before, e.requires.1.0))
+    (λ c. omega (arith, few c.before.before.before.before.before, c.requires.1.0))
     tail-requires
     (λ c.
-    let made = c in
-    omega (arith, c.tail-ends.ensures.1, made.reactions-heads.ensures.1))
+    omega (arith, c.tail-ends.ensures.1, c.reactions-heads.ensures.1))
     add-t27
     (λ c.
-    let made = c in
-    paged-length _ 5 c.tail-ends.ensures.0.paged ∙ paged-length _ 5 made.reactions-heads.ensures.0.paged)
+    paged-length _ 5 c.tail-ends.ensures.0.paged ∙ paged-length _ 5 c.reactions-heads.ensures.0.paged)
     returns)

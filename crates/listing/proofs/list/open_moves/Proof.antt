@@ -19,9 +19,8 @@ start c = c.before.before.before.before.before.before.before.before.before.befor
 
 survey-requires : tie.Need-survey-requires
 survey-requires c κs =
-    let l = c in
-    let s = start l.before.before.before.before.before.before in
-    let c = columns s.args.table.now s.args.state.now _ _ _ l.load-at.result s.requires.0.accepted l.load-at.ensures in
+    let s = start c.before.before.before.before.before.before in
+    let c = columns s.args.table.now s.args.state.now _ _ _ c.load-at.result s.requires.0.accepted c.load-at.ensures in
     (c, zeros-empty, zeros-empty, zeros-empty)
 
 -- the globals handed on are the table's
@@ -30,51 +29,40 @@ globals c = ap (λ z. z.globals) c.sizes_of-z.ensures
 
 ids-of-requires : tie.Need-ids_of-m-requires
 ids-of-requires c κs =
-    let z = c in
-    let l = z in
-    let s = start l.before.before.before.before.before.before.before.before.before in
-    let (low, high) = next-within s.args.table.now s.args.state.now _ _ _ l.load-at.result s.requires.0.accepted l.load-at.ensures in (
+    let s = start c.before.before.before.before.before.before.before.before.before in
+    let (low, high) = next-within s.args.table.now s.args.state.now _ _ _ c.load-at.result s.requires.0.accepted c.load-at.ensures in (
       low,
       high,
       search rules,
-      ids-few s.args.table.now s.args.state.now _ _ _ l.load-at.result s.requires.0.accepted l.load-at.ensures
-          z.sizes_of-z.result.globals (globals z.before.before.before.before.before.before.before.before) c.survey.ensures,
+      ids-few s.args.table.now s.args.state.now _ _ _ c.load-at.result s.requires.0.accepted c.load-at.ensures
+          c.sizes_of-z.result.globals (globals c.before.before.before.before.before.before.before.before) c.survey.ensures,
     )
 
 keys-of-requires : tie.Need-keys_of-requires
 keys-of-requires c κs =
-    let i = c in
-    let v = i in
-    let z = v in
-    let l = z in
-    let s = start l.before.before.before.before.before.before.before.before.before.before.before.before.before.before.before in
-    let ids = i.ids_of-m.ensures in
-    let sizes = z.sizes_of-z.ensures in (
+    let s = start c.before.before.before.before.before.before.before.before.before.before.before.before.before.before.before in
+    let ids = c.ids_of-m.ensures in
+    let sizes = c.sizes_of-z.ensures in (
       rw sizes (well-formed s.args.table.now (ready-table s.requires.0)).sizes.ports,
       ids.fits,
       ids-ascend ids,
-      columns s.args.table.now s.args.state.now _ _ _ l.load-at.result s.requires.0.accepted l.load-at.ensures,
+      columns s.args.table.now s.args.state.now _ _ _ c.load-at.result s.requires.0.accepted c.load-at.ensures,
       search rules,
-      rw sizes (places s.args.table.now s.args.state.now _ _ _ l.load-at.result s.requires.0.accepted l.load-at.ensures
-          z.sizes_of-z.result.globals (globals z.before.before.before.before.before.before.before.before.before.before.before.before.before.before) v.survey.ensures ids),
-      none-global s.args.table.now s.args.state.now _ _ _ l.load-at.result s.requires.0.accepted l.load-at.ensures
-          z.sizes_of-z.result.globals (globals z.before.before.before.before.before.before.before.before.before.before.before.before.before.before) v.survey.ensures,
+      rw sizes (places s.args.table.now s.args.state.now _ _ _ c.load-at.result s.requires.0.accepted c.load-at.ensures
+          c.sizes_of-z.result.globals (globals c.before.before.before.before.before.before.before.before.before.before.before.before.before.before) c.survey.ensures ids),
+      none-global s.args.table.now s.args.state.now _ _ _ c.load-at.result s.requires.0.accepted c.load-at.ensures
+          c.sizes_of-z.result.globals (globals c.before.before.before.before.before.before.before.before.before.before.before.before.before.before) c.survey.ensures,
     )
 
 listed-requires : tie.Need-listed-requires
 listed-requires c κs =
-    let k = c in
-    let i = k in
-    let v = i in
-    let z = v in
-    let l = z in
-    let s = start l.before.before.before.before.before.before.before.before.before.before.before.before.before.before.before.before.before.before.before.before.before in
-    let ids = i.ids_of-m.ensures in (
+    let s = start c.before.before.before.before.before.before.before.before.before.before.before.before.before.before.before.before.before.before.before.before.before in
+    let ids = c.ids_of-m.ensures in (
       (
         ready-table s.requires.0,
         s.requires.0.starts,
-        keys-within s.args.table.now s.args.state.now _ _ _ l.load-at.result s.requires.0.accepted l.load-at.ensures
-            z.sizes_of-z.result.globals (globals z.before.before.before.before.before.before.before.before.before.before.before.before.before.before.before.before.before.before.before.before) v.survey.ensures ids (rw z.sizes_of-z.ensures at k.keys_of.ensures),
+        keys-within s.args.table.now s.args.state.now _ _ _ c.load-at.result s.requires.0.accepted c.load-at.ensures
+            c.sizes_of-z.result.globals (globals c.before.before.before.before.before.before.before.before.before.before.before.before.before.before.before.before.before.before.before.before) c.survey.ensures ids (rw c.sizes_of-z.ensures at c.keys_of.ensures),
         omega arith,
         ids.fits,
         ids.size,
@@ -84,14 +72,9 @@ listed-requires c κs =
 
 returns : tie.Need-returns
 returns c =
-    let k = c in
-    let i = k in
-    let v = i in
-    let z = v in
-    let l = z in
-    let s = start l.before.before.before.before.before.before.before.before.before.before.before.before.before.before.before.before.before.before.before.before.before.before.before.before in
-    all_listed s.args.table.now s.args.state.now _ _ _ l.load-at.result s.requires.0.accepted l.load-at.ensures
-    z.sizes_of-z.result.globals (globals z.before.before.before.before.before.before.before.before.before.before.before.before.before.before.before.before.before.before.before.before.before.before.before) v.survey.ensures i.ids_of-m.ensures (rw z.sizes_of-z.ensures at k.keys_of.ensures)
+    let s = start c.before.before.before.before.before.before.before.before.before.before.before.before.before.before.before.before.before.before.before.before.before.before.before.before in
+    all_listed s.args.table.now s.args.state.now _ _ _ c.load-at.result s.requires.0.accepted c.load-at.ensures
+    c.sizes_of-z.result.globals (globals c.before.before.before.before.before.before.before.before.before.before.before.before.before.before.before.before.before.before.before.before.before.before.before) c.survey.ensures c.ids_of-m.ensures (rw c.sizes_of-z.ensures at c.keys_of.ensures)
     c.listed.ensures
 
 pub open_moves_spec : {M : Type 1} → statement M
@@ -99,7 +82,7 @@ open_moves_spec =
     tie.close
     (tie.spec
     (λ c κs. search rules)
-    (λ c κs. let s = c in (loadable _ _ s.requires.0.accepted, search rules))
+    (λ c κs. (loadable _ _ c.requires.0.accepted, search rules))
     (λ c κs. (well-formed _ (ready-table (start c).requires.0)).sizes.long)
     survey-requires
     ids-of-requires

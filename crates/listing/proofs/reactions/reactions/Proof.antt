@@ -51,57 +51,47 @@ done-le c = paged-le move_words 5 c.loop-r.invariant.2.paged
 
 moves-by-requires : tie.Need-moves_by-part-requires Inv μ
 moves-by-requires c κs =
-    let turn = c in
-    let s = turn in
     let d = c.rule_at-rule.ensures in
-    let same = paged-length move_words 5 turn.loop-r.invariant.2.paged in
-    let ports = small-ports d (consumed-below s.args.table.now s.requires.0.0 turn.loop-r.r (below turn.before.before)) in (
-      (decodes-itself _ _ d, ports, s.requires.0.2, s.requires.0.3, s.requires.0.4),
-      (omega (arith, s.requires.1.0), omega (arith, s.requires.1.1, same, done-le turn.before.before)),
+    let same = paged-length move_words 5 c.loop-r.invariant.2.paged in
+    let ports = small-ports d (consumed-below c.args.table.now c.requires.0.0 c.loop-r.r (below c.before.before)) in (
+      (decodes-itself _ _ d, ports, c.requires.0.2, c.requires.0.3, c.requires.0.4),
+      (omega (arith, c.requires.1.0), omega (arith, c.requires.1.1, same, done-le c.before.before)),
     )
 
 add-length : tie.Need-overflow_add-length Inv μ
 add-length c =
-    let turn = c in
-    let s = turn in
-    let few = (well-formed s.args.table.now s.requires.0.0).sizes.rules in
-    omega (arith, turn.loop-r.invariant.1, c.moves_by-part.ensures.1, below turn.before.before.before.before.before.before, few)
+    let few = (well-formed c.args.table.now c.requires.0.0).sizes.rules in
+    omega (arith, c.loop-r.invariant.1, c.moves_by-part.ensures.1, below c.before.before.before.before.before.before, few)
 
 add_done : tie.Need-overflow_add-done Inv μ
 add_done c =
-    let turn = c in
-    let s = turn in
-    omega (arith, paged-le move_words 5 c.moves_by-part.ensures.0.paged, done-le turn.before.before.before.before.before.before.before.before, s.requires.1.0)
+    omega (arith, paged-le move_words 5 c.moves_by-part.ensures.0.paged, done-le c.before.before.before.before.before.before.before.before, c.requires.1.0)
 
 loop-again : tie.Need-loop-r-preserved Inv μ
 loop-again c =
-    let made = c in
-    let turn = made in
-    let s = turn in
-    let a = s.args in
-    let l = turn.loop-r in
-    let part = part-of-rule made.rule_at-rule.ensures a.ceiling l.r a.at.len a.at.next (take a.at.len a.keys.now)
-    made.moves_by-part.ensures.0 in
+    let a = c.args in
+    let l = c.loop-r in
+    let part = part-of-rule c.rule_at-rule.ensures a.ceiling l.r a.at.len a.at.next (take a.at.len a.keys.now)
+    c.moves_by-part.ensures.0 in
     let next = up-here (λ r. moves_by a.ceiling (rule_at (table_of a.table.now) r) r a.at.len a.at.next (take a.at.len a.keys.now))
-    (sizes_of a.table.now).rules l.r (below turn.before.before.before.before.before.before.before.before) in
+    (sizes_of a.table.now).rules l.r (below c.before.before.before.before.before.before.before.before) in
     let more = paging-more move_words 5 move_words-length l.invariant.2 _ _ _ _ next (from_zero l.done part.paged) in (
-      omega (arith, below turn.before.before.before.before.before.before.before.before),
-      omega (arith, l.invariant.1, made.moves_by-part.ensures.1),
+      omega (arith, below c.before.before.before.before.before.before.before.before),
+      omega (arith, l.invariant.1, c.moves_by-part.ensures.1),
       rw (c.less-skip.ensures.0, part.total) more,
       more-length (reactions_by a.ceiling a.table.now a.at.len a.at.next (take a.at.len a.keys.now))
           (from a.ceiling a.table.now a.at.len a.at.next (take a.at.len a.keys.now) l.r)
           (moves_by a.ceiling (rule_at (table_of a.table.now) l.r) l.r a.at.len a.at.next (take a.at.len a.keys.now))
           (from a.ceiling a.table.now a.at.len a.at.next (take a.at.len a.keys.now) (l.r + 1)) l.length
-          made.moves_by-part.result.length l.invariant.3 next part.total,
+          c.moves_by-part.result.length l.invariant.3 next part.total,
     )
 
 returns : tie.Need-returns Inv μ
 returns c =
-    let s = c in
-    let a = s.args in
+    let a = c.args in
     let l = c.loop-r in
     let z = ap (λ z. z.rules) c.sizes_of-z.ensures in
-    let few = (well-formed a.table.now s.requires.0.0).sizes.rules in
+    let few = (well-formed a.table.now c.requires.0.0).sizes.rules in
     let none = up-end (λ r. moves_by a.ceiling (rule_at (table_of a.table.now) r) r a.at.len a.at.next (take a.at.len a.keys.now))
     (sizes_of a.table.now).rules l.r (rw (← z) c.loop-r-test.false) in (
       record { total = omega (arith, l.invariant.3, ap length none); paged = paging-end move_words 5 move_words-length l.invariant.2 none },
@@ -116,7 +106,7 @@ reactions_spec =
     μ
     (λ c κs. (well-formed _ c.requires.0.0).sizes.long)
     loop-holds
-    (λ c κs. let s = c in (s.requires.0.0, below c, s.requires.0.1))
+    (λ c κs. (c.requires.0.0, below c, c.requires.0.1))
     (λ c. omega (arith, done-le c.before))
     (λ c. omega (arith, done-le c.before.before, c.requires.1.0))
     moves-by-requires
@@ -124,9 +114,7 @@ reactions_spec =
     (λ c κs. search rules)
     add_done
     (λ c.
-    let turn = c in
-    let s = turn in
-    omega (arith, below turn.before.before.before.before.before.before.before.before, (well-formed s.args.table.now s.requires.0.0).sizes.rules))
+    omega (arith, below c.before.before.before.before.before.before.before.before, (well-formed c.args.table.now c.requires.0.0).sizes.rules))
     (λ c. omega (arith, below c.before.before.before.before.before.before.before.before))
     loop-again
     (λ c. paged-length move_words 5 c.loop-r.invariant.2.paged)

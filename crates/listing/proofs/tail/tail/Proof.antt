@@ -16,24 +16,20 @@ few c = paged-le _ 5 c.ends-commits.ensures.0.paged
 
 ends-requires-2 : tie.Need-ends-aborts-requires
 ends-requires-2 c κs =
-    let e = c in
-    let p = e.requires in
-    let same = paged-length _ 5 e.ends-commits.ensures.0.paged in
-    ((p.0.0, p.0.1, omega arith), (omega (arith, p.1.0), omega (arith, p.1.2, same, few e.before.before.before.before.before.before)))
+    let p = c.requires in
+    let same = paged-length _ 5 c.ends-commits.ensures.0.paged in
+    ((p.0.0, p.0.1, omega arith), (omega (arith, p.1.0), omega (arith, p.1.2, same, few c.before.before.before.before.before.before)))
 
 add-t16 : tie.Need-overflow_add-result-2
 add-t16 c =
-    let e = c in
-    omega (arith, few e.before.before.before.before.before.before.before.before.before.before.before.before.before, paged-le _ 5 c.ends-aborts.ensures.0.paged, e.requires.1.0)
+    omega (arith, few c.before.before.before.before.before.before.before.before.before.before.before.before.before, paged-le _ 5 c.ends-aborts.ensures.0.paged, c.requires.1.0)
 
 returns : tie.Need-returns
 returns c =
-    let e = c in
-    let f = c in
-    let first = part-map commit move_words e.ends-commits.ensures.0 in
-    let second = rw f.less-rest.ensures.0 at f.ends-aborts.ensures.0 in (
-      part-append move_words move_words-length _ _ e.ends-commits.result f.ends-aborts.result first (part-map abort move_words second),
-      omega (arith, e.ends-commits.ensures.1, f.ends-aborts.ensures.1),
+    let first = part-map commit move_words c.ends-commits.ensures.0 in
+    let second = rw c.less-rest.ensures.0 at c.ends-aborts.ensures.0 in (
+      part-append move_words move_words-length _ _ c.ends-commits.result c.ends-aborts.result first (part-map abort move_words second),
+      omega (arith, c.ends-commits.ensures.1, c.ends-aborts.ensures.1),
     )
 
 pub tail_spec : {M : Type 1} → statement M
@@ -43,8 +39,8 @@ tail_spec =
     (λ c κs. search rules)
     (λ c κs. search rules)
     (λ c. omega (arith, few c.before.before.before.before))
-    (λ c. let e = c in omega (arith, few e.before.before.before.before.before, e.requires.1.0))
-    (λ c. let e = c in omega (arith, few e.before.before.before.before.before, e.requires.1))
+    (λ c. omega (arith, few c.before.before.before.before.before, c.requires.1.0))
+    (λ c. omega (arith, few c.before.before.before.before.before, c.requires.1))
     ends-requires-2
     (λ c. search rules)
     add-t16

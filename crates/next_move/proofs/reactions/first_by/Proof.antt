@@ -11,17 +11,15 @@ use Rattle.next_move.proofs.reactions.first_by.Tie as tie
 
 returns : tie.Need-returns-then-not-has_room
 returns c =
-    let s = c in
-    let a = s.args in
-    let w = words-consumed a.z a.ws.now s.requires.0 c.consumes_of-k.ensures in
+    let a = c.args in
+    let w = words-consumed a.z a.ws.now c.requires.0 c.consumes_of-k.ensures in
     let room = room-is a.z a.ws.now w a.ceiling a.at.len a.at.next in
-    (c.none.ensures ∙ rule-shut a.r _ (room ∙ sym c.has_room.ensures ∙ not-true _ c.if-not-has_room.true-raw), s.requires.3)
+    (c.none.ensures ∙ rule-shut a.r _ (room ∙ sym c.has_room.ensures ∙ not-true _ c.if-not-has_room.true-raw), c.requires.3)
 
 returns-2 : tie.Need-returns
 returns-2 c =
-    let s = c in
-    let a = s.args in
-    let w = words-consumed a.z a.ws.now s.requires.0 c.consumes_of-k.ensures in
+    let a = c.args in
+    let w = words-consumed a.z a.ws.now c.requires.0 c.consumes_of-k.ensures in
     let room = room-is a.z a.ws.now w a.ceiling a.at.len a.at.next in
     let cs = choices_of (rule_of a.z a.ws.now) (column_keys a.z a.stopped.now a.owners.now a.items.now a.at.len) in (
       rule-open a.r cs (room ∙ sym c.has_room.ensures ∙ not-false _ c.if-not-has_room.false-raw)
@@ -35,13 +33,11 @@ first_by_spec =
     (tie.spec
     (λ c κs. search rules)
     (λ c κs.
-    let s = c in
-    let w = words-consumed s.args.z s.args.ws.now s.requires.0 c.consumes_of-k.ensures in
-    (w.most, s.requires.0.few, s.requires.2.columns.fits, s.requires.5))
+    let w = words-consumed c.args.z c.args.ws.now c.requires.0 c.consumes_of-k.ensures in
+    (w.most, c.requires.0.few, c.requires.2.columns.fits, c.requires.5))
     (λ c κs. search rules)
     returns
     (λ c κs.
-    let s = c in
-    (words-consumed s.args.z s.args.ws.now s.requires.0 c.consumes_of-k.ensures, s.requires.1, s.requires.2, s.requires.3))
+    (words-consumed c.args.z c.args.ws.now c.requires.0 c.consumes_of-k.ensures, c.requires.1, c.requires.2, c.requires.3))
     (λ c κs. c.requires.4)
     returns-2)

@@ -21,29 +21,27 @@ use Rattle.next_move.proofs.reactions.first_of.Tie as tie
 
 returns : tie.Need-returns-then-lacks
 returns c =
-    let s = c in
-    let a = s.args in
-    let p = s.requires.0 in
+    let a = c.args in
+    let p = c.requires.0 in
     let z = sizes_of a.table.now in
     let R = rule_at (table_of a.table.now) a.r in
     let ks = column_keys z a.stopped.now a.owners.now a.items.now a.at.len in
     let counts = supply-keys z a.owners.now a.items.now [] a.at (p.state.stops []) (p.supply []) in (
       c.none.ensures
           ∙ rule-lacks a.r (has_room_for a.ceiling R a.at.len a.at.next)
-          (lacking-none ks a.totals.now counts R (get_or a.wants.now a.r 0) (p.wants-are.each a.r s.requires.1)
+          (lacking-none ks a.totals.now counts R (get_or a.wants.now a.r 0) (p.wants-are.each a.r c.requires.1)
           (sym c.lacks.ensures ∙ c.if-lacks.true)),
-      s.requires.2,
+      c.requires.2,
     )
 
 returns-2 : tie.Need-returns
 returns-2 c =
-    let s = c in
-    let a = s.args in
-    let p = s.requires.0.indexed in
+    let a = c.args in
+    let p = c.requires.0.indexed in
     let R = rule_at (table_of a.table.now) a.r in
     let sized = c.sizes_of-z in
     let ks : Sizes → List ℕ = λ z. column_keys z a.stopped.now a.owners.now a.items.now a.at.len in
-    let same = cut-rule a.table.now a.starts.now a.r p.table s.requires.1 p.starts c.atom_words_of.ensures
+    let same = cut-rule a.table.now a.starts.now a.r p.table c.requires.1 p.starts c.atom_words_of.ensures
     sized.ensures c.rule_words-ws.ensures in (
       c.first_by.ensures.0
           ∙ ap (λ R. first_move (moves_by a.ceiling R a.r a.at.len a.at.next (ks sized.result))) same
@@ -53,20 +51,19 @@ returns-2 c =
 
 first-by-requires : tie.Need-first_by-requires
 first-by-requires c κs =
-    let s = c in
-    let a = s.args in
-    let p = s.requires.0.indexed in
+    let a = c.args in
+    let p = c.requires.0.indexed in
     let few = (well-formed a.table.now p.table).sizes.rules in
     let words = c.atom_words_of.ensures in
     let sizes = c.sizes_of-z.ensures in
     let cut = c.rule_words-ws.ensures in
-    let same = cut-rule a.table.now a.starts.now a.r p.table s.requires.1 p.starts words sizes cut in (
-      cut_fits a.table.now a.starts.now a.r p.table s.requires.1 p.starts words sizes cut,
-      rw (same, sizes) (consumed-ports a.table.now p.table a.r s.requires.1),
-      rw sizes s.requires.0.state,
-      s.requires.2,
-      omega (arith, s.requires.1, few),
-      s.requires.0.limit,
+    let same = cut-rule a.table.now a.starts.now a.r p.table c.requires.1 p.starts words sizes cut in (
+      cut_fits a.table.now a.starts.now a.r p.table c.requires.1 p.starts words sizes cut,
+      rw (same, sizes) (consumed-ports a.table.now p.table a.r c.requires.1),
+      rw sizes c.requires.0.state,
+      c.requires.2,
+      omega (arith, c.requires.1, few),
+      c.requires.0.limit,
     )
 
 pub first_of_spec : {M : Type 1} → statement M

@@ -46,45 +46,39 @@ rules_of s =
 
 loop-holds : tie.Need-loop-r-init Inv μ
 loop-holds c =
-    let s = c in
-    (ap first_move (up_start (rules_of s.before.before) (sizes_of s.args.table.now).rules), omega arith, s.requires.1)
+    (ap first_move (up_start (rules_of c.before.before) (sizes_of c.args.table.now).rules), omega arith, c.requires.1)
 
 returns : tie.Need-returns-then-first Inv μ
 returns c =
-    let turn = c in
-    let l = turn.loop-r in
-    let s = turn in
-    let a = s.args in
-    let f = rules_of s.before.before.before.before.before.before.before.before in
+    let l = c.loop-r in
+    let a = c.args in
+    let f = rules_of c.before.before.before.before.before.before.before.before in
     let (e, long) = c.first_of-first.ensures in
     let found : (first_move (f l.r)).found ≡ true = sym (ap (λ (x : First). x.found) e) ∙ c.if-first.true in (
       c.handed_on.ensures ∙ e ∙ first-here (f l.r) (each_up f (sizes_of a.table.now).rules (l.r + 1)) found
-          ∙ sym (ap first_move (up-here f (sizes_of a.table.now).rules l.r (below turn.before.before.before.before))) ∙ l.invariant.0,
+          ∙ sym (ap first_move (up-here f (sizes_of a.table.now).rules l.r (below c.before.before.before.before))) ∙ l.invariant.0,
       long,
     )
 
 loop-again : tie.Need-loop-r-preserved Inv μ
 loop-again c =
-    let turn = c in
-    let l = turn.loop-r in
-    let s = turn in
-    let a = s.args in
-    let f = rules_of s.before.before.before.before.before.before.before in
+    let l = c.loop-r in
+    let a = c.args in
+    let f = rules_of c.before.before.before.before.before.before.before in
     let (e, long) = c.first_of-first.ensures in
     let none : (first_move (f l.r)).found ≡ false = sym (ap (λ (x : First). x.found) e) ∙ c.if-first.false in (
       first-behind (f l.r) (each_up f (sizes_of a.table.now).rules (l.r + 1)) none
-          ∙ sym (ap first_move (up-here f (sizes_of a.table.now).rules l.r (below turn.before.before.before))) ∙ l.invariant.0,
-      omega (arith, below turn.before.before.before),
+          ∙ sym (ap first_move (up-here f (sizes_of a.table.now).rules l.r (below c.before.before.before))) ∙ l.invariant.0,
+      omega (arith, below c.before.before.before),
       long,
     )
 
 returns-2 : tie.Need-returns Inv μ
 returns-2 c =
     let l = c.loop-r in
-    let s = c in
-    let rules = (sizes_of s.args.table.now).rules in
+    let rules = (sizes_of c.args.table.now).rules in
     let z = ap (λ z. z.rules) c.sizes_of-rules.ensures in
-    (c.none.ensures ∙ sym (ap first_move (up-end (rules_of s.before.before.before.before.before) rules l.r (rw (← z) c.loop-r-test.false))) ∙ l.invariant.0, l.invariant.2)
+    (c.none.ensures ∙ sym (ap first_move (up-end (rules_of c.before.before.before.before.before) rules l.r (rw (← z) c.loop-r-test.false))) ∙ l.invariant.0, l.invariant.2)
 
 pub first_reaction_spec : {M : Type 1} → statement M
 first_reaction_spec =
@@ -99,9 +93,7 @@ first_reaction_spec =
     (λ c κs. c.if-first.true)
     returns
     (λ c.
-    let turn = c in
-    let s = turn in
-    omega (arith, below turn.before.before.before, (well-formed s.args.table.now s.requires.0.indexed.table).sizes.rules))
+    omega (arith, below c.before.before.before, (well-formed c.args.table.now c.requires.0.indexed.table).sizes.rules))
     (λ c. omega (arith, below c.before.before.before))
     loop-again
     (λ c κs. search rules)

@@ -6,8 +6,7 @@ use Rattle.next_move.proofs.reactions.handed_on.Tie as tie
 
 returns : tie.Need-returns
 returns c =
-    let s = c in
-    ap {B = First} (λ b. record { found = b; mv = s.args.first.mv }) (sym s.requires)
+    ap {B = First} (λ b. record { found = b; mv = c.args.first.mv }) (sym c.requires)
 
 pub handed_on_spec : {M : Type 1} → statement M
 handed_on_spec = tie.close (tie.spec returns)

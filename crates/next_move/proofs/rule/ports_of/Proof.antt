@@ -6,12 +6,11 @@ use Rattle.next_move.proofs.rule.ports_of.Tie as tie
 
 returns : tie.Need-returns
 returns c =
-    let s = c in
     let (a, la) = c.port_at-a.ensures in
     let (b, lb) = c.port_at-b.ensures in
     let (d, ld) = c.port_at-c.ensures in
     let (e, le) = c.port_at-d.ensures in
-    (rw (a, b, d, e) (ports-taken port_of s.args.ws.now s.args.k s.requires.0 s.requires.1), four-small _ _ _ _ la lb ld le)
+    (rw (a, b, d, e) (ports-taken port_of c.args.ws.now c.args.k c.requires.0 c.requires.1), four-small _ _ _ _ la lb ld le)
 
 pub ports_of_spec : {M : Type 1} → statement M
 ports_of_spec =

@@ -11,8 +11,7 @@ use Rattle.offers.proofs.keys.key_if.Tie as tie
 returns : tie.Need-returns
 returns c =
     let a = c.args in
-    let ports = c in
-    let told = rw (c.either.ensures, ports.port_of-port.ensures, ports.kind_of-kind.ensures) at c.either-2.ensures in
+    let told = rw (c.either.ensures, c.port_of-port.ensures, c.kind_of-kind.ensures) at c.either-2.ensures in
     let few : a.owner < 65536 = search rules in (
       λ parts origin h. told ∙ key-told a.z parts (entry_from a.owner a.item origin) h,
       rw (told ∙ key-told a.z (λ o. a.part) (entry_from a.owner a.item 0) refl)

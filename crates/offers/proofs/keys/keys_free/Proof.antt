@@ -20,10 +20,9 @@ few c = omega (arith, c.loop-p-test.true, c.requires.0.fits)
 
 loop-again : tie.Need-loop-p-preserved Inv μ
 loop-again c =
-    let turn = c in
-    let l = turn.loop-p in
+    let l = c.loop-p in
     let (key, small) = c.key_if.ensures in
-    (omega (arith, turn.loop-p-test.true), keys-more l.invariant.1 (few turn.before.before.before.before.before.before) (key (λ o. true) 0 refl) small)
+    (omega (arith, c.loop-p-test.true), keys-more l.invariant.1 (few c.before.before.before.before.before.before) (key (λ o. true) 0 refl) small)
 
 returns : tie.Need-returns Inv μ
 returns c =

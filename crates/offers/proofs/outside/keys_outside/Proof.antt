@@ -21,10 +21,9 @@ few c = omega (arith, c.loop-p-test.true, c.requires.0.fits)
 
 loop-again : tie.Need-loop-p-preserved Inv μ
 loop-again c =
-    let turn = c in
-    let l = turn.loop-p in
+    let l = c.loop-p in
     let (key, small) = c.key_outside.ensures in
-    (omega (arith, turn.loop-p-test.true), keys-more l.invariant.1 (few turn.before.before.before.before.before.before) (key 0) small)
+    (omega (arith, c.loop-p-test.true), keys-more l.invariant.1 (few c.before.before.before.before.before.before) (key 0) small)
 
 returns : tie.Need-returns Inv μ
 returns c =

@@ -20,13 +20,11 @@ few c = omega (arith, c.loop-i-test.true, c.requires.0.fits)
 
 count-one-requires : tie.Need-count_one-requires Inv μ
 count-one-requires c κs =
-    let turn = c in
-    (turn.loop-i.invariant.size, port-few turn.loop-i.invariant turn.requires.0.fits _)
+    (c.loop-i.invariant.size, port-few c.loop-i.invariant c.requires.0.fits _)
 
 loop-again : tie.Need-loop-i-preserved Inv μ
 loop-again c =
-    let turn = c in
-    port-next turn.loop-i.invariant turn.loop-i-test.true (c.key_if-key.ensures.0 (λ o. true) 0 refl) c.count_one.ensures
+    port-next c.loop-i.invariant c.loop-i-test.true (c.key_if-key.ensures.0 (λ o. true) 0 refl) c.count_one.ensures
 
 pub count_free_spec : {M : Type 1} → statement M
 count_free_spec =

@@ -31,23 +31,18 @@ loop-holds c gs =
 
 loop-again : tie.Need-loop-i-preserved Inv μ
 loop-again c gs =
-    let turn = c in
-    let v = turn.loop-i.invariant gs in (
-      counted-turn _ v.0 turn.loop-i-test.true c.stays-entries.ensures.0 c.stays-entries.ensures.1 _ (λ k l. refl),
-      counted-turn _ v.1 turn.loop-i-test.true c.member_of-members.ensures.0 c.member_of-members.ensures.1 _ (λ k l. refl),
+    let v = c.loop-i.invariant gs in (
+      counted-turn _ v.0 c.loop-i-test.true c.stays-entries.ensures.0 c.stays-entries.ensures.1 _ (λ k l. refl),
+      counted-turn _ v.1 c.loop-i-test.true c.member_of-members.ensures.0 c.member_of-members.ensures.1 _ (λ k l. refl),
     )
 
 add-entries : tie.Need-overflow_add-entries Inv μ
 add-entries c =
-    let turn = c in
-    let s = turn in
-    omega (arith, (turn.loop-i.invariant []).0.few, c.stays-entries.ensures.1, turn.loop-i-test.true, s.requires.0.fits)
+    omega (arith, (c.loop-i.invariant []).0.few, c.stays-entries.ensures.1, c.loop-i-test.true, c.requires.0.fits)
 
 add-members : tie.Need-overflow_add-members Inv μ
 add-members c =
-    let turn = c in
-    let s = turn in
-    omega (arith, (turn.loop-i.invariant []).1.few, c.member_of-members.ensures.1, turn.loop-i-test.true, s.requires.0.fits)
+    omega (arith, (c.loop-i.invariant []).1.few, c.member_of-members.ensures.1, c.loop-i-test.true, c.requires.0.fits)
 
 returns : tie.Need-returns Inv μ
 returns c = (

@@ -17,8 +17,7 @@ start c = c.before.before.before.before.before.before
 
 id-of-requires : tie.Need-id_of-id-requires
 id-of-requires c κs =
-    let s = c in
-    omega (arith, end-id _ _ s.requires.0.form s.requires.1)
+    omega (arith, end-id _ _ c.requires.0.form c.requires.1)
 
 globals : (c : tie.After-sizes_of-sizes) → c.sizes_of-sizes.result.globals ≡ (table_of c.args.table.now).sizes.globals
 unfolding table_of
@@ -33,24 +32,20 @@ asked : (c : tie.After-verdict_by_kind-verdict)
     → EndAsked (table_of (start c).args.table.now) (start c).args.mv.head (start c).args.mv.picks
     (start c).args.ceiling (start c).args.owners.now (start c).args.items.now (start c).args.at c.verdict_by_kind-verdict.result
 asked c =
-    let sizes = c in
     record {
       kind = (start c).requires.1;
       form = (start c).requires.0.form;
       fits = (start c).requires.0.fits;
-      verdict = λ gs. rw (globals sizes.before.before, sizes.kind_of-kind.ensures, sizes.id_of-id.ensures) at (c.verdict_by_kind-verdict.ensures gs);
+      verdict = λ gs. rw (globals c.before.before, c.kind_of-kind.ensures, c.id_of-id.ensures) at (c.verdict_by_kind-verdict.ensures gs);
     }
 
 sub-kind : tie.Need-overflow_sub-kind
 sub-kind c =
-    let kind = c in
-    omega (arith, kind.kind_of-kind.ensures, kind.requires.1)
+    omega (arith, c.kind_of-kind.ensures, c.requires.1)
 
 returns-2 : tie.Need-returns
 returns-2 c =
-    let verdict = c in
-    let id = verdict in
-    end-accepted (asked verdict.before.before) c.in_default.is id.id_of-id.ensures id.kind_of-kind.ensures
+    end-accepted (asked c.before.before) c.in_default.is c.id_of-id.ensures c.kind_of-kind.ensures
     c.counts_after-counts.ensures.0 c.counts_after-counts.ensures.1
 
 pub preview_end_spec : {M : Type 1} → statement M
@@ -62,5 +57,5 @@ preview_end_spec =
     (λ c κs. (c.requires.0.columns, none_owned c))
     (λ c. search rules) (λ c. end-rejected (asked c.before) c.in-Denied.is) (λ c. search rules)
     sub-kind
-    (λ c κs. let found = c in (found.requires.0.columns, none_owned found.before.before))
+    (λ c κs. (c.requires.0.columns, none_owned c.before.before))
     (λ c. search rules) returns-2)

@@ -11,12 +11,11 @@ use Rattle.preview.proofs.reactions.concerned.Tie as tie
 
 returns-3 : tie.Need-returns
 returns-3 c =
-    let start = c in
-    let a = start.args in
+    let a = c.args in
     let four : length a.picks ≡ 4 = search rules in
     rw (c.if-begins.false, ne_eqb a.class 0 c.if-class-eq0.false)
     (c.smallest.ensures
-    ∙ ap least (ap (take a.k) c.owners_at.ensures ∙ take_found a.k a.owners.now a.picks (omega (arith, four, start.requires.1))))
+    ∙ ap least (ap (take a.k) c.owners_at.ensures ∙ take_found a.k a.owners.now a.picks (omega (arith, four, c.requires.1))))
 
 pub concerned_spec : {M : Type 1} → statement M
 concerned_spec =

@@ -18,15 +18,13 @@ start c = c.before.before.before.before.before.before
 
 rule-at-requires : tie.Need-rule_at-rule-requires
 rule-at-requires c κs =
-    let s = c in
-    let m = s.args.mv in
-    let f = s.requires.1.0 in
-    (f.table, rw c.number_of.ensures (rule-below _ m.head m.picks s.requires.1.1 f.form), s.requires.0)
+    let m = c.args.mv in
+    let f = c.requires.1.0 in
+    (f.table, rw c.number_of.ensures (rule-below _ m.head m.picks c.requires.1.1 f.form), c.requires.0)
 
 outline-verdict-requires : tie.Need-outline_verdict-verdict-requires
 outline-verdict-requires c κs =
-    let s = c in
-    (s.requires.1.0.columns, (rule_in c.rule_at-rule.result, c.outline_of.ensures.0), λ j l. absurd (omega arith))
+    (c.requires.1.0.columns, (rule_in c.rule_at-rule.result, c.outline_of.ensures.0), λ j l. absurd (omega arith))
 
 asked : (c : tie.After-outline_verdict-verdict)
     → ReactionAsked (table_of (start c).args.table.now) c.rule_at-rule.result (start c).args.mv.head (start c).args.mv.picks

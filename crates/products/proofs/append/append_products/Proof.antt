@@ -34,24 +34,21 @@ within c =
 
 owner-made-requires : tie.Need-owner_made-requires Inv μ
 owner-made-requires c κs =
-    let start = c in
-    let ready = start.requires.1.1.0 in
-    λ global other. start.requires.1.1.1 (ready.begun _ (product-among start.args.rule ready.rule _ (within c.before)) global other)
+    let ready = c.requires.1.1.0 in
+    λ global other. c.requires.1.1.1 (ready.begun _ (product-among c.args.rule ready.rule _ (within c.before)) global other)
 
 item-made-requires : tie.Need-item_made-requires Inv μ
 item-made-requires c κs =
-    let start = c in
-    let x = start.args.rule in
-    let ready = start.requires.1.1.0 in
+    let x = c.args.rule in
+    let ready = c.requires.1.1.0 in
     let m = atom-among x ready.rule _ (within c.before.before.before.before) in
-    (ready.narrow _ m, (λ e. start.requires.1.1.1 (begins-by x ready.rule _ m e)), search rules)
+    (ready.narrow _ m, (λ e. c.requires.1.1.1 (begins-by x ready.rule _ m e)), search rules)
 
 loop-again : tie.Need-loop-q-preserved Inv μ
 loop-again c =
-    let l = c in
-    let a = l.args in
+    let a = c.args in
     rw c.origin_of.ensures
-    (making-next a.rule _ a.home a.maker _ l.loop-q.invariant c.loop-q-test.true _ _
+    (making-next a.rule _ a.home a.maker _ c.loop-q.invariant c.loop-q-test.true _ _
     c.owner_made.ensures c.item_made.ensures)
 
 returns : tie.Need-returns Inv μ

@@ -27,33 +27,24 @@ items-at-requires c κs = (search rules, search rules, in_place c.before)
 
 remove-requires : tie.Need-remove-requires
 remove-requires c κs =
-    let start = c in
-    let f = facts start.before.before.before.before.before.before in
-    (start.requires.arrays, start.requires.fits, search rules, search rules, f.different, f.in_place)
+    let f = facts c.before.before.before.before.before.before in
+    (c.requires.arrays, c.requires.fits, search rules, search rules, f.different, f.in_place)
 
 append-products-requires : tie.Need-append_products-requires
 append-products-requires c κs =
-    let merged = c in
-    let removed = merged in
-    let start = removed in
-    let f = facts start.before.before.before.before.before.before.before.before.before.before.before.before.before in
-    let a = removed.remove.ensures.0 in
-    (record { owners = merged.merge.ensures.0; items = a.items; origins = a.origins }, (f.room, (start.requires.ready, f.id)))
+    let f = facts c.before.before.before.before.before.before.before.before.before.before.before.before.before in
+    let a = c.remove.ensures.0 in
+    (record { owners = c.merge.ensures.0; items = a.items; origins = a.origins }, (f.room, (c.requires.ready, f.id)))
 
 returns : tie.Need-returns
 returns c =
-    let merged = c in
-    let removed = merged in
-    let found = removed in
-    let received = found in
-    let start = received in
-    let a = start.args in
-    let l = removed.remove.new in
-    reacted-holds a.rule start.requires.ready.rule a.picks (four start.before.before.before.before.before.before.before.before.before.before.before.before.before.before) a.owners.now a.items.now a.origins.now a.at
-    start.requires.verdict a.maker found.smallest-home.result
-    l.owners l.items l.origins merged.merge.new.owners received.owners_at-found.ensures received.items_at-received.ensures
-    found.smallest-home.ensures
-    removed.remove.ensures.1 merged.merge.ensures.1 c.append_products.ensures
+    let a = c.args in
+    let l = c.remove.new in
+    reacted-holds a.rule c.requires.ready.rule a.picks (four c.before.before.before.before.before.before.before.before.before.before.before.before.before.before) a.owners.now a.items.now a.origins.now a.at
+    c.requires.verdict a.maker c.smallest-home.result
+    l.owners l.items l.origins c.merge.new.owners c.owners_at-found.ensures c.items_at-received.ensures
+    c.smallest-home.ensures
+    c.remove.ensures.1 c.merge.ensures.1 c.append_products.ensures
 
 pub react_spec : {M : Type 1} → statement M
 react_spec =

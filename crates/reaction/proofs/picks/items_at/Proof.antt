@@ -20,10 +20,9 @@ place c i h = place_at 1024 c.args.k c.args.picks c.requires.2 (omega (arith, fo
 
 returns : tie.Need-returns
 returns c =
-    let start = c in
-    let a = start.args in
+    let a = c.args in
     rw (c.item_at-d.ensures, c.item_at-c.ensures, c.item_at-b.ensures, c.item_at-a.ensures)
-    (four-at a.column.now a.picks a.k (four start.before.before.before.before) start.requires.0)
+    (four-at a.column.now a.picks a.k (four c.before.before.before.before) c.requires.0)
 
 pub items_at_spec : {M : Type 1} → statement M
 items_at_spec =

@@ -20,10 +20,9 @@ place c i h = place_at 1024 c.args.k c.args.picks c.requires.2 (omega (arith, fo
 
 returns : tie.Need-returns
 returns c =
-    let start = c in
-    let a = start.args in
+    let a = c.args in
     rw (c.owner_at-d.ensures, c.owner_at-c.ensures, c.owner_at-b.ensures, c.owner_at-a.ensures)
-    (four-at a.column.now a.picks a.k (four start.before.before.before.before) start.requires.0)
+    (four-at a.column.now a.picks a.k (four c.before.before.before.before) c.requires.0)
 
 pub owners_at_spec : {M : Type 1} → statement M
 owners_at_spec =

@@ -5,7 +5,7 @@ use Rattle.reaction.proofs.verdict.consume_ports.Statement.{statement}
 use Rattle.reaction.proofs.verdict.consume_ports.Tie as tie
 
 returns : tie.Need-returns
-returns c = let start = c in (ports-four start.args.rule start.requires, refl)
+returns c = (ports-four c.args.rule c.requires, refl)
 
 pub consume_ports_spec : {M : Type 1} → statement M
 consume_ports_spec = tie.close (tie.spec (λ c. search rules) (λ c. search rules) (λ c. search rules) (λ c. search rules) returns)

@@ -63,10 +63,9 @@ returns-2 c os gs = ahead-done (rows-tails _ _) (one c.before os gs) (omega (ari
 
 returns-3 : tie.Need-returns-then-not-message_on-2
 returns-3 c os gs =
-    let fitted = c in
-    each-fails (fits c.before.before.before.before.before os gs) (rows-tails _ _) (one fitted.before.before.before os gs) (omega (arith, c.if-k-lt2.false))
+    each-fails (fits c.before.before.before.before.before os gs) (rows-tails _ _) (one c.before.before.before os gs) (omega (arith, c.if-k-lt2.false))
     (sym (c.message_on-2.ensures os gs) ∙ not-true _ c.if-not-message_on-2.true-raw)
-    ∙ ports fitted.before.before.before.before.before os gs
+    ∙ ports c.before.before.before.before.before os gs
 
 returns-4 : tie.Need-returns-then-k-lt3
 returns-4 c os gs =
@@ -74,10 +73,9 @@ returns-4 c os gs =
 
 returns-5 : tie.Need-returns-then-not-message_on-3
 returns-5 c os gs =
-    let fitted = c in
-    each-fails (fits c.before.before.before.before.before.before.before.before os gs) (rows-tails _ _) (two fitted.before.before.before os gs) (omega (arith, c.if-k-lt3.false))
+    each-fails (fits c.before.before.before.before.before.before.before.before os gs) (rows-tails _ _) (two c.before.before.before os gs) (omega (arith, c.if-k-lt3.false))
     (sym (c.message_on-3.ensures os gs) ∙ not-true _ c.if-not-message_on-3.true-raw)
-    ∙ ports fitted.before.before.before.before.before.before.before.before os gs
+    ∙ ports c.before.before.before.before.before.before.before.before os gs
 
 returns-6 : tie.Need-returns-then-k-lt4
 returns-6 c os gs =
@@ -86,13 +84,12 @@ returns-6 c os gs =
 
 returns-7 : tie.Need-returns
 returns-7 c os gs =
-    let fitted = c in
-    let start = fitted.before.before.before.before.before.before.before.before.before.before in
+    let start = c.before.before.before.before.before.before.before.before.before.before in
     let more = c.if-k-lt4.false in
     by_bool c.message_on-4.result
-    (λ e. e ∙ ahead-done (rows-tails _ _) (each_next (fits start os gs) (rows-tails _ _) (three fitted.before.before os gs) (omega (arith, more))
+    (λ e. e ∙ ahead-done (rows-tails _ _) (each_next (fits start os gs) (rows-tails _ _) (three c.before.before os gs) (omega (arith, more))
     (sym (c.message_on-4.ensures os gs) ∙ e)) (omega (arith, start.requires)))
-    (λ e. e ∙ each-fails (fits start os gs) (rows-tails _ _) (three fitted.before.before os gs) (omega (arith, more)) (sym (c.message_on-4.ensures os gs) ∙ e))
+    (λ e. e ∙ each-fails (fits start os gs) (rows-tails _ _) (three c.before.before os gs) (omega (arith, more)) (sym (c.message_on-4.ensures os gs) ∙ e))
     ∙ ports start os gs
 
 pub on_ports_spec : {M : Type 1} → statement M

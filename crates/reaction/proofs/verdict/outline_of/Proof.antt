@@ -6,11 +6,10 @@ use Rattle.reaction.proofs.verdict.outline_of.Tie as tie
 
 returns : tie.Need-returns
 returns c =
-    let s = c in
-    let d = s.requires in (
+    let d = c.requires in (
       record {
         ports = c.consume_ports.ensures.0;
-        count = sym (count-atoms s.args.rule d);
+        count = sym (count-atoms c.args.rule d);
         few = d.few;
         class = refl;
         begins = d.begins;

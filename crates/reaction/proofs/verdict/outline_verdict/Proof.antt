@@ -90,14 +90,12 @@ part-pass c x f gs = not-false _ (sym (taking c.before x f gs) ∙ c.if-picks_ab
 given : (c : tie.Else-outline-at) (x : Rule) → Of (allowed c) x → (gs : List ℕ) → ReactGiven x (σ (allowed c) gs) (ps (allowed c))
 given c x f gs =
     let start = allowed c in
-    let free = c in
-    let fit = free in
-    let (a, b) = picks-parts x (σ start gs) (ps start) (picks-pass fit.before.before.before.before.before.before.before x f gs) in
+    let (a, b) = picks-parts x (σ start gs) (ps start) (picks-pass c.before.before.before.before.before.before.before x f gs) in
     record {
       different = a;
       ports = b;
-      owners = owners-pass fit.before.before.before.before.before x f gs;
-      part = part-pass free.before.before.before x f gs;
+      owners = owners-pass c.before.before.before.before.before x f gs;
+      part = part-pass c.before.before.before x f gs;
       ids = id-test x _ f.begins (σ start gs) ∙ ap not c.if-outline-at.false;
     }
 
@@ -133,15 +131,12 @@ picks-aborting-requires c κs =
 
 returns-3 : tie.Need-returns-then-picks_aborting
 returns-3 c = λ x f gs.
-    let fit = c in
-    some-aborting _ _ _ _ (picks-pass fit.before.before.before.before x f gs) (owners-pass fit.before.before x f gs) (not-true _ (sym (taking c.before x f gs) ∙ c.if-picks_aborting.true))
+    some-aborting _ _ _ _ (picks-pass c.before.before.before.before x f gs) (owners-pass c.before.before x f gs) (not-true _ (sym (taking c.before x f gs) ∙ c.if-picks_aborting.true))
 
 returns-4 : tie.Need-returns-then-outline-at
 returns-4 c = λ x f gs.
-    let free = c in
-    let fit = free in
-    no-more-ids _ _ _ _ (picks-pass fit.before.before.before.before.before.before.before x f gs) (owners-pass fit.before.before.before.before.before x f gs) (part-pass free.before.before.before x f gs)
-    (id-test x _ f.begins (σ (asked free.before.before.before.before) gs) ∙ ap not c.if-outline-at.true)
+    no-more-ids _ _ _ _ (picks-pass c.before.before.before.before.before.before.before x f gs) (owners-pass c.before.before.before.before.before x f gs) (part-pass c.before.before.before x f gs)
+    (id-test x _ f.begins (σ (asked c.before.before.before.before) gs) ∙ ap not c.if-outline-at.true)
 
 fits : (c : tie.Else-outline-at) → (allowed c).args.outline.consumes ≤ (allowed c).args.at.len
 fits c =

@@ -12,16 +12,14 @@ use Rattle.reaction.proofs.verdict.picks_aborting.Tie as tie
 
 returns-2 : tie.Need-returns
 returns-2 c gs =
-    let s = c in
-    let a = s.args in
+    let a = c.args in
     ap not (sym (global-part (state_from a.owners.now a.items.now gs a.at) a.class
-    (column a.owners.now (take a.k a.picks)) s.requires.5 (omega (arith, c.if-class-ne0.false))))
+    (column a.owners.now (take a.k a.picks)) c.requires.5 (omega (arith, c.if-class-ne0.false))))
 
 some-aborting-requires : tie.Need-some_aborting-requires
 some-aborting-requires c κs =
-    let s = c in
-    let a = s.args in
-    let p = s.requires in
+    let a = c.args in
+    let p = c.requires in
     (p.0, p.1, p.2, p.3, p.4, fit-positive a.class (column a.owners.now (take a.k a.picks)) p.5 (λ e. c.if-class-ne0.true e))
 
 pub picks_aborting_spec : {M : Type 1} → statement M

@@ -6,13 +6,12 @@ use Rattle.reaction.proofs.verdict.react_verdict.Statement.{statement}
 use Rattle.reaction.proofs.verdict.react_verdict.Tie as tie
 
 outline-verdict-requires : tie.Need-outline_verdict-requires
-outline-verdict-requires c κs = let s = c in (s.requires.0, (rule_in s.args.rule, c.outline_of.ensures.0), s.requires.2)
+outline-verdict-requires c κs = (c.requires.0, (rule_in c.args.rule, c.outline_of.ensures.0), c.requires.2)
 
 returns : tie.Need-returns
 returns c = λ gs.
-    let outlined = c in
-    c.outline_verdict.ensures (rule_in outlined.args.rule) outlined.outline_of.ensures.0 gs
-    ∙ verdict-taken _ _ _ _ outlined.outline_of.ensures.1
+    c.outline_verdict.ensures (rule_in c.args.rule) c.outline_of.ensures.0 gs
+    ∙ verdict-taken _ _ _ _ c.outline_of.ensures.1
 
 pub react_verdict_spec : {M : Type 1} → statement M
 react_verdict_spec = tie.close (tie.spec (λ c κs. search rules) outline-verdict-requires returns)

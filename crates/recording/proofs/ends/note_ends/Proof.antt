@@ -19,20 +19,18 @@ abbrev μ : tie.decreases-loop-i
 note-chunk-requires : tie.Need-note_chunk-requires Inv μ
 note-chunk-requires c κs =
     let to = c.chunk_end-to.ensures in
-    let turn = c in
-    let (lent, low, whole, noted) = turn.loop-i.invariant in
-    let w = whole turn.loop-i-test.true in
+    let (lent, low, whole, noted) = c.loop-i.invariant in
+    let w = whole c.loop-i-test.true in
     let few = lent.fits in
-    (record { arrays = lent.arrays; fits = omega (arith, to.within) }, omega (arith, to.more), to.few, omega (arith, turn.loop-i-test.true), noted.size)
+    (record { arrays = lent.arrays; fits = omega (arith, to.within) }, omega (arith, to.more), to.few, omega (arith, c.loop-i-test.true), noted.size)
 
 loop-again : tie.Need-loop-i-preserved Inv μ
 loop-again c =
     let to = c.chunk_end-to.ensures in
-    let turn = c in
-    let a = turn.args in
-    let l = turn.loop-i in
+    let a = c.args in
+    let l = c.loop-i in
     let (lent, low, whole, noted) = l.invariant in
-    let w = whole turn.loop-i-test.true in (
+    let w = whole c.loop-i-test.true in (
       lent,
       to.within,
       λ more. omega (arith, to.full more),

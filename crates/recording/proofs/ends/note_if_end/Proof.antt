@@ -15,19 +15,14 @@ note_if_end_spec =
     (λ c. rw (eq-eqb _ _ (sym c.kind_of.ensures ∙ c.if-kind_of-eq-REACT.true)) (nothing-noted _ c.requires.2))
     (λ c κs. search rules)
     (λ c.
-    let number = c in
-    let kind = number in
-    rw (ne_eqb _ _ (λ e. number.if-kind_of-eq-REACT.false (kind.kind_of.ensures ∙ e)), lt-ltb _ _ (rw number.number_of.ensures at c.if-number_of-gt-MAX_ID.true))
-    (nothing-noted _ kind.requires.2))
+    rw (ne_eqb _ _ (λ e. c.if-kind_of-eq-REACT.false (c.kind_of.ensures ∙ e)), lt-ltb _ _ (rw c.number_of.ensures at c.if-number_of-gt-MAX_ID.true))
+    (nothing-noted _ c.requires.2))
     (λ c κs. omega (arith, c.number_of.ensures, c.if-number_of-gt-MAX_ID.false))
     (λ c. search rules)
-    (λ c κs. let start = c in (start.requires.0, start.requires.2))
+    (λ c κs. (c.requires.0, c.requires.2))
     (λ c.
-    let id = c in
-    let number = id in
-    let kind = number in
     rw (
-      ne_eqb _ _ (λ e. number.if-kind_of-eq-REACT.false (kind.kind_of.ensures ∙ e)),
-      le-ltb _ _ (rw number.number_of.ensures at id.if-number_of-gt-MAX_ID.false),
+      ne_eqb _ _ (λ e. c.if-kind_of-eq-REACT.false (c.kind_of.ensures ∙ e)),
+      le-ltb _ _ (rw c.number_of.ensures at c.if-number_of-gt-MAX_ID.false),
     )
-    (rw id.id_of.ensures at c.note_ends.ensures)))
+    (rw c.id_of.ensures at c.note_ends.ensures)))

@@ -18,17 +18,15 @@ abbrev μ : tie.decreases-loop-i
 
 loop-again : tie.Need-loop-i-preserved Inv μ
 loop-again c =
-    let read = c in
-    let turn = read in
-    let a = turn.args in
-    let l = turn.loop-i in
+    let a = c.args in
+    let l = c.loop-i in
     let (lent, low, high, noted) = l.invariant in
-    let more = turn.loop-i-test.true in (
+    let more = c.loop-i-test.true in (
       lent,
       omega arith,
       omega arith,
       rows-noted _ a.id a.place a.from l.i (l.i + 1) low (omega arith) noted
-          (row-noted a.owners.now a.items.now a.origins.now a.id a.place l.i read.begun_by-maker.ensures c.note_end.ensures),
+          (row-noted a.owners.now a.items.now a.origins.now a.id a.place l.i c.begun_by-maker.ensures c.note_end.ensures),
     )
 
 returns : tie.Need-returns Inv μ

@@ -7,13 +7,10 @@ use Rattle.recording.proofs.record.note_move.Tie as tie
 
 returns : tie.Need-returns
 returns c =
-    let marked = c in
-    let id = marked in
-    let noted = id in
-    let a = noted.args in
+    let a = c.args in
     record {
-      picked = noted.note_picks.ensures;
-      member = ap (set a.members.now a.i) (marked.mark_of.ensures ∙ ap (mark_by a.begun.now a.first) id.concerned.ensures);
+      picked = c.note_picks.ensures;
+      member = ap (set a.members.now a.i) (c.mark_of.ensures ∙ ap (mark_by a.begun.now a.first) c.concerned.ensures);
       ends = c.note_if_end.ensures;
     }
 

@@ -14,16 +14,11 @@ four-picks c = search rules
 
 returns : tie.Need-returns
 returns c =
-    let put = c in
-    let fourth = put in
-    let third = fourth in
-    let second = third in
-    let first = second in
-    let a = first.args in
-    let e : first.half_at.result ∷ second.half_at-2.result ∷ third.half_at-3.result ∷ fourth.half_at-4.result ∷ [] ≡ words_at a.column.now a.picks =
-    rw (first.half_at.ensures, second.half_at-2.ensures, third.half_at-3.ensures, fourth.half_at-4.ensures)
-    (four-words a.column.now a.picks (four-picks first.before.before.before.before.before.before.before.before.before)) in
-    subst (λ (found : List ℕ). Pasted a.wanted.now (4 * a.i) found 4 put.put_origins.new.out) e put.put_origins.ensures
+    let a = c.args in
+    let e : c.half_at.result ∷ c.half_at-2.result ∷ c.half_at-3.result ∷ c.half_at-4.result ∷ [] ≡ words_at a.column.now a.picks =
+    rw (c.half_at.ensures, c.half_at-2.ensures, c.half_at-3.ensures, c.half_at-4.ensures)
+    (four-words a.column.now a.picks (four-picks c.before.before.before.before.before.before.before.before.before)) in
+    subst (λ (found : List ℕ). Pasted a.wanted.now (4 * a.i) found 4 c.put_origins.new.out) e c.put_origins.ensures
 
 pub note_picks_spec : {M : Type 1} → statement M
 note_picks_spec =

@@ -59,11 +59,10 @@ make-requires c κs =
 
 note-begin-requires : tie.Need-note_begin-requires Inv μ
 note-begin-requires c κs =
-    let noted = c in
     let at = turn (read_of c.before.before.before.before) in
     let v = at.loop-i.invariant.2 in
     let (low, high) = recording-id v (more at) in
-    (v.room.begun, ap length noted.note_move.ensures.member ∙ length-set at.loop-i.members _ _ ∙ v.room.members, small at, low, high)
+    (v.room.begun, ap length c.note_move.ensures.member ∙ length-set at.loop-i.members _ _ ∙ v.room.members, small at, low, high)
 
 abbrev told-read : tie.In-Denied Inv μ → tie.After-move_at-mv Inv μ
 told-read c = read_of c.before.before.before.before.before.before
@@ -73,25 +72,21 @@ made-read c = read_of c.before.before.before.before.before.before
 
 returns : tie.Need-returns-in-Denied Inv μ
 returns c =
-    let made = c in
-    let noted = made in
     let read = told-read c in
     let h = (turn read).loop-i.invariant.2 in
     let marked = c.note_begin.ensures in (
-      recording-refused (turn read).loop-i.invariant.2 (more (turn read)) (words read) (four read) noted.note_move.ensures
-          made.make-made.ensures marked c.in-Denied.is refl refl,
-      recording-room h (more (turn read)) (words read) (four read) noted.note_move.ensures made.make-made.ensures marked,
+      recording-refused (turn read).loop-i.invariant.2 (more (turn read)) (words read) (four read) c.note_move.ensures
+          c.make-made.ensures marked c.in-Denied.is refl refl,
+      recording-room h (more (turn read)) (words read) (four read) c.note_move.ensures c.make-made.ensures marked,
     )
 
 loop-again : tie.Need-loop-i-preserved Inv μ
 loop-again c =
-    let made = c in
-    let noted = made in
     let read = made-read c in
     let v = (turn read).loop-i.invariant in (
       v.0,
-      noted.note_move.ensures.picked.size ∙ v.1,
-      recording-next v.2 (more (turn read)) (words read) (four read) noted.note_move.ensures made.make-made.ensures
+      c.note_move.ensures.picked.size ∙ v.1,
+      recording-next v.2 (more (turn read)) (words read) (four read) c.note_move.ensures c.make-made.ensures
           c.note_begin.ensures c.in_default.is,
     )
 

@@ -5,14 +5,10 @@ use Rattle.removal.proofs.close.close_one.Tie as tie
 
 returns : tie.Need-returns
 returns c =
-    let third = c in
-    let second = third in
-    let first = second in
-    let start = first in
-    let a = start.args in
-    let p = start.requires in
+    let a = c.args in
+    let p = c.requires in
     closed a.w a.end 1 a.owners.now a.items.now a.origins.now p.0 p.1 p.2
-    first.down_one.ensures second.down_one-2.ensures third.down_one-3.ensures
+    c.down_one.ensures c.down_one-2.ensures c.down_one-3.ensures
 
 pub close_one_spec : {M : Type 1} → statement M
 close_one_spec =

@@ -5,14 +5,10 @@ use Rattle.removal.proofs.close.close_three.Tie as tie
 
 returns : tie.Need-returns
 returns c =
-    let third = c in
-    let second = third in
-    let first = second in
-    let start = first in
-    let a = start.args in
-    let p = start.requires in
+    let a = c.args in
+    let p = c.requires in
     closed a.w a.end 3 a.owners.now a.items.now a.origins.now p.0 p.1 p.2
-    first.down_three.ensures second.down_three-2.ensures third.down_three-3.ensures
+    c.down_three.ensures c.down_three-2.ensures c.down_three-3.ensures
 
 pub close_three_spec : {M : Type 1} → statement M
 close_three_spec =

@@ -20,9 +20,8 @@ grouped_moves_spec =
       (search rules, λ g. get_or-replicate-any 1024 g 0),
     ))
     (λ c κs.
-    let counted = c in
-    let p = counted.requires in
-    let g = counted.count_groups-top.ensures in
+    let p = c.requires in
+    let g = c.count_groups-top.ensures in
     ((p.0.0, p.0.1, p.0.2, p.0.3, g.0, g.1), p.1))
     (λ c. paged-length _ 5 c.counted_moves.ensures.0.paged)
     (λ c. c.counted_moves.ensures))

@@ -24,34 +24,30 @@ few s = rw (length-take-le s.args.n s.args.keys.now (omega (arith, s.requires.0)
 
 counts-at-requires : tie.Need-counts_at-left-requires
 counts-at-requires c κs =
-    let s = c in
-    let p = s.requires.0 in
-    (p.2.size, p.3, counts-few (take s.args.n s.args.keys.now) s.args.counts.now s.args.takes (few s.before) p.2 p.3)
+    let p = c.requires.0 in
+    (p.2.size, p.3, counts-few (take c.args.n c.args.keys.now) c.args.counts.now c.args.takes (few c.before) p.2 p.3)
 
 widths-requires : tie.Need-widths-below-requires
 widths-requires c κs =
-    let s = c in
-    let p = s.requires.0 in
-    rw c.counts_at-left.ensures (left-few (take s.args.n s.args.keys.now) s.args.counts.now s.args.takes (few s.before.before) p.2 p.3)
+    let p = c.requires.0 in
+    rw c.counts_at-left.ensures (left-few (take c.args.n c.args.keys.now) c.args.counts.now c.args.takes (few c.before.before) p.2 p.3)
 
 -- the product of the two calls' first numbers
 bound : (c : tie.After-widths-below) → get_or c.counts_at-left.result 0 0 * get_or c.widths-below.result 0 0 ≤ 1099511627776
 bound c =
-    let s = c in
-    let p = s.requires.0 in
-    let four : length s.args.takes ≡ 4 = search rules in
+    let p = c.requires.0 in
+    let four : length c.args.takes ≡ 4 = search rules in
     rw (c.widths-below.ensures, c.counts_at-left.ensures)
-    (length-small (take s.args.n s.args.keys.now) s.args.counts.now s.args.takes (few s.before.before.before) p.2 p.3 four s.args.k p.4 p.5)
+    (length-small (take c.args.n c.args.keys.now) c.args.counts.now c.args.takes (few c.before.before.before) p.2 p.3 four c.args.k p.4 p.5)
 
 total : (c : tie.After-widths-below) → get_or c.counts_at-left.result 0 0 * get_or c.widths-below.result 0 0
     ≡ length (choices_from (take c.args.n c.args.keys.now) []
     (take c.args.k c.args.takes))
 total c =
-    let s = c in
-    let p = s.requires.0 in
-    let four : length s.args.takes ≡ 4 = search rules in
+    let p = c.requires.0 in
+    let four : length c.args.takes ≡ 4 = search rules in
     rw (c.widths-below.ensures, c.counts_at-left.ensures)
-    (plain-length (take s.args.n s.args.keys.now) s.args.counts.now s.args.takes (few s.before.before.before) p.2 p.3 four s.args.k p.4 p.5)
+    (plain-length (take c.args.n c.args.keys.now) c.args.counts.now c.args.takes (few c.before.before.before) p.2 p.3 four c.args.k p.4 p.5)
 
 -- no room on the page, or the page begins behind the rule's choices
 unwritten : (words : List ℕ → List ℕ) (xs : List (List ℕ)) (len first count at : ℕ) (before : List ℕ) → len ≡ length xs
@@ -67,26 +63,23 @@ returns c =
 
 fill-requires : tie.Need-fill-written-requires
 fill-requires c κs =
-    let a = c in
-    let s = a in
-    let p = s.requires.0 in
-    let four : length s.args.takes ≡ 4 = search rules in (
+    let p = c.requires.0 in
+    let four : length c.args.takes ≡ 4 = search rules in (
       (omega arith, p.5, p.0, p.1),
       (
-        s.requires.1,
+        c.requires.1,
         (
-          rw (a.widths-below.ensures, a.counts_at-left.ensures)
-              (plain-widths (take s.args.n s.args.keys.now) s.args.counts.now s.args.takes (few s.before.before.before.before.before) p.2 p.3 four s.args.k
+          rw (c.widths-below.ensures, c.counts_at-left.ensures)
+              (plain-widths (take c.args.n c.args.keys.now) c.args.counts.now c.args.takes (few c.before.before.before.before.before) p.2 p.3 four c.args.k
               p.4 p.5),
-          used-none (take s.args.n s.args.keys.now),
+          used-none (take c.args.n c.args.keys.now),
         ),
       ),
     )
 
 returns-2 : tie.Need-returns
 returns-2 c =
-    let a = c in
-    (record { total = total a.before.before.before.before.before; paged = c.fill-written.ensures }, bound a.before.before.before.before.before)
+    (record { total = total c.before.before.before.before.before; paged = c.fill-written.ensures }, bound c.before.before.before.before.before)
 
 pub plain_moves_spec : {M : Type 1} → statement M
 plain_moves_spec =

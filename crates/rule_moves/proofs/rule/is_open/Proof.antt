@@ -7,9 +7,8 @@ use Rattle.rule_moves.proofs.rule.is_open.Tie as tie
 
 returns : tie.Need-returns
 returns c =
-    let s = c in
-    let d = s.requires.0 in
-    rw (d.begins, count-atoms s.args.rule d, ← d.consumes)
+    let d = c.requires.0 in
+    rw (d.begins, count-atoms c.args.rule d, ← d.consumes)
 
 pub is_open_spec : {M : Type 1} → statement M
 is_open_spec =

@@ -17,42 +17,32 @@ returns c =
 
 grouped-moves-requires : tie.Need-grouped_moves-requires
 grouped-moves-requires c κs =
-    let f = c in
-    let s = f in
-    let d = s.requires.0.0 in
-    ((s.requires.0.2, f.takes_of-takes.ensures.1, d.legal.some, d.legal.most), s.requires.1)
+    let d = c.requires.0.0 in
+    ((c.requires.0.2, c.takes_of-takes.ensures.1, d.legal.some, d.legal.most), c.requires.1)
 
 returns-2 : tie.Need-returns-then-rule-eq1
 returns-2 c =
-    let f = c in
-    let asked = f in
-    let s = f in
-    let a = s.args in
+    let a = c.args in
     let g = c.grouped_moves.ensures in
     let class : a.rule.class ≡ 1 = c.if-rule-eq1.true in (
-      open-moves a.r _ (sym asked.is_open.ensures ∙ not-false _ f.if-not-is_open.false-raw)
-          (rw (grouped-choices (rule_in a.rule) (take a.at.len a.keys.now) class f.takes_of-takes.ensures.0) at g.0),
+      open-moves a.r _ (sym c.is_open.ensures ∙ not-false _ c.if-not-is_open.false-raw)
+          (rw (grouped-choices (rule_in a.rule) (take a.at.len a.keys.now) class c.takes_of-takes.ensures.0) at g.0),
       g.1,
     )
 
 plain-moves-requires : tie.Need-plain_moves-requires
 plain-moves-requires c κs =
-    let f = c in
-    let s = f in
-    let d = s.requires.0.0 in
-    let k = s.requires.0.2 in
-    ((k.few, k.size, s.requires.0.3, f.takes_of-takes.ensures.1, d.legal.some, d.legal.most), s.requires.1)
+    let d = c.requires.0.0 in
+    let k = c.requires.0.2 in
+    ((k.few, k.size, c.requires.0.3, c.takes_of-takes.ensures.1, d.legal.some, d.legal.most), c.requires.1)
 
 returns-3 : tie.Need-returns
 returns-3 c =
-    let f = c in
-    let asked = f in
-    let s = f in
-    let a = s.args in
+    let a = c.args in
     let g = c.plain_moves.ensures in (
-      open-moves a.r _ (sym asked.is_open.ensures ∙ not-false _ f.if-not-is_open.false-raw)
+      open-moves a.r _ (sym c.is_open.ensures ∙ not-false _ c.if-not-is_open.false-raw)
           (rw (plain-choices (rule_in a.rule) (take a.at.len a.keys.now) c.if-rule-eq1.false
-          f.takes_of-takes.ensures.0) at g.0),
+          c.takes_of-takes.ensures.0) at g.0),
       omega (arith, g.1),
     )
 

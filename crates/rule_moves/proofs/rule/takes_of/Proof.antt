@@ -7,11 +7,10 @@ use Rattle.rule_moves.proofs.rule.takes_of.Tie as tie
 
 returns : tie.Need-returns
 returns c =
-    let s = c in
     let ports = c.consume_ports.result in
     let e = c.consume_ports.ensures in
-    let k = s.args.rule.consumes in
-    rw c.front_of.ensures (front-take ports e.1 k s.requires.0.legal.most ∙ e.0, front-small ports e.1 k (rw e.0 s.requires.1))
+    let k = c.args.rule.consumes in
+    rw c.front_of.ensures (front-take ports e.1 k c.requires.0.legal.most ∙ e.0, front-small ports e.1 k (rw e.0 c.requires.1))
 
 pub takes_of_spec : {M : Type 1} → statement M
 takes_of_spec = tie.close (tie.spec (λ c κs. c.requires.0) (λ c κs. search rules) returns)

@@ -19,13 +19,11 @@ loop-holds c = decoding-start _ _ refl refl
 
 add-consumes : tie.Need-overflow_add-consumes Inv μ
 add-consumes c =
-    let turn = c in
-    omega (arith, c.one_if-consumes.ensures.1, decoding-few turn.requires turn.loop-i.invariant)
+    omega (arith, c.one_if-consumes.ensures.1, decoding-few c.requires c.loop-i.invariant)
 
 loop-again : tie.Need-loop-i-preserved Inv μ
 loop-again c =
-    let turn = c in
-    decoding-next turn.requires turn.loop-i.invariant turn.loop-i-test.true
+    decoding-next c.requires c.loop-i.invariant c.loop-i-test.true
     c.atom_of.ensures c.role_of-role.ensures c.one_if-consumes.ensures.0
 
 returns : tie.Need-returns Inv μ

@@ -29,38 +29,30 @@ more c = omega (arith, c.loop-i.invariant.1, c.loop-i-test.true)
 
 make-at-requires : tie.Need-make_at-made-requires Inv μ
 make-at-requires c κs =
-    let turn = c in
-    let v = turn.loop-i.invariant in
-    ((v.0.prepared, more turn.before.before.before), tracing-workable v.2)
+    let v = c.loop-i.invariant in
+    ((v.0.prepared, more c.before.before.before), tracing-workable v.2)
 
 put-line-requires : tie.Need-put_line-requires Inv μ
 put-line-requires c κs =
-    let turn = c in
-    let v = turn.loop-i.invariant in (
-      omega (arith, more turn.before.before.before.before.before.before.before, v.0.room, v.2.size),
-      omega (arith, more turn.before.before.before.before.before.before.before, v.0.prepared.log.few),
+    let v = c.loop-i.invariant in (
+      omega (arith, more c.before.before.before.before.before.before.before, v.0.room, v.2.size),
+      omega (arith, more c.before.before.before.before.before.before.before, v.0.prepared.log.few),
       c.make_at-made.ensures.workable.bounds.fits,
     )
 
 returns : tie.Need-returns-in-Denied Inv μ
 returns c =
-    let wrote = c in
-    let made = wrote in
-    let turn = made in
-    let v = turn.loop-i.invariant in
-    tracing-refused v.2 (more turn.before.before.before.before.before.before.before.before.before.before.before) v.0.room made.make_at-made.ensures
-    (rw wrote.answer_in.ensures at wrote.put_line.ensures) c.in-Denied.is
+    let v = c.loop-i.invariant in
+    tracing-refused v.2 (more c.before.before.before.before.before.before.before.before.before.before.before) v.0.room c.make_at-made.ensures
+    (rw c.answer_in.ensures at c.put_line.ensures) c.in-Denied.is
 
 loop-again : tie.Need-loop-i-preserved Inv μ
 loop-again c =
-    let wrote = c in
-    let made = wrote in
-    let turn = made in
-    let v = turn.loop-i.invariant in (
+    let v = c.loop-i.invariant in (
       v.0,
       v.1,
-      tracing-made v.2 (more turn.before.before.before.before.before.before.before.before.before.before.before) v.0.room made.make_at-made.ensures
-          (rw wrote.answer_in.ensures at wrote.put_line.ensures) c.in_default.is,
+      tracing-made v.2 (more c.before.before.before.before.before.before.before.before.before.before.before) v.0.room c.make_at-made.ensures
+          (rw c.answer_in.ensures at c.put_line.ensures) c.in_default.is,
     )
 
 returns-2 : tie.Need-returns Inv μ

@@ -21,33 +21,28 @@ a-reaction c = c.before.before.before
 
 returns : tie.Need-returns-then-kind_of-ne-REACT
 returns c =
-    let kind = c in
-    let start = kind in
     c.end_form.ensures
-    ∙ form-end _ start.args.mv.head start.args.mv.picks (four start.before.before.before.before.before) (λ e. c.if-kind_of-ne-REACT.true (kind.kind_of.ensures ∙ e))
+    ∙ form-end _ c.args.mv.head c.args.mv.picks (four c.before.before.before.before.before) (λ e. c.if-kind_of-ne-REACT.true (c.kind_of.ensures ∙ e))
 
 returns-2 : tie.Need-returns-then-sizes-number
 returns-2 c =
-    let sizes = c in
-    let m = (start sizes.before.before).args.mv in
-    form-no-rule _ sizes.sizes_of-sizes.ensures m.head m.picks (four (start sizes.before.before))
-    (sym (a-reaction sizes.before.before).kind_of.ensures ∙ sizes.if-kind_of-ne-REACT.false) (rw sizes.number_of-number.ensures at c.if-sizes-number.true)
+    let m = (start c.before.before).args.mv in
+    form-no-rule _ c.sizes_of-sizes.ensures m.head m.picks (four (start c.before.before))
+    (sym (a-reaction c.before.before).kind_of.ensures ∙ c.if-kind_of-ne-REACT.false) (rw c.number_of-number.ensures at c.if-sizes-number.true)
 
 consumes-at-requires : tie.Need-consumes_at-requires
 consumes-at-requires c κs =
-    let sizes = c in
-    let p = (start sizes.before.before).requires in
-    (p.table, below-rules (start sizes.before.before).args.table.now sizes.sizes_of-sizes.ensures c.if-sizes-number.false, p.starts)
+    let p = (start c.before.before).requires in
+    (p.table, below-rules (start c.before.before).args.table.now c.sizes_of-sizes.ensures c.if-sizes-number.false, p.starts)
 
 returns-3 : tie.Need-returns
 returns-3 c =
-    let sizes = c in
-    let number = sizes.number_of-number.ensures in
-    let m = (start sizes.before.before.before.before).args.mv in
+    let number = c.number_of-number.ensures in
+    let m = (start c.before.before.before.before).args.mv in
     c.unused_zero.ensures
     ∙ ap (λ (k : ℕ). all is_zero (drop k m.picks)) (rw number at c.consumes_at.ensures.0)
-    ∙ form-rule _ sizes.sizes_of-sizes.ensures m.head m.picks (four (start sizes.before.before.before.before))
-    (sym (a-reaction sizes.before.before.before.before).kind_of.ensures ∙ sizes.if-kind_of-ne-REACT.false) (rw number at c.if-sizes-number.false)
+    ∙ form-rule _ c.sizes_of-sizes.ensures m.head m.picks (four (start c.before.before.before.before))
+    (sym (a-reaction c.before.before.before.before).kind_of.ensures ∙ c.if-kind_of-ne-REACT.false) (rw number at c.if-sizes-number.false)
 
 pub form_ok_spec : {M : Type 1} → statement M
 form_ok_spec =

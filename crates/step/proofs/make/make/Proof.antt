@@ -6,14 +6,12 @@ use Rattle.step.proofs.make.make.Tie as tie
 
 make-reaction-requires : tie.Need-make_reaction-requires
 make-reaction-requires c κs =
-    let kind = c in
-    (kind.requires, sym kind.kind_of.ensures ∙ c.if-kind_of-eq-REACT.true)
+    (c.requires, sym c.kind_of.ensures ∙ c.if-kind_of-eq-REACT.true)
 
 make-end-requires : tie.Need-make_end-requires
 make-end-requires c κs =
-    let kind = c in
-    let able = kind.requires in
-    (able.indexed.table, (able.workable, λ e. c.if-kind_of-eq-REACT.false (kind.kind_of.ensures ∙ e)))
+    let able = c.requires in
+    (able.indexed.table, (able.workable, λ e. c.if-kind_of-eq-REACT.false (c.kind_of.ensures ∙ e)))
 
 pub make_spec : {M : Type 1} → statement M
 make_spec = tie.close (tie.spec (λ c κs. search rules) make-reaction-requires (λ c. c.make_reaction.ensures) make-end-requires (λ c. c.make_end.ensures _))

@@ -19,11 +19,10 @@ four c = search rules
 
 returns : tie.Need-returns-then-not-end_form
 returns c maker =
-    let start = c in
-    let m = start.args.mv in
+    let m = c.args.mv in
     rw c.refused.ensures
-    (made-malformed start.requires.1.0 refl refl
-    (sym (form-end (table_of start.args.table.now) m.head m.picks (four start.before.before.before.before) start.requires.1.1)
+    (made-malformed c.requires.1.0 refl refl
+    (sym (form-end (table_of c.args.table.now) m.head m.picks (four c.before.before.before.before) c.requires.1.1)
     ∙ sym c.end_form.ensures ∙ not-true _ c.if-not-end_form.true-raw))
 
 -- where a well-formed end began, and where its verdict was asked
@@ -60,34 +59,29 @@ end-verdict-requires c κs =
 
 returns-2 : tie.Need-returns-in-Denied
 returns-2 c maker =
-    let asked = c in
     rw c.refused-in-Denied.ensures
-    (end_refused (formed (formed-at asked.before.before)) (start (formed-at asked.before.before)).requires.1.0 (globals (sizes-at asked.before.before)) (kind-is asked.before.before) (id-is asked.before.before)
-    (asked.end_verdict-verdict.ensures (start (formed-at asked.before.before)).args.origins.now) maker refl refl c.in-Denied.is)
+    (end_refused (formed (formed-at c.before.before)) (start (formed-at c.before.before)).requires.1.0 (globals (sizes-at c.before.before)) (kind-is c.before.before) (id-is c.before.before)
+    (c.end_verdict-verdict.ensures (start (formed-at c.before.before)).args.origins.now) maker refl refl c.in-Denied.is)
 
 sub-kind : tie.Need-overflow_sub-kind
 sub-kind c =
-    let asked = c in
-    omega (arith, kind-is asked.before.before.before.before, (start (formed-at asked.before.before.before.before)).requires.1.1)
+    omega (arith, kind-is c.before.before.before.before, (start (formed-at c.before.before.before.before)).requires.1.1)
 
 end-transaction-requires : tie.Need-end_transaction-ended-requires
 end-transaction-requires c κs =
-    let asked = c in
-    let w = (start (formed-at asked.before.before.before.before)).requires.1.0 in (
+    let w = (start (formed-at c.before.before.before.before)).requires.1.0 in (
       w.arrays,
       omega (arith, w.bounds.fits, w.limit),
-      asked.first_owned-from.ensures.0,
-      omega (arith, kind-is asked.before.before.before.before, (formed (formed-at asked.before.before.before.before)).small),
+      c.first_owned-from.ensures.0,
+      omega (arith, kind-is c.before.before.before.before, (formed (formed-at c.before.before.before.before)).small),
     )
 
 returns-3 : tie.Need-returns
 returns-3 c maker =
-    let ended = c in
-    let asked = ended in
     rw (c.allowed.ensures, c.kept-left.ensures, c.less_by-gone.ensures)
-    (end-made (formed (formed-at asked.before.before.before.before.before.before.before.before.before)) (start (formed-at asked.before.before.before.before.before.before.before.before.before)).requires.1.0 (globals (sizes-at asked.before.before.before.before.before.before.before.before.before)) (kind-is asked.before.before.before.before.before.before.before.before.before) (id-is asked.before.before.before.before.before.before.before.before.before)
-    (asked.end_verdict-verdict.ensures (start (formed-at asked.before.before.before.before.before.before.before.before.before)).args.origins.now) maker refl ended.end_transaction-ended.ensures.1
-    ended.in_default.is ended.end_transaction-ended.ensures.0)
+    (end-made (formed (formed-at c.before.before.before.before.before.before.before.before.before)) (start (formed-at c.before.before.before.before.before.before.before.before.before)).requires.1.0 (globals (sizes-at c.before.before.before.before.before.before.before.before.before)) (kind-is c.before.before.before.before.before.before.before.before.before) (id-is c.before.before.before.before.before.before.before.before.before)
+    (c.end_verdict-verdict.ensures (start (formed-at c.before.before.before.before.before.before.before.before.before)).args.origins.now) maker refl c.end_transaction-ended.ensures.1
+    c.in_default.is c.end_transaction-ended.ensures.0)
 
 pub make_end_spec : {M : Type 1} → statement M
 make_end_spec =

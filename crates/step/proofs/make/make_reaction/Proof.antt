@@ -38,13 +38,11 @@ four c = search rules
 
 returns : tie.Need-returns-then-sizes-number
 returns c =
-    let sizes = c in
-    let start = sizes in
-    let m = start.args.mv in
+    let m = c.args.mv in
     rw c.refused.ensures
-    (made-malformed start.requires.0.workable refl refl
-    (sym (form-no-rule _ sizes.sizes_of-sizes.ensures m.head m.picks (four start.before.before.before.before.before.before.before) start.requires.1
-    (rw sizes.number_of-number.ensures at c.if-sizes-number.true))))
+    (made-malformed c.requires.0.workable refl refl
+    (sym (form-no-rule _ c.sizes_of-sizes.ensures m.head m.picks (four c.before.before.before.before.before.before.before) c.requires.1
+    (rw c.number_of-number.ensures at c.if-sizes-number.true))))
 
 chosen : (c : tie.After-rule_at-rule) → Chosen (start c).args.table.now c.rule_at-rule.result (start c).args.mv.head (start c).args.mv.picks
 chosen c = record {
@@ -60,9 +58,8 @@ formed c = sym (reaction-form (chosen c.before.before) c.unused_zero.ensures) �
 
 returns-2 : tie.Need-returns-then-not-unused_zero
 returns-2 c =
-    let rule = c in
     rw c.refused-then-not-unused_zero.ensures
-    (made-malformed (start rule.before.before.before).requires.0.workable refl refl (sym (reaction-form (chosen rule.before.before.before) c.unused_zero.ensures)
+    (made-malformed (start c.before.before.before).requires.0.workable refl refl (sym (reaction-form (chosen c.before.before.before) c.unused_zero.ensures)
     ∙ not-true _ c.if-not-unused_zero.true-raw))
 
 looked-requires : tie.Need-looked-unmarked-requires
@@ -72,47 +69,41 @@ looked-requires c κs =
 
 react-verdict-requires : tie.Need-react_verdict-verdict-requires
 react-verdict-requires c κs =
-    let looked = c in
-    let rule = looked in
-    let w = (start rule.before.before.before).requires.0.workable in (
+    let w = (start c.before.before.before).requires.0.workable in (
       record { owners = w.arrays.owners; items = w.arrays.items; fits = omega (arith, w.bounds.fits, w.limit) },
-      decodes-itself _ _ rule.rule_at-rule.ensures,
-      looked.looked-unmarked.ensures.1,
+      decodes-itself _ _ c.rule_at-rule.ensures,
+      c.looked-unmarked.ensures.1,
     )
 
 returns-3 : tie.Need-returns-in-Denied
 returns-3 c =
-    let asked = c in
-    let start = start (rule-of asked.before.before) in
+    let start = start (rule-of c.before.before) in
     rw c.refused-in-Denied.ensures
-    (reaction-refused (chosen (rule-of asked.before.before)) (formed (formed-at asked.before.before)) start.requires.0.workable (asked.react_verdict-verdict.ensures start.args.origins.now)
+    (reaction-refused (chosen (rule-of c.before.before)) (formed (formed-at c.before.before)) start.requires.0.workable (c.react_verdict-verdict.ensures start.args.origins.now)
     _ refl refl c.in-Denied.is)
 
 react-requires : tie.Need-react-after-requires
 react-requires c κs =
-    let asked = c in
-    let start = start (rule-of asked.before.before.before.before) in
-    reaction-asked (chosen (rule-of asked.before.before.before.before)) (formed (formed-at asked.before.before.before.before)) start.requires.0.workable (asked.react_verdict-verdict.ensures start.args.origins.now)
+    let start = start (rule-of c.before.before.before.before) in
+    reaction-asked (chosen (rule-of c.before.before.before.before)) (formed (formed-at c.before.before.before.before)) start.requires.0.workable (c.react_verdict-verdict.ensures start.args.origins.now)
     c.in_default.is start.requires.0.maker-fits
 
 returns-4 : tie.Need-returns
 returns-4 c =
-    let reacted = c in
-    let asked = reacted in
-    let start = start (rule-of asked.before.before.before.before.before.before.before) in
+    let start = start (rule-of c.before.before.before.before.before.before.before) in
     rw (c.allowed.ensures, c.kept-left.ensures)
-    (reaction-made (chosen (rule-of asked.before.before.before.before.before.before.before)) (formed (formed-at asked.before.before.before.before.before.before.before)) start.requires.0.workable (asked.react_verdict-verdict.ensures start.args.origins.now)
-    reacted.in_default.is _ refl refl (looked-at asked.before.before.before.before.before.before.before).looked-unmarked.ensures reacted.react-after.ensures)
+    (reaction-made (chosen (rule-of c.before.before.before.before.before.before.before)) (formed (formed-at c.before.before.before.before.before.before.before)) start.requires.0.workable (c.react_verdict-verdict.ensures start.args.origins.now)
+    c.in_default.is _ refl refl (looked-at c.before.before.before.before.before.before.before).looked-unmarked.ensures c.react-after.ensures)
 
 pub make_reaction_spec : {M : Type 1} → statement M
 make_reaction_spec =
     tie.close
     (tie.spec
     (λ c κs. search rules) (λ c κs. (well-formed _ c.requires.0.indexed.table).sizes.long) (λ c κs. search rules) returns
-    (λ c κs. let start = c in (
-      start.requires.0.indexed.table,
-      below-rules start.args.table.now c.sizes_of-sizes.ensures c.if-sizes-number.false,
-      start.requires.0.indexed.starts,
+    (λ c κs. (
+      c.requires.0.indexed.table,
+      below-rules c.args.table.now c.sizes_of-sizes.ensures c.if-sizes-number.false,
+      c.requires.0.indexed.starts,
     ))
     (λ c κs. c.rule_at-rule.ensures.legal.most) (λ c κs. search rules) returns-2
     looked-requires react-verdict-requires (λ c. search rules) (λ c κs. search rules) returns-3

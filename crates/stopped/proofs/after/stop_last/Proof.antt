@@ -27,19 +27,16 @@ none v = and-right-false (owned v nothing) refl
 
 returns : tie.Need-returns-then-n-eq0
 returns c =
-    let s = c in
-    let row : List ℕ → ℕ → Entry = λ gs. row_of s.args.owners.now s.args.items.now gs in (
-      λ gs t i σ r ps h e are. last-added h i e (empty (row gs) c.if-n-eq0.true) are s.requires.1 (λ v. rw (none v)),
+    let row : List ℕ → ℕ → Entry = λ gs. row_of c.args.owners.now c.args.items.now gs in (
+      λ gs t i σ r ps h e are. last-added h i e (empty (row gs) c.if-n-eq0.true) are c.requires.1 (λ v. rw (none v)),
       λ gs t i σ r ps h e. last-tells h i e (empty (row gs) c.if-n-eq0.true) refl,
     )
 
 returns-2 : tie.Need-returns
 returns-2 c =
-    let a = c in
-    let s = a in
-    let row : List ℕ → ℕ → Entry = λ gs. row_of s.args.owners.now s.args.items.now gs in
-    let n = s.args.n in
-    let some : 0 < n = omega (arith, a.if-n-eq0.false) in
+    let row : List ℕ → ℕ → Entry = λ gs. row_of c.args.owners.now c.args.items.now gs in
+    let n = c.args.n in
+    let some : 0 < n = omega (arith, c.if-n-eq0.false) in
     let put = c.stop_if.ensures in
     let at : List ℕ → Entry = λ gs. row gs (n - 1) in (
       λ gs t i σ r ps h e are. last-added h i e (last-rows nothing (row gs) n some) are (put 0).size

@@ -21,21 +21,17 @@ loop-holds c = (c.requires.0, λ gs. freeing-start _ _ _ _ _ c.requires.1 c.requ
 
 add-totals : tie.Need-overflow_add-totals Inv μ
 add-totals c =
-    let at = c in
-    let turn = at in
-    let small : at.port_of-port.result < 256 = omega (arith, at.port_of-port.ensures) in
-    let fits = freeing-fits _ _ _ (turn.loop-i.invariant.1 []) turn.loop-i-test.true at.port_of-port.ensures small in
+    let small : c.port_of-port.result < 256 = omega (arith, c.port_of-port.ensures) in
+    let fits = freeing-fits _ _ _ (c.loop-i.invariant.1 []) c.loop-i-test.true c.port_of-port.ensures small in
     let one = c.one_if-more.ensures in
     omega (arith, fits, one)
 
 loop-again : tie.Need-loop-i-preserved Inv μ
 loop-again c =
-    let at = c in
-    let turn = at in
-    let v = turn.loop-i.invariant in
-    let small : at.port_of-port.result < 256 = omega (arith, at.port_of-port.ensures) in (
+    let v = c.loop-i.invariant in
+    let small : c.port_of-port.result < 256 = omega (arith, c.port_of-port.ensures) in (
       v.0,
-      λ gs. freeing-next _ _ _ (v.1 gs) turn.loop-i-test.true at.port_of-port.ensures small
+      λ gs. freeing-next _ _ _ (v.1 gs) c.loop-i-test.true c.port_of-port.ensures small
           c.kind_of.ensures c.one_if-more.ensures.0,
     )
 

@@ -24,23 +24,21 @@ loop-holds c =
 
 count-chunk-requires : tie.Need-count_chunk-requires Inv μ
 count-chunk-requires c κs =
-    let turn = c in
-    let v = turn.loop-from.invariant in
+    let v = c.loop-from.invariant in
     let e = c.chunk_end-end.ensures in (
       record { owners = v.0.owners; items = v.0.items; fits = omega (arith, e.within, v.0.fits) },
       omega (arith, e.more),
       freeing-room _ _ _ (v.2 []) _ e.within,
       e.few,
-      omega (arith, v.1 turn.loop-from-test.true, v.0.fits),
+      omega (arith, v.1 c.loop-from-test.true, v.0.fits),
     )
 
 loop-again : tie.Need-loop-from-preserved Inv μ
 loop-again c =
-    let turn = c in
-    let v = turn.loop-from.invariant in
+    let v = c.loop-from.invariant in
     let e = c.chunk_end-end.ensures in (
       v.0,
-      (λ l. omega (arith, v.1 turn.loop-from-test.true, e.full l)),
+      (λ l. omega (arith, v.1 c.loop-from-test.true, e.full l)),
       λ gs. freeing-more _ _ _ (v.2 gs) (omega (arith, e.more)) e.within (c.count_chunk.ensures gs),
     )
 

@@ -13,18 +13,15 @@ returns c = sizes-wrong _ _ c.requires (sym c.sizes_ok.ensures ∙ not-true _ c.
 
 contents-ok-requires : tie.Need-contents_ok-requires
 contents-ok-requires c κs =
-    let b = c in
-    (table-sized _ (sym b.sizes_ok.ensures ∙ not-false _ b.if-not-sizes_ok.false-raw), b.requires)
+    (table-sized _ (sym c.sizes_ok.ensures ∙ not-false _ c.if-not-sizes_ok.false-raw), c.requires)
 
 returns-2 : tie.Need-returns-then-not-contents_ok
 returns-2 c =
-    let b = c in
-    sizes-right _ _ false (sym b.sizes_ok.ensures ∙ not-false _ b.if-not-sizes_ok.false-raw) c.contents_ok.ensures (not-true _ c.if-not-contents_ok.true-raw)
+    sizes-right _ _ false (sym c.sizes_ok.ensures ∙ not-false _ c.if-not-sizes_ok.false-raw) c.contents_ok.ensures (not-true _ c.if-not-contents_ok.true-raw)
 
 returns-3 : tie.Need-returns
 returns-3 c =
-    let b = c in
-    sizes-right _ _ true (sym b.sizes_ok.ensures ∙ not-false _ b.if-not-sizes_ok.false-raw) c.contents_ok.ensures (not-false _ c.if-not-contents_ok.false-raw)
+    sizes-right _ _ true (sym c.sizes_ok.ensures ∙ not-false _ c.if-not-sizes_ok.false-raw) c.contents_ok.ensures (not-false _ c.if-not-contents_ok.false-raw)
 
 pub check_spec : {M : Type 1} → statement M
 check_spec = tie.close (tie.spec (λ c κs. search rules) returns contents-ok-requires returns-2 returns-3)

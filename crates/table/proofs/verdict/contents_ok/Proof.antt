@@ -12,41 +12,35 @@ use Rattle.table.proofs.verdict.contents_ok.Tie as tie
 
 index-rules-requires : tie.Need-index_rules-requires
 index-rules-requires c κs =
-    let start = c in
-    let n = ap length c.numbers_of.ensures ∙ numbers-length start.args.table.now start.requires.0 in
+    let n = ap length c.numbers_of.ensures ∙ numbers-length c.args.table.now c.requires.0 in
     let z = ap (λ (z : Sizes). z.rules) c.sizes_of-z.ensures in
-    (omega arith, omega (arith, start.requires.0.rules), start.requires.1)
+    (omega arith, omega (arith, c.requires.0.rules), c.requires.1)
 
 returns : tie.Need-returns-then-not-index_rules
 returns c =
-    let b = c in
-    numbers-wrong _ b.requires.0 b.sizes_of-z.ensures b.numbers_of.ensures c.index_rules.ensures
+    numbers-wrong _ c.requires.0 c.sizes_of-z.ensures c.numbers_of.ensures c.index_rules.ensures
     (not-true _ c.if-not-index_rules.true-raw)
 
 rules-ok-requires : tie.Need-rules_ok-requires
 rules-ok-requires c κs =
-    let n = c in
-    let b = n in
     cuts
     _
-    b.requires.0
-    b.sizes_of-z.ensures
-    b.numbers_of.ensures
-    n.index_rules.ensures
-    (not-false _ n.if-not-index_rules.false-raw)
+    c.requires.0
+    c.sizes_of-z.ensures
+    c.numbers_of.ensures
+    c.index_rules.ensures
+    (not-false _ c.if-not-index_rules.false-raw)
     c.atom_words_of.ensures
 
 returns-2 : tie.Need-returns
 returns-2 c =
-    let n = c in
-    let b = n in
     numbers-right
     _
-    b.requires.0
-    b.sizes_of-z.ensures
-    b.numbers_of.ensures
-    n.index_rules.ensures
-    (not-false _ n.if-not-index_rules.false-raw)
+    c.requires.0
+    c.sizes_of-z.ensures
+    c.numbers_of.ensures
+    c.index_rules.ensures
+    (not-false _ c.if-not-index_rules.false-raw)
     c.atom_words_of.ensures
     c.rules_ok.ensures
 

@@ -22,4 +22,4 @@ returns-2 c t index i ceiling gs picks g = record {
 
 pub before_move_spec : {M : Type 1} → statement M
 before_move_spec =
-    tie.close (tie.spec (λ c κs. search rules) (λ c κs. let then = c in (other then.before.before, then.requires)) returns returns-2)
+    tie.close (tie.spec (λ c κs. search rules) (λ c κs. (other c.before.before, c.requires)) returns returns-2)

@@ -15,21 +15,15 @@ count-freed-requires c κs =
 
 unstop-ended-requires : tie.Need-unstop_ended-requires
 unstop-ended-requires c κs =
-    let id = c in
-    let kind = id in
-    let (_, _, _, _, gs, _, g) = kind.requires.1 in
-    ((g.tracked.stops gs).size, in-set g kind.requires.0 kind.kind_of-kind.ensures id.id_of-id.ensures)
+    let (_, _, _, _, gs, _, g) = c.requires.1 in
+    ((g.tracked.stops gs).size, in-set g c.requires.0 c.kind_of-kind.ensures c.id_of-id.ensures)
 
 returns : tie.Need-returns
 returns c t index i ceiling gs picks g =
-    let freed = c in
-    let id = freed in
-    let kind = id in
-    let s = kind in
-    let a = s.args in
-    let other = s.requires.0 in
+    let a = c.args in
+    let other = c.requires.0 in
     let stops = c.unstop_ended.ensures (table_of t) (i + 1) (state_from a.owners.now a.items.now gs a.at) (g.tracked.stops gs) in
-    ended-kept g other kind.kind_of-kind.ensures id.id_of-id.ensures stops (told-supply g other freed.count_freed.ensures.1)
+    ended-kept g other c.kind_of-kind.ensures c.id_of-id.ensures stops (told-supply g other c.count_freed.ensures.1)
 
 pub follow_end_spec : {M : Type 1} → statement M
 follow_end_spec =

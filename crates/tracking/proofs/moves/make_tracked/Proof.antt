@@ -6,10 +6,8 @@ use Rattle.tracking.proofs.moves.make_tracked.Tie as tie
 
 after-move-requires : tie.Need-after_move-requires
 after-move-requires c κs =
-    let made = c in
-    let before = made in
-    let g = before.requires in
-    made_after g (before.before_move.ensures _ _ _ _ _ _ g) made.make_next-made.ensures
+    let g = c.requires in
+    made_after g (c.before_move.ensures _ _ _ _ _ _ g) c.make_next-made.ensures
 
 pub make_tracked_spec : {M : Type 1} → statement M
 make_tracked_spec =

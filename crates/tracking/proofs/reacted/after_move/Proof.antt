@@ -6,9 +6,7 @@ use Rattle.tracking.proofs.reacted.after_move.Tie as tie
 
 follow-reaction-requires : tie.Need-follow_reaction-requires
 follow-reaction-requires c κs =
-    let number = c in
-    let kind = number in
-    rw number.number_of-rule.ensures (kind.requires.reaction (sym kind.kind_of.ensures ∙ number.if-kind_of-eq-REACT.true))
+    rw c.number_of-rule.ensures (c.requires.reaction (sym c.kind_of.ensures ∙ c.if-kind_of-eq-REACT.true))
 
 returns-2 : tie.Need-returns-else-kind_of-eq-REACT
 returns-2 c = c.requires.ended (λ e. c.if-kind_of-eq-REACT.false (c.kind_of.ensures ∙ e))

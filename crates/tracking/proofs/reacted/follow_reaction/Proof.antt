@@ -27,34 +27,28 @@ stops-now c gs =
 
 recount-requires : tie.Need-recount-requires
 recount-requires c κs =
-    let sizes = c in
-    let stop = sizes in
-    let h = (start stop.before.before.before.before).requires.4 in (
+    let h = (start c.before.before.before.before).requires.4 in (
       (
         left-columns h,
-        rw sizes.sizes_of-z.ensures (well-formed _ h.indexed.table).sizes.ports,
+        rw c.sizes_of-z.ensures (well-formed _ h.indexed.table).sizes.ports,
         h.reacts.supply.size,
         h.holds.looked.within,
         h.holds.looked.none,
       ),
-      stops-now stop.before.before.before.before,
+      stops-now c.before.before.before.before,
     )
 
 returns : tie.Need-returns-then-strands
 returns c =
-    let sizes = c in
-    let stop = sizes in
-    record { stops = stops-now stop.before.before.before.before.before; supply = rw sizes.sizes_of-z.ensures at c.recount.ensures }
+    record { stops = stops-now c.before.before.before.before.before; supply = rw c.sizes_of-z.ensures at c.recount.ensures }
 
 returns-2 : tie.Need-returns
 returns-2 c =
-    let told = c in
-    let stop = told in
-    let a = (start stop.before.before.before.before).args in
-    let (s, ps, i, hs, h) = (start stop.before.before.before.before).requires in
-    let calm = stop.stop_last-marked.ensures.1 hs _ i s a.r ps (reacting h) (entries-are h) in
-    let stops = subst (λ (es : List Entry). StoppedIn es stop.stop_last-marked.new.stopped) (sym (entries-are h)) (stops-now stop.before.before.before.before hs) in
-    let counted = ⊎_elim inl (λ e. inr (calm e)) (told.strands.ensures c.if-strands.false) in
+    let a = (start c.before.before.before.before).args in
+    let (s, ps, i, hs, h) = (start c.before.before.before.before).requires in
+    let calm = c.stop_last-marked.ensures.1 hs _ i s a.r ps (reacting h) (entries-are h) in
+    let stops = subst (λ (es : List Entry). StoppedIn es c.stop_last-marked.new.stopped) (sym (entries-are h)) (stops-now c.before.before.before.before hs) in
+    let counted = ⊎_elim inl (λ e. inr (calm e)) (c.strands.ensures c.if-strands.false) in
     let supply = c.count_reaction.ensures.1 s ps i h.reacts counted in
     tracked-held a.owners.now a.items.now hs a.left h.holds (record { stops = stops; supply = supply })
 

@@ -16,9 +16,8 @@ rule-words-requires c κs =
 
 returns : tie.Need-returns
 returns c =
-    let words = c in
-    let p = words.requires in
-    let class = class-is p.0 _ p.1 words.atom_words_of.ensures words.sizes_of-z.ensures words.rule_words-ws.ensures in
+    let p = c.requires in
+    let class = class-is p.0 _ p.1 c.atom_words_of.ensures c.sizes_of-z.ensures c.rule_words-ws.ensures in
     ap (λ (k : ℕ). eqb k 0) (c.rule_class.ensures ∙ class)
 
 pub is_global_spec : {M : Type 1} → statement M

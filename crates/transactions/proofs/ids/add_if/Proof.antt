@@ -10,16 +10,14 @@ use Rattle.transactions.proofs.ids.add_if.Tie as tie
 
 returns : tie.Need-returns-then-not-has
 returns c =
-    let start = c in
-    rw (sym c.has.ensures ∙ not-true _ c.if-not-has.true-raw) (not-added _ _ start.requires.1 start.requires.2)
+    rw (sym c.has.ensures ∙ not-true _ c.if-not-has.true-raw) (not-added _ _ c.requires.1 c.requires.2)
 
 member : (c : tie.Else-not-has) → has c.args.set.now c.args.v ≡ true
 member c = sym c.has.ensures ∙ not-false _ c.if-not-has.false-raw
 
 returns-2 : tie.Need-returns
 returns-2 c =
-    let start = c in
-    rw (member c.before) (added _ _ _ start.requires.1 (start.requires.3 (member c.before)))
+    rw (member c.before) (added _ _ _ c.requires.1 (c.requires.3 (member c.before)))
 
 pub add_if_spec : {M : Type 1} → statement M
 add_if_spec =

@@ -5,10 +5,9 @@ use Rattle.transactions.proofs.sets.enter.Tie as tie
 
 returns : tie.Need-returns
 returns c origin =
-    let second = c in
     record {
-      owning = second.insert.ensures;
-      blocking = rw (second.blocks-2.ensures 0 origin) at second.insert_if.ensures;
+      owning = c.insert.ensures;
+      blocking = rw (c.blocks-2.ensures 0 origin) at c.insert_if.ensures;
       marking = rw c.kind_of.ensures at c.insert_if-2.ensures;
     }
 

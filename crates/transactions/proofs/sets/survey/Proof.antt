@@ -24,9 +24,8 @@ loop-holds c = (c.requires.1.size, c.requires.2.size, c.requires.3.size, λ gs. 
 
 loop-again : tie.Need-loop-i-preserved Inv μ
 loop-again c =
-    let turn = c in
     let t = c.enter.ensures in
-    ((t 0).owning.size, (t 0).blocking.size, (t 0).marking.size, λ gs. sets-next (turn.loop-i.invariant.3 gs) turn.loop-i-test.true (t _))
+    ((t 0).owning.size, (t 0).blocking.size, (t 0).marking.size, λ gs. sets-next (c.loop-i.invariant.3 gs) c.loop-i-test.true (t _))
 
 returns : tie.Need-returns Inv μ
 returns c gs =

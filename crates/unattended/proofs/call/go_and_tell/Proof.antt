@@ -13,11 +13,10 @@ use Rattle.unattended.proofs.call.go_and_tell.Tie as tie
 
 same_length : tie.Need-shape_of-target
 same_length c =
-    let s = c in
-    let a = s.args in
+    let a = c.args in
     ap length c.go_alone-gone.ensures.log
     ∙ log-fits (alone_moves 1024 a.table.now a.state.now a.budget) a.budget a.target.now
-    (moves-within 1024 (table_of a.table.now) a.budget 0 (state_of a.state.now)) s.requires.2
+    (moves-within 1024 (table_of a.table.now) a.budget 0 (state_of a.state.now)) c.requires.2
 
 pub go_and_tell_spec : {M : Type 1} → statement M
 go_and_tell_spec =
@@ -27,6 +26,6 @@ go_and_tell_spec =
     (λ c. omega (arith, c.go_alone-gone.ensures.few, c.requires.1))
     (λ c. omega (arith, c.go_alone-gone.ensures.few, c.requires.1))
     (λ c. omega (arith, c.go_alone-gone.ensures.few, c.requires.1))
-    (λ c. let went = c in omega (arith, went.go_alone-gone.ensures.few, went.requires.1))
+    (λ c. omega (arith, c.go_alone-gone.ensures.few, c.requires.1))
     same_length
     (λ c. told-as c.go_alone-gone.ensures refl refl))

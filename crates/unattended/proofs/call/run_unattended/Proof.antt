@@ -19,20 +19,17 @@ returns c =
 
 returns-2 : tie.Need-returns-then-budget-gt-MAX_BUDGET
 returns-2 c =
-    let told = c in
-    alone-over _ _ _ _ (sym told.ready-checked.ensures.verdict ∙ told.in_default.is) c.if-budget-gt-MAX_BUDGET.true c.refused-then-budget-gt-MAX_BUDGET.ensures
+    alone-over _ _ _ _ (sym c.ready-checked.ensures.verdict ∙ c.in_default.is) c.if-budget-gt-MAX_BUDGET.true c.refused-then-budget-gt-MAX_BUDGET.ensures
 
 returns-3 : tie.Need-returns-then-target-most
 returns-3 c =
-    let told = c in
-    alone-short _ _ _ _ (sym told.ready-checked.ensures.verdict ∙ told.in_default.is) c.if-budget-gt-MAX_BUDGET.false c.if-target-most.true
+    alone-short _ _ _ _ (sym c.ready-checked.ensures.verdict ∙ c.in_default.is) c.if-budget-gt-MAX_BUDGET.false c.if-target-most.true
     c.refused-then-target-most.ensures
 
 go-and-tell-requires : tie.Need-go_and_tell-requires
 go-and-tell-requires c κs =
-    let told = c in
-    let said = told.ready-checked.ensures in
-    (said.ready (sym said.verdict ∙ told.in_default.is), c.if-budget-gt-MAX_BUDGET.false, c.if-target-most.false)
+    let said = c.ready-checked.ensures in
+    (said.ready (sym said.verdict ∙ c.in_default.is), c.if-budget-gt-MAX_BUDGET.false, c.if-target-most.false)
 
 same_length : tie.Need-shape_of-target
 same_length c =
@@ -43,8 +40,7 @@ same_length c =
 
 returns-4 : tie.Need-returns
 returns-4 c =
-    let told = c in
-    alone-done _ _ _ _ (sym told.ready-checked.ensures.verdict ∙ told.in_default.is)
+    alone-done _ _ _ _ (sym c.ready-checked.ensures.verdict ∙ c.in_default.is)
     c.if-budget-gt-MAX_BUDGET.false c.if-target-most.false
     c.go_and_tell.ensures
 

@@ -34,112 +34,95 @@ abbrev μ : tie.decreases-loop-i
 
 loop-holds : tie.Need-loop-i-init Inv μ
 loop-holds c =
-    let s = c in
-    let a = s.args in
+    let a = c.args in
     let start = state_in (held a.owners.now a.items.now a.origins.now a.start) in (
       running-start a.ceiling (table_of a.table.now) a.budget start a.picks.now a.target.now,
-      s.requires.1.0,
-      s.requires.1.1,
+      c.requires.1.0,
+      c.requires.1.1,
       search rules,
       refl,
-      s.requires.1.2,
+      c.requires.1.2,
     )
 
 -- the search in a turn of the loop
 next-move-requires : tie.Need-next_move-first-requires Inv μ
 next-move-requires c κs =
     let l = c.loop-i in
-    let s = c in
-    searchable l.owners l.items l.origins l.at s.args.ceiling l.invariant.1 l.invariant.2 s.requires.0.0 s.requires.0.1 refl l.invariant.5 l.invariant.3
+    searchable l.owners l.items l.origins l.at c.args.ceiling l.invariant.1 l.invariant.2 c.requires.0.0 c.requires.0.1 refl l.invariant.5 l.invariant.3
 
 returns : tie.Need-returns-then-not-first Inv μ
 returns c =
-    let turn = c in
-    let l = turn.loop-i in
-    let s = turn in
-    let a = s.args in
+    let l = c.loop-i in
+    let a = c.args in
     let T = table_of a.table.now in
     let now = state_in (held l.owners l.items l.origins l.at) in
     let start = state_in (held a.owners.now a.items.now a.origins.now a.start) in
-    let f = searched l.owners l.items l.origins l.at a.ceiling l.invariant.1 l.invariant.2 T turn.next_move-first.ensures.0 in
-    let none = first-none (enabled a.ceiling T now) turn.next_move-first.result f (not-true _ c.if-not-first.true) in
+    let f = searched l.owners l.items l.origins l.at a.ceiling l.invariant.1 l.invariant.2 T c.next_move-first.ensures.0 in
+    let none = first-none (enabled a.ceiling T now) c.next_move-first.result f (not-true _ c.if-not-first.true) in
     let (made, same) = none_made a.ceiling T a.budget start l.i (a.budget - l.i) now none in
     (running-done a.ceiling T a.budget start l.invariant.0 made same (sym ((still-empty a.ceiling T now).1 none)), l.invariant.4)
 
--- a turn, after the search has found a move
+-- a c, after the search has found a move
 loop-again : tie.Need-loop-i-preserved Inv μ
 loop-again c =
-    let noted = c in
-    let turn-if = noted in
-    let turn = noted in
-    let l = turn.loop-i in
-    let test = turn.loop-i-test.true in
-    let s = turn in
-    let a = s.args in
+    let l = c.loop-i in
+    let test = c.loop-i-test.true in
+    let a = c.args in
     let T = table_of a.table.now in
     let now = state_in (held l.owners l.items l.origins l.at) in
     let start = state_in (held a.owners.now a.items.now a.origins.now a.start) in
-    let f = searched l.owners l.items l.origins l.at a.ceiling l.invariant.1 l.invariant.2 T turn.next_move-first.ensures.0 in
-    let (m, ms, first, head, picks) = first_found (enabled a.ceiling T now) turn.next_move-first.result f (not-false _ turn-if.if-not-first.false) in
-    let columns = noted.note.ensures in
+    let f = searched l.owners l.items l.origins l.at a.ceiling l.invariant.1 l.invariant.2 T c.next_move-first.ensures.0 in
+    let (m, ms, first, head, picks) = first_found (enabled a.ceiling T now) c.next_move-first.result f (not-false _ c.if-not-first.false) in
+    let columns = c.note.ensures in
     let (made, kept) = c.make_tracked-made.ensures in
-    let words : turn.next_move-first.result.mv.head ∷ turn.next_move-first.result.mv.picks ≡ move_words m =
-    ap (λ (h : ℕ). h ∷ turn.next_move-first.result.mv.picks) head ∙ ap (λ (l : List ℕ). head_of m ∷ l) picks in
-    let (same, sound) = made-first a.table.now s.requires.0.0.table a.ceiling l.invariant.1.limit l.i l.invariant.2 made m ms first words in
-    let run = running_more a.ceiling T a.budget start l.invariant.0 test first head picks (omega (arith, test, s.requires.0.3, l.invariant.4)) in
-    (rw (same, columns.0.value, columns.1) run, made.workable, sound, turn.next_move-first.ensures.1, columns.0.size ∙ l.invariant.4, kept)
+    let words : c.next_move-first.result.mv.head ∷ c.next_move-first.result.mv.picks ≡ move_words m =
+    ap (λ (h : ℕ). h ∷ c.next_move-first.result.mv.picks) head ∙ ap (λ (l : List ℕ). head_of m ∷ l) picks in
+    let (same, sound) = made-first a.table.now c.requires.0.0.table a.ceiling l.invariant.1.limit l.i l.invariant.2 made m ms first words in
+    let run = running_more a.ceiling T a.budget start l.invariant.0 test first head picks (omega (arith, test, c.requires.0.3, l.invariant.4)) in
+    (rw (same, columns.0.value, columns.1) run, made.workable, sound, c.next_move-first.ensures.1, columns.0.size ∙ l.invariant.4, kept)
 
 note-requires : tie.Need-note-requires Inv μ
 note-requires c κs =
-    let turn = c in
-    let l = turn.loop-i in
-    let test = turn.loop-i-test.true in
-    let s = turn in
-    let p = s.requires.0 in
+    let l = c.loop-i in
+    let test = c.loop-i-test.true in
+    let p = c.requires.0 in
     let size = running-length _ _ _ _ l.invariant.0 in
     (omega (arith, test, p.2), omega (arith, test, p.3, l.invariant.4), omega (arith, test, p.4, size))
 
 make-tracked-requires : tie.Need-make_tracked-made-requires Inv μ
 make-tracked-requires c κs =
-    let note = c in
-    let turn-if = note in
-    let turn = turn-if in
-    let l = turn.loop-i in
-    let test = turn.loop-i-test.true in
-    let s = turn in
-    let a = s.args in
+    let l = c.loop-i in
+    let test = c.loop-i-test.true in
+    let a = c.args in
     let T = table_of a.table.now in
     let now = state_in (held l.owners l.items l.origins l.at) in
-    let f = searched l.owners l.items l.origins l.at a.ceiling l.invariant.1 l.invariant.2 T turn.next_move-first.ensures.0 in
-    let (m, ms, first, head, picks) = first_found (enabled a.ceiling T now) turn.next_move-first.result f (not-false _ turn-if.if-not-first.false) in
-    let words : turn.next_move-first.result.mv.head ∷ turn.next_move-first.result.mv.picks ≡ move_words m =
-    ap (λ (h : ℕ). h ∷ turn.next_move-first.result.mv.picks) head ∙ ap (λ (l : List ℕ). head_of m ∷ l) picks in
+    let f = searched l.owners l.items l.origins l.at a.ceiling l.invariant.1 l.invariant.2 T c.next_move-first.ensures.0 in
+    let (m, ms, first, head, picks) = first_found (enabled a.ceiling T now) c.next_move-first.result f (not-false _ c.if-not-first.false) in
+    let words : c.next_move-first.result.mv.head ∷ c.next_move-first.result.mv.picks ≡ move_words m =
+    ap (λ (h : ℕ). h ∷ c.next_move-first.result.mv.picks) head ∙ ap (λ (l : List ℕ). head_of m ∷ l) picks in
     record {
-      indexed = s.requires.0.0;
-      place = omega (arith, test, s.requires.0.2);
+      indexed = c.requires.0.0;
+      place = omega (arith, test, c.requires.0.2);
       workable = l.invariant.1;
       sound = l.invariant.2;
-      opened = first-open a.ceiling a.table.now s.requires.0.0.table now l.invariant.2 m ms first words;
+      opened = first-open a.ceiling a.table.now c.requires.0.0.table now l.invariant.2 m ms first words;
       tracked = l.invariant.5;
     }
 
 next-move-requires-2 : tie.Need-next_move-first-requires-2 Inv μ
 next-move-requires-2 c κs =
     let l = c.loop-i in
-    let s = c in
-    searchable l.owners l.items l.origins l.at s.args.ceiling l.invariant.1 l.invariant.2 s.requires.0.0 s.requires.0.1 refl l.invariant.5 l.invariant.3
+    searchable l.owners l.items l.origins l.at c.args.ceiling l.invariant.1 l.invariant.2 c.requires.0.0 c.requires.0.1 refl l.invariant.5 l.invariant.3
 
 returns-2 : tie.Need-returns Inv μ
 returns-2 c =
-    let turn = c in
-    let l = turn.loop-i in
-    let s = turn in
-    let a = s.args in
+    let l = c.loop-i in
+    let a = c.args in
     let T = table_of a.table.now in
     let now = state_in (held l.owners l.items l.origins l.at) in
     let start = state_in (held a.owners.now a.items.now a.origins.now a.start) in
-    let f = searched l.owners l.items l.origins l.at a.ceiling l.invariant.1 l.invariant.2 T turn.next_move-first-2.ensures.0 in
-    let none : a.budget - l.i ≡ 0 = omega (arith, turn.loop-i-test.false) in
+    let f = searched l.owners l.items l.origins l.at a.ceiling l.invariant.1 l.invariant.2 T c.next_move-first-2.ensures.0 in
+    let none : a.budget - l.i ≡ 0 = omega (arith, c.loop-i-test.false) in
     let (made, same) = spent-made a.ceiling T a.budget start l.i (a.budget - l.i) now none in
     (running-done a.ceiling T a.budget start l.invariant.0 made same (still-found a.ceiling T now f), l.invariant.4)
 
@@ -157,8 +140,7 @@ walk_spec =
     note-requires
     make-tracked-requires
     (λ c. let noted = c in
-    let turn = noted in
-    omega (arith, turn.loop-i-test.true, turn.requires.0.2))
+    omega (arith, noted.loop-i-test.true, noted.requires.0.2))
     (λ c. let noted = c in
     omega (arith, noted.loop-i-test.true))
     loop-again
