@@ -246,6 +246,8 @@ pub data D : Type 0 where
   made : D
 ◌+◌ : A
 ◌+◌ = used
+pub told : A
+told = told
 ";
     const MORE: &str = "\
 use Rattle.a.specs.Laws.{used, made, ◌+◌}
@@ -254,6 +256,12 @@ pub theorem : A
 theorem = used made
 other : A
 other = theorem.helper
+";
+    const CODE: &str = "\
+ghost use Rattle.a.specs.Laws.{D};
+#[tactic(auto, using(a::specs::Laws::told))]
+fn f() requires { laws } { dead(D) }
+// dead
 ";
     const PROOF: &str = "\
 use Rattle.a.specs.Laws.{used as mine, ◌+◌}
@@ -266,7 +274,7 @@ f = mine + mine
             ("crates/a/specs/Laws.antt", LAWS),
             ("crates/b/specs/More.antt", MORE),
             ("crates/b/proofs/f/Proof.antt", PROOF),
-            ("crates/b/src/lib.rt", "ghost use Rattle.a.specs.Laws.{D};\nfn f() requires { ⌜ laws ⌝ }\n// dead\n"),
+            ("crates/b/src/lib.rt", CODE),
             (THEOREMS, listed),
         ])
     }
