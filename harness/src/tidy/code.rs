@@ -7,13 +7,11 @@ const MOST_COLUMNS: usize = 160;
 /// The two passes of the serial log and the function that lends them their arrays, the functions of the list of open
 /// moves that hand a page on, and the moves of an unattended run. `rt fmt` gives each argument of such a call a line, and
 /// the prover lends no struct of references, so they stay long.
-const LENDING: [(&str, &str); 10] = [
+const LENDING: [(&str, &str); 8] = [
     ("crates/choices/src/page.rt", "fill"),
     ("crates/groups/src/pages.rt", "group_page"),
-    ("crates/listing/src/list.rt", "listed"),
     ("crates/listing/src/list.rt", "open_moves"),
     ("crates/listing/src/reactions.rt", "reactions"),
-    ("crates/rule_moves/src/plain.rt", "plain_moves"),
     ("crates/recording/src/record.rt", "record"),
     ("crates/replay/src/lib.rt", "replay"),
     ("crates/serial/src/lib.rt", "serialized"),
