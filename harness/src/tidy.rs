@@ -33,6 +33,9 @@ pub struct File {
     pub text: String,
 }
 
+/// What the files of a function's own proof are called.
+const OF_FUNCTIONS: [&str; 3] = ["Proof.antt", "Invariants.antt", "Answers.antt"];
+
 /// The part of a crate that a file belongs to.
 #[derive(Clone, Copy, Debug, PartialEq, Eq)]
 pub enum Part {
@@ -74,7 +77,15 @@ impl File {
     pub fn is_theory(&self) -> bool {
         matches!(self.part(), Some(Part::Specs | Part::Proofs))
             && self.path.ends_with(".antt")
-            && self.name() != "Proof.antt"
+            && self.function().is_none()
+    }
+
+    /// The function whose own proof this is, in whole or in part: proofs/MODULE/../FUNCTION/Answers.antt, say.
+    pub fn function(&self) -> Option<&str> {
+        let mut above = self.path.rsplit('/');
+        let is_own = OF_FUNCTIONS.contains(&above.next()?) && self.part() == Some(Part::Proofs);
+        let function = above.next()?;
+        (is_own && function != "proofs").then_some(function)
     }
 
     /// Its lines, numbered from 1.
@@ -111,11 +122,23 @@ impl Tree {
 
     /// The crates of crates.txt with their lines, in order.
     pub fn crates(&self) -> Vec<(usize, &str)> {
+        self.rows().into_iter().map(|(number, own, _)| (number, own)).collect()
+    }
+
+    /// The same with what each crate needs. Behind a name a row may say what kind of library it is.
+    pub fn rows(&self) -> Vec<(usize, &str, &str)> {
         let lines = self.file("crates.txt").into_iter().flat_map(File::lines);
-        let named = lines.filter(|(_, line)| !line.starts_with('#'));
-        named.filter_map(|(number, line)| Some((number, line.split_once(':')?.0.trim()))).collect()
+        let rows = lines.filter_map(|(number, line)| {
+            let line = line.split('#').next().unwrap_or_default();
+            let (own, needs) = line.split_once(':').unwrap_or((line, ""));
+            Some((number, own.split_whitespace().next()?, needs))
+        });
+        rows.collect()
     }
 }
+
+/// Folders that hold only what is made.
+const MADE: [&str; 3] = ["target", "out", ".git"];
 
 fn read_folder(folder: &Path, path: &str, files: &mut Vec<File>) {
     let entries = fs::read_dir(folder).unwrap_or_else(|error| panic!("{}: {error}", folder.display()));
@@ -125,7 +148,7 @@ fn read_folder(folder: &Path, path: &str, files: &mut Vec<File>) {
         let name = entry.file_name().into_string().unwrap();
         let below = if path.is_empty() { name.clone() } else { format!("{path}/{name}") };
         let kind = entry.file_type().unwrap();
-        if kind.is_dir() && name != "target" && name != ".git" {
+        if kind.is_dir() && !MADE.contains(&&*name) {
             read_folder(&entry.path(), &below, files);
         } else if kind.is_file() && name != ".git" {
             let text = String::from_utf8(fs::read(entry.path()).unwrap());

@@ -217,7 +217,8 @@ pub fn uses<'a>(file: &[Token<'a>]) -> (Vec<Use<'a>>, Vec<Token<'a>>) {
     let mut place = 0;
     while place < file.len() {
         let begins = file[place].first && matches!(file[place].text, "use" | "ghost");
-        let end = place + 1 + file[place + 1..].iter().take_while(|token| !token.first).count();
+        let inside = |token: &&Token| !token.first || (begins && token.column > file[place].column);
+        let end = place + 1 + file[place + 1..].iter().take_while(inside).count();
         if begins {
             found.push(one_use(&file[place..end]));
         } else {
@@ -226,6 +227,24 @@ pub fn uses<'a>(file: &[Token<'a>]) -> (Vec<Use<'a>>, Vec<Token<'a>>) {
         place = end;
     }
     (found, rest)
+}
+
+/// What code says to the prover: its clauses, and what its attributes hand to the tactics.
+pub fn said<'a>(code: &[Token<'a>]) -> Vec<Token<'a>> {
+    let mut found = Vec::new();
+    for (place, token) in code.iter().enumerate() {
+        let opens = |text: &str| code[place..].iter().take(4).position(|token| token.text == text);
+        let opened = match token.text {
+            "requires" | "requires*" | "ensures" | "ensures*" | "ghost" => opens("{"),
+            text if text.ends_with("[tactic") => opens("("),
+            _ => None,
+        };
+        let Some(start) = opened.map(|behind| place + behind) else { continue };
+        let closing = if code[start].text == "{" { "}" } else { ")" };
+        let end = outside(&code[start..], closing).map_or(code.len(), |length| start + length);
+        found.extend(&code[start..end]);
+    }
+    found
 }
 
 fn one_use<'a>(line: &[Token<'a>]) -> Use<'a> {
@@ -252,7 +271,8 @@ mod tests {
 
     const FILE: &str = "\
 -- what it holds
-use a.b.{x, _+_, y as z}
+use a.b.{x, ◌+◌,
+    y as z}
 use a.c as d
 
 abbrev pub one : A → A
@@ -287,16 +307,16 @@ last = p
         };
         let all: Vec<String> = declarations(&file).into_iter().map(shown).collect();
         let wanted = [
-            "5 one Unfolds true 0 : A → A",
-            "10 Pair Type true 1 : Type 0",
-            "14 law Plain false 1 : ( a : A ) → a ≡ a",
-            "21 T Type true 0 : Type 0",
-            "23 last Plain false 0 : T",
+            "6 one Unfolds true 0 : A → A",
+            "11 Pair Type true 1 : Type 0",
+            "15 law Plain false 1 : ( a : A ) → a ≡ a",
+            "22 T Type true 0 : Type 0",
+            "24 last Plain false 0 : T",
         ];
         assert_eq!(all, wanted);
         let all = declarations(&file);
         assert_eq!((&all[1].members[..], &all[3].members[..]), (&["left", "right"][..], &["p", "q"][..]));
-        assert_eq!(all[2].text.last().unwrap().line, 19);
+        assert_eq!(all[2].text.last().unwrap().line, 20);
         assert_eq!(all[4].text.last().unwrap().text, "p");
     }
 
@@ -305,11 +325,23 @@ last = p
     fn uses_of_a_file() {
         let file = tokens(FILE, "--");
         let (found, rest) = uses(&file);
-        let whole = Use { line: 3, path: vec!["a", "c"], alias: Some("d"), ..Use::default() };
-        let names = vec![("x", "x"), ("_+_", "_+_"), ("z", "y")];
+        let whole = Use { line: 4, path: vec!["a", "c"], alias: Some("d"), ..Use::default() };
+        let names = vec![("x", "x"), ("◌+◌", "◌+◌"), ("z", "y")];
         assert_eq!(found, [Use { line: 2, path: vec!["a", "b"], names, alias: None }, whole]);
-        assert_eq!(rest[0].line, 5);
+        assert_eq!(rest[0].line, 6);
         let ghost = tokens("ghost use a.b.{x};\nfn f() {} // use\n", "//");
         assert_eq!(uses(&ghost).0, [Use { line: 1, path: vec!["a", "b"], names: vec![("x", "x")], alias: None }]);
+    }
+
+    // Catches code that is taken for a clause, and a clause or an attribute that is not seen.
+    #[test]
+    fn what_code_says() {
+        let code = tokens(
+            "#[tactic(auto, using(crate::proofs::M::law))]\nfn f(x: u32)\n    requires { p x }\n    ensures new { q (x) {A = B} }\n{\n    g(S { x })\n}\n",
+            "//",
+        );
+        let words: Vec<&str> = said(&code).iter().map(|token| token.text).collect();
+        let wanted = "( auto , using ( crate::proofs::M::law ) { p x { q ( x ) { A = B }";
+        assert_eq!(words.join(" "), wanted);
     }
 }

@@ -2,7 +2,7 @@
 //! definition or a law stands if something that stands cites it, or if it is listed for readers.
 use std::collections::{BTreeMap, BTreeSet};
 
-use super::antt::{declarations, tokens, uses, Declaration, Token, Use};
+use super::antt::{declarations, said, tokens, uses, Declaration, Token, Use};
 use super::{File, Finding, Part, Tree, THEOREMS};
 
 /// A file of Rattle and its tokens.
@@ -21,6 +21,13 @@ pub fn sources(tree: &Tree) -> Vec<Source<'_>> {
     tree.files.iter().filter_map(with).collect()
 }
 
+/// What a file brings in, and where it can mention that: of code, in what it says to the prover.
+fn mentions<'a>(source: &Source<'a>) -> (Vec<Use<'a>>, Vec<Token<'a>>) {
+    let (uses, rest) = uses(&source.tokens);
+    let is_code = source.file.part() == Some(Part::Src);
+    (uses, if is_code { said(&rest) } else { rest })
+}
+
 /// The declarations of all files, and where each name of a file is declared.
 struct Index<'a> {
     all: Vec<(&'a File, Declaration<'a>)>,
@@ -35,15 +42,25 @@ struct Scope<'a> {
 
 /// The file that a path of `use` leads to.
 fn file_of(path: &[&str]) -> Option<String> {
-    let &[of, part, name] = path else { return None };
-    let of = of.strip_prefix("Rattle·")?;
-    let of = of.strip_suffix("·specs").or(of.strip_suffix("·proofs")).unwrap_or(of);
-    Some(format!("crates/{of}/{part}/{name}.antt"))
+    let &["Rattle", of, part, ref modules @ ..] = path else { return None };
+    (!modules.is_empty()).then(|| format!("crates/{of}/{part}/{}.antt", modules.join("/")))
+}
+
+/// The file and the name that a path of code leads to: `crate::proofs::M::law`.
+fn by_code<'a>(own: &'a str, path: &'a str) -> Option<(String, &'a str)> {
+    let (modules, name) = path.rsplit_once("::")?;
+    let mut modules: Vec<&str> = modules.split("::").collect();
+    if modules[0] == "crate" {
+        modules[0] = own;
+    }
+    let file = file_of(&[&["Rattle"], &modules[..]].concat())?;
+    Some((file, name))
 }
 
 /// An operator is cited by its parts too.
 fn spellings(name: &str) -> impl Iterator<Item = &str> {
-    let parts = if name.contains('_') { name.split('_').filter(|part| !part.is_empty()).collect() } else { Vec::new() };
+    let parts =
+        if name.contains('◌') { name.split('◌').filter(|part| !part.is_empty()).collect() } else { Vec::new() };
     std::iter::once(name).chain(parts)
 }
 
@@ -115,13 +132,16 @@ impl<'a> Graph<'a> {
     fn new(sources: &'a [Source<'a>]) -> Graph<'a> {
         let index = Index::new(sources);
         let scopes = sources.iter().map(|source| {
-            let (uses, rest) = uses(&source.tokens);
+            let (uses, rest) = mentions(source);
             (source.file.path.as_str(), (index.scope(source.file, &uses), rest))
         });
         let scopes: BTreeMap<&str, _> = scopes.collect();
         let roots = sources.iter().filter(|source| !source.file.is_theory()).flat_map(|source| {
             let (scope, rest) = &scopes[source.file.path.as_str()];
-            index.cited(scope, rest)
+            let (own, _) = source.file.place().unwrap();
+            let by_code = rest.iter().filter_map(|token| by_code(own, token.text));
+            let by_code = by_code.flat_map(|(path, name)| index.places(&path, name)).copied();
+            index.cited(scope, rest).into_iter().chain(by_code).collect::<Vec<_>>()
         });
         let roots = roots.collect();
         let cites = index.all.iter().map(|(file, declaration)| {
@@ -194,7 +214,7 @@ pub fn listed(tree: &Tree) -> Vec<Finding> {
 pub fn unused(tree: &Tree) -> Vec<Finding> {
     let mut found = Vec::new();
     for source in sources(tree) {
-        let (uses, rest) = uses(&source.tokens);
+        let (uses, rest) = mentions(&source);
         let mentioned: BTreeSet<&str> = rest.iter().map(|token| token.text).collect();
         let ghost = uses.iter().filter(|one| one.path.len() > 1);
         for (one, name) in
@@ -224,19 +244,27 @@ pub label : A
 label = helper
 pub data D : Type 0 where
   made : D
-_+_ : A
-_+_ = used
+◌+◌ : A
+◌+◌ = used
+pub told : A
+told = told
 ";
     const MORE: &str = "\
-use Rattle·a.specs.Laws.{used, made, _+_}
-use Rattle·a.specs.Laws as laws
+use Rattle.a.specs.Laws.{used, made, ◌+◌}
+use Rattle.a.specs.Laws as laws
 pub theorem : A
 theorem = used made
 other : A
-other = theorem .helper
+other = theorem.helper
+";
+    const CODE: &str = "\
+ghost use Rattle.a.specs.Laws.{D};
+#[tactic(auto, using(a::specs::Laws::told))]
+fn f() requires { laws } { dead(D) }
+// dead
 ";
     const PROOF: &str = "\
-use Rattle·a.specs.Laws.{used as mine, _+_}
+use Rattle.a.specs.Laws.{used as mine, ◌+◌}
 f : A
 f = mine + mine
 ";
@@ -246,7 +274,7 @@ f = mine + mine
             ("crates/a/specs/Laws.antt", LAWS),
             ("crates/b/specs/More.antt", MORE),
             ("crates/b/proofs/f/Proof.antt", PROOF),
-            ("crates/b/src/lib.rt", "ghost use Rattle·a.specs.Laws.{D};\nfn f() requires { ⌜ laws ⌝ }\n// dead\n"),
+            ("crates/b/src/lib.rt", CODE),
             (THEOREMS, listed),
         ])
     }
@@ -286,7 +314,7 @@ f = mine + mine
     #[test]
     fn unused_names_are_found() {
         let wanted = [
-            "crates/b/specs/More.antt:1: _+_ is brought in and not used",
+            "crates/b/specs/More.antt:1: ◌+◌ is brought in and not used",
             "crates/b/specs/More.antt:2: laws is brought in and not used",
             "crates/b/src/lib.rt:1: D is brought in and not used",
         ];

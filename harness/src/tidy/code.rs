@@ -7,13 +7,11 @@ const MOST_COLUMNS: usize = 160;
 /// The two passes of the serial log and the function that lends them their arrays, the functions of the list of open
 /// moves that hand a page on, and the moves of an unattended run. `rt fmt` gives each argument of such a call a line, and
 /// the prover lends no struct of references, so they stay long.
-const LENDING: [(&str, &str); 10] = [
+const LENDING: [(&str, &str); 8] = [
     ("crates/choices/src/page.rt", "fill"),
     ("crates/groups/src/pages.rt", "group_page"),
-    ("crates/listing/src/list.rt", "listed"),
     ("crates/listing/src/list.rt", "open_moves"),
     ("crates/listing/src/reactions.rt", "reactions"),
-    ("crates/rule_moves/src/plain.rt", "plain_moves"),
     ("crates/recording/src/record.rt", "record"),
     ("crates/replay/src/lib.rt", "replay"),
     ("crates/serial/src/lib.rt", "serialized"),
@@ -41,17 +39,34 @@ fn functions(text: &str) -> Vec<(usize, &str, usize)> {
         let Some(name) = function(line) else { continue };
         let indent = line.len() - line.trim_start().len();
         let ends = |line: &&str| line.trim_start() == "}" && line.len() == indent + 1;
-        let closed = line.ends_with('}') && !line.contains('⌜');
-        let length = if closed { Some(0) } else { lines[place..].iter().position(ends) };
+        let length = if closes(line) { Some(0) } else { lines[place..].iter().position(ends) };
         found.push((place + 1, name, length.map_or(lines.len() - place, |length| length + 1)));
     }
     found
 }
 
+/// Whether the function that a line begins ends in it: by its body, and not by a clause.
+fn closes(line: &str) -> bool {
+    let words = line.split_whitespace();
+    let clauses = words.filter(|word| matches!(word.trim_end_matches('*'), "requires" | "ensures")).count();
+    let (mut depth, mut groups) = (0, 0);
+    for sign in line.chars() {
+        match sign {
+            '{' => depth += 1,
+            '}' => depth -= 1,
+            _ => continue,
+        }
+        groups += usize::from(depth == 0);
+    }
+    line.ends_with('}') && depth == 0 && groups > clauses
+}
+
 /// The name of the function that a line begins.
 fn function(line: &str) -> Option<&str> {
     let mut rest = line.trim_start();
-    while let Some(behind) = ["pub ", "const ", "extern \"C\" "].iter().find_map(|mark| rest.strip_prefix(mark)) {
+    while let Some(behind) =
+        ["pub ", "const ", "unsafe ", "extern \"C\" "].iter().find_map(|mark| rest.strip_prefix(mark))
+    {
         rest = behind;
     }
     rest.strip_prefix("fn ")?.split(|sign: char| !sign.is_alphanumeric() && sign != '_').next()
@@ -67,15 +82,23 @@ pub fn wide_proofs(tree: &Tree) -> Vec<Finding> {
     wide(tree, &[Part::Proofs])
 }
 
-/// Lists of names may be as wide as they are.
+/// Lists of names may be as wide as they are, on all their lines.
 fn wide(tree: &Tree, parts: &[Part]) -> Vec<Finding> {
-    let is_list =
+    let begins_list =
         |line: &str| ["use ", "ghost use ", "unfolding "].iter().any(|word| line.trim_start().starts_with(word));
     let mut found = Vec::new();
     for file in tree.files.iter().filter(|file| file.part().is_some_and(|part| parts.contains(&part))) {
-        for (number, line) in file.lines().filter(|(_, line)| !is_list(line)) {
+        // How far the list is indented that a line may go on.
+        let mut list = None;
+        for (number, line) in file.lines() {
+            let indent = line.len() - line.trim_start().len();
+            if begins_list(line) {
+                list = Some(indent);
+            } else if list.is_some_and(|first| indent <= first) {
+                list = None;
+            }
             let columns = line.chars().count();
-            if columns > MOST_COLUMNS {
+            if list.is_none() && columns > MOST_COLUMNS {
                 found.push(file.at(number, format!("{columns} columns")));
             }
         }
@@ -175,11 +198,17 @@ mod tests {
             of("fn right() {", 40),
             of("pub extern \"C\" fn wrong(", 41),
             "fn short() {}\n".into(),
+            "fn one() ensures { x } { f() }\n".into(),
+            of("fn clause() ensures { x }\n{", 41),
             of("fn x() {", 3),
             inner,
         ];
         let tree = Tree::of(&[("crates/a/src/lib.rt", &text.concat())]);
-        let wanted = ["crates/a/src/lib.rt:41: fn wrong has 41 lines", "crates/a/src/lib.rt:87: fn inner has 41 lines"];
+        let wanted = [
+            "crates/a/src/lib.rt:41: fn wrong has 41 lines",
+            "crates/a/src/lib.rt:84: fn clause has 42 lines",
+            "crates/a/src/lib.rt:130: fn inner has 41 lines",
+        ];
         assert_eq!(shown(long_functions(&tree)), wanted);
     }
 
@@ -187,14 +216,14 @@ mod tests {
     #[test]
     fn wide_lines_are_found() {
         let (right, wrong) = ("≡".repeat(160), "≡".repeat(161));
-        let text = format!("{right}\nuse {wrong}\n  unfolding {wrong}\nghost use {wrong}\n{wrong}\n");
+        let text = format!("{right}\nuse {wrong}\n  unfolding {wrong}\n    {wrong}\nghost use {wrong}\n{wrong}\n");
         let tree = Tree::of(&[
             ("crates/a/specs/A.antt", &text),
             ("crates/a/proofs/f/Proof.antt", &text),
             ("docs/A.md", &text),
         ]);
-        assert_eq!(shown(wide_code(&tree)), ["crates/a/specs/A.antt:5: 161 columns"]);
-        assert_eq!(shown(wide_proofs(&tree)), ["crates/a/proofs/f/Proof.antt:5: 161 columns"]);
+        assert_eq!(shown(wide_code(&tree)), ["crates/a/specs/A.antt:6: 161 columns"]);
+        assert_eq!(shown(wide_proofs(&tree)), ["crates/a/proofs/f/Proof.antt:6: 161 columns"]);
     }
 
     // Catches a field by hand that is missed, or one that is found where fields are at home.
@@ -228,8 +257,19 @@ mod tests {
             ("crates/a/specs/A.antt", "-- what it holds\n"),
             ("crates/a/specs/B.antt", "use x.{y}\n"),
             ("crates/a/specs/Lib.antt", "pub mod A\n"),
+            ("crates/a/specs/Answers.antt", "use x.{y}\n"),
             ("crates/a/proofs/f/Proof.antt", "use x.{y}\n"),
+            ("crates/a/proofs/f/Answers.antt", "use x.{y}\n"),
+            ("crates/a/proofs/f/Invariants.antt", "use x.{y}\n"),
+            ("crates/a/proofs/Answers.antt", "use x.{y}\n"),
         ]);
-        assert_eq!(shown(without_head(&tree)), ["crates/a/specs/B.antt:1: does not say what it holds"]);
+        assert_eq!(
+            shown(without_head(&tree)),
+            ["B", "Answers"]
+                .map(|name| format!("crates/a/specs/{name}.antt:1: does not say what it holds"))
+                .into_iter()
+                .chain(["crates/a/proofs/Answers.antt:1: does not say what it holds".into()])
+                .collect::<Vec<_>>()
+        );
     }
 }

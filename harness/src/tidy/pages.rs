@@ -63,12 +63,20 @@ pub fn edits_listed(tree: &Tree) -> Vec<Finding> {
     found
 }
 
-/// A function with a proof of its own, or a file of specs/ by its name.
+/// A function with a proof of its own, one of the code, which may be proved with no file, or a file of specs/ or
+/// proofs/ by its name.
 fn has_proof(tree: &Tree, own: &str, name: &str) -> bool {
-    let (of_function, of_file) = (format!("/{name}/Proof.antt"), format!("crates/{own}/specs/{name}"));
-    let of_crate = format!("crates/{own}/proofs/");
-    let mut files = tree.files.iter();
-    files.any(|file| file.path == of_file || (file.path.starts_with(&of_crate) && file.path.ends_with(&of_function)))
+    let of_crate = |file: &File| file.place().is_some_and(|(crate_name, _)| crate_name == own);
+    let declared = format!("fn {name}");
+    let in_code = |text: &str| {
+        let mut found = text.match_indices(&declared).map(|(place, _)| &text[place + declared.len()..]);
+        found.any(|behind| behind.starts_with(['(', '<']))
+    };
+    tree.files.iter().filter(|file| of_crate(file)).any(|file| match file.part() {
+        Some(Part::Src) => in_code(&file.text),
+        Some(Part::Specs | Part::Proofs) => file.function() == Some(name) || (file.is_theory() && file.name() == name),
+        _ => false,
+    })
 }
 
 /// Crates that stand above one that they depend on, and dependencies that no file of theirs names. A
@@ -77,8 +85,7 @@ pub fn layers(tree: &Tree) -> Vec<Finding> {
     let page = tree.file("crates.txt").unwrap_or_else(|| panic!("no crates.txt"));
     let crates = tree.crates();
     let mut found = Vec::new();
-    for (number, line) in page.lines().filter(|(_, line)| !line.starts_with('#')) {
-        let Some((own, needs)) = line.split_once(':') else { continue };
+    for (number, own, needs) in tree.rows() {
         for need in needs.split_whitespace() {
             let Some((below, _)) = crates.iter().find(|(_, name)| *name == need) else { continue };
             if *below > number {
@@ -94,7 +101,7 @@ pub fn layers(tree: &Tree) -> Vec<Finding> {
 
 /// Whether a file of this crate names something of that one.
 fn names_crate(tree: &Tree, own: &str, need: &str) -> bool {
-    let (in_code, in_theory) = (format!("{need}::"), format!("Rattle·{need}."));
+    let (in_code, in_theory) = (format!("{need}::"), format!("Rattle.{need}."));
     let is_path = |before: &str| !before.ends_with(|sign: char| sign.is_alphanumeric() || sign == '_' || sign == ':');
     let named = |text: &str| text.match_indices(&in_code).any(|(place, _)| is_path(&text[..place]));
     let files = tree.files.iter().filter(|file| file.place().is_some_and(|(name, _)| name == own));
@@ -243,13 +250,17 @@ mod tests {
     // function that is gone.
     #[test]
     fn edits_and_the_page_agree() {
-        let page = "# E\n\n`a` (x)\n\n| edit | what | error |\n|---|---|---|\n| `right` | why | `f`, y |\n| `other` | because | `Case.antt`, y |\n| `gone` | why | `g`, y |\n";
+        let page = "# E\n\n`a` (x)\n\n| edit | what | error |\n|---|---|---|\n| `right` | why | `f`, y |\n| `other` | because | `Case.antt`, y |\n| `gone` | why | `g`, y |\n| `auto` | why | `h`, y |\n| `parts` | why | `k`, y |\n";
         let tree = Tree::of(&[
             (EDITS, page),
             ("crates/a/proofs/m/f/Proof.antt", ""),
             ("crates/b/proofs/m/g/Proof.antt", ""),
             ("crates/a/specs/Case.antt", ""),
+            ("crates/a/src/m.rt", "pub fn h(x: u32) {}\nfn go() {}\n"),
+            ("crates/a/proofs/m/k/Answers.antt", ""),
             ("crates/a/must-fail/right.edit", "# why.\nfile: src/lib.rt\n"),
+            ("crates/a/must-fail/auto.edit", "# why.\nfile: src/lib.rt\n"),
+            ("crates/a/must-fail/parts.edit", "# why.\nfile: src/lib.rt\n"),
             ("crates/a/must-fail/other.edit", "# why\nfile: src/lib.rt\n"),
             ("crates/b/must-fail/right.edit", "# why\nfile: src/lib.rt\n"),
         ]);
@@ -266,9 +277,9 @@ mod tests {
     #[test]
     fn layers_are_held() {
         let tree = Tree::of(&[
-            ("crates.txt", "# all\nhigh: low mid none types io\nlow:\nmid: low\nnone:\ntypes:\n"),
+            ("crates.txt", "# all\nhigh staticlib: low mid none types io # kit\nlow:\nmid: low\nnone:\ntypes:\n"),
             ("crates/high/src/lib.rt", "use low::f;\nuse other_none::f;\nuse crate::none::f;\n"),
-            ("crates/high/proofs/f/Proof.antt", "use Rattle·mid.specs.A.{x}\n"),
+            ("crates/high/proofs/f/Proof.antt", "use Rattle.mid.specs.A.{x}\n"),
             ("crates/mid/src/lib.rt", "low::f()\n"),
             ("crates/types/src/lib.rt", "pub struct S {\n"),
         ]);
@@ -299,7 +310,7 @@ mod tests {
             `a/src/lib.rt`, `src/gone.rt`, `NOT_OURS`, `x`, `rt dev x-y`, `u32`, `gone-`\n";
         let tree = Tree::of(&[
             ("docs/A.md", page),
-            ("crates/a/src/lib.rt", "fn a_one(x: &u32) requires { ⌜ AFour ⌝ }\n"),
+            ("crates/a/src/lib.rt", "fn a_one(x: &u32) requires { AFour }\n"),
             ("crates/a/specs/A.antt", "a-two : aThree [] ≡ x\n"),
         ]);
         let gone = |line: usize, name: &str| format!("docs/A.md:{line}: {name} is not there");
