@@ -24,7 +24,7 @@ use Rattle.state.specs.Arrays.{HoldsIn}
 use Rattle.reaction.specs.Decoded.{rule_in, making_atoms, making_count}
 use Rattle.state.specs.Lent.{state_from}
 use Rattle.reaction.specs.Verdict.{react_verdict, verdict-allowed, picks-fit, count_left}
-use Rattle.reaction.specs.Places.{Places, four_at, places, owners-found, column, entries, values-at}
+use Rattle.reaction.specs.Places.{Places, four_at, places, owners-found, column, values-at}
 use Rattle.products.specs.Products.{merged_owner, next_after, products_from, products-from, products-same}
 use Rattle.products.proofs.Merging.{merged-rows}
 use Rattle.lists.specs.Padded.{get_or-padded, map-padded}

@@ -14,9 +14,7 @@ use Rattle.semantics.specs.Move.{picked, on_ports, picks_ok, owners_at, owners_f
 use Rattle.semantics.specs.declared.Refusal.TheVariants.{WrongPick, WrongOwner, NoMoreIds, TooManyEntries, TransactionAborting}
 use Rattle.semantics.specs.declared.Verdict.TheVariants.{Allowed, Denied}
 use Rattle.wellformed.specs.Picks.{ReactGiven}
-use Rattle.state.specs.declared.State.{State}
 use Rattle.reaction.specs.Verdict.{react_verdict}
-use Rattle.reaction.specs.Places.{entries}
 use Rattle.semantics.specs.Table as rules
 use Rattle.semantics.specs.State as semantics
 

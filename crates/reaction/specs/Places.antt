@@ -16,7 +16,6 @@ use Rattle.state.specs.Working.{row_of}
 use Rattle.reaction.specs.Decoded.{rule_in}
 use Rattle.wellformed.specs.Tables.{LegalRule}
 use Rattle.wellformed.specs.Picks.{picks-within}
-use Rattle.state.specs.declared.State.{State}
 use Rattle.state.specs.declared.Extent.{Extent}
 use Rattle.state.specs.Lent.{state_from}
 use Rattle.semantics.specs.State as semantics

@@ -24,8 +24,7 @@ count-atoms-requires c κs =
 
 returns : tie.Need-returns
 returns c =
-    let p = c.requires in
-    (
+    let p = c.requires in (
       c.count_atoms.ensures.size,
       λ s ps i reacts calm.
           words-after _ _ _ p.0 p.1 p.2 c.atom_words_of.ensures c.sizes_of-z.ensures c.rule_words-ws.ensures
