@@ -27,10 +27,10 @@ fn report(rt: &impl Print, bytes: &[u8]) -> io::Result<()>
     print_lines(rt, &shown.lines, count)
 }
 
-// Reads one byte more than the 32,800 of the longest input, so that bytes left over show. A read or
-// a write that fails is the program's error; a refusal is none, and has its line.
+// Reads one byte more than the 32,800 of the longest input, so that bytes left over show. A write
+// that fails is the program's error; a refusal is none, and has its line.
 pub fn run(rt: &(impl Input + Print)) -> io::Result<()> {
     let mut bytes = [0u8; 32801];
-    let got = read_full(&mut rt.reader(), &mut bytes)?;
+    let got = read_full(&mut rt.reader(), &mut bytes);
     report(rt, &bytes[..got])
 }
