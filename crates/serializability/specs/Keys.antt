@@ -32,7 +32,8 @@ deeds t i s (m ∷ ms) =
 pub acts-deeds : (t : Table) (i : ℕ) (s : State) (ms : List Move) → acts t i s ms ≡ map act_of (deeds t i s ms)
 unfolding acts deeds handled
 acts-deeds t i s [] = refl
-acts-deeds t i s (m ∷ ms) = λ j. record { place = i; move = m; picks = same m j; members = members_of t i s m } ∷ acts-deeds t (suc i) (after t (suc i) s m) ms j
+acts-deeds t i s (m ∷ ms) =
+    λ j. record { place = i; move = m; picks = same m j; members = members_of t i s m } ∷ acts-deeds t (suc i) (after t (suc i) s m) ms j
   where
     same : (m : Move) → picks_of s m ≡ picks_by m (handled s m)
     same (react r ps) = refl

@@ -36,9 +36,11 @@ returns c =
     let sizes = count.requires.1 in
     let (n, q) = count.entry_count-len.ensures in
     loaded q n
-    (rw owners.owners_of.ensures.value at (copied-column _ _ _ _ (owners-whole owners.before.before.before.before.before.before.before.before) sizes.owners (within count.before.before.before.before.before.before.before.before.before)
+    (rw owners.owners_of.ensures.value at (copied-column _ _ _ _ (owners-whole owners.before.before.before.before.before.before.before.before) sizes.owners
+    (within count.before.before.before.before.before.before.before.before.before)
     items.narrow_words.ensures))
-    (rw items.items_of.ensures.value at (copied-column _ _ _ _ (items-whole items.before.before.before.before.before) sizes.items (within count.before.before.before.before.before.before.before.before.before)
+    (rw items.items_of.ensures.value at (copied-column _ _ _ _ (items-whole items.before.before.before.before.before) sizes.items
+    (within count.before.before.before.before.before.before.before.before.before)
     c.copy_words.ensures))
     c.number_column.ensures
 

@@ -50,7 +50,12 @@ add-counts : tie.Need-overflow_add-counts Inv μ
 add-counts c =
     let turn = c in
     let (k, first, second, third, fourth, w, h, top) = turn.loop-i.invariant in
-    omega (arith, word_fits h (inside turn.before.before.before.before) (short turn.before.before.before.before) _ (here turn.before.before.before.before) (small turn.before.before.before.before), weight-small _ _ _ _ w _ (low-port turn.before.before.before.before))
+    omega (
+      arith,
+      word_fits h (inside turn.before.before.before.before) (short turn.before.before.before.before) _ (here turn.before.before.before.before)
+          (small turn.before.before.before.before),
+      weight-small _ _ _ _ w _ (low-port turn.before.before.before.before),
+    )
 
 loop-again : tie.Need-loop-i-preserved Inv μ
 loop-again c =
@@ -63,7 +68,9 @@ loop-again c =
       third,
       fourth,
       w,
-      grouping-next h (inside turn.before.before.before.before.before) (short turn.before.before.before.before.before) _ (here turn.before.before.before.before.before) (small turn.before.before.before.before.before) first second third fourth (w.each _ (low-port turn.before.before.before.before.before)),
+      grouping-next h (inside turn.before.before.before.before.before) (short turn.before.before.before.before.before) _
+          (here turn.before.before.before.before.before) (small turn.before.before.before.before.before) first second third fourth
+          (w.each _ (low-port turn.before.before.before.before.before)),
       top-next turn.loop-i.i turn.args.keys.now top low high most,
     )
 

@@ -92,8 +92,10 @@ grouped c =
     let a = s.args in
     let p = s.requires.0 in
     let four : length a.takes ≡ 4 = search rules in
-    let first : get_or (take a.n a.keys.now) turn.loop-p.p 0 % 512 ≡ get_or a.takes 0 0 = rw (here turn.before.before.before.before) (omega (arith, c.if-key-t.false)) in
-    rw (here turn.before.before.before.before) at (in_group (take a.n a.keys.now) a.k p.1 p.2 a.takes four p.3 turn.loop-p.p (inside turn.before.before.before.before)
+    let first : get_or (take a.n a.keys.now) turn.loop-p.p 0 % 512 ≡ get_or a.takes 0 0 =
+    rw (here turn.before.before.before.before) (omega (arith, c.if-key-t.false)) in
+    rw (here turn.before.before.before.before) at
+    (in_group (take a.n a.keys.now) a.k p.1 p.2 a.takes four p.3 turn.loop-p.p (inside turn.before.before.before.before)
     (rw (here turn.before.before.before.before) (small turn.before.before.before.before)) first)
 
 -- .. and come next
@@ -164,7 +166,12 @@ fill-requires c κs =
 add_done : tie.Need-overflow_add-done Inv μ
 add_done c =
     let turn = c in
-    omega (arith, paged-le _ 5 c.fill-done.ensures, done-le turn.before.before.before.before.before.before.before.before.before.before.before, turn.requires.1.0)
+    omega (
+      arith,
+      paged-le _ 5 c.fill-done.ensures,
+      done-le turn.before.before.before.before.before.before.before.before.before.before.before,
+      turn.requires.1.0,
+    )
 
 loop-again-3 : tie.Need-loop-p-preserved Inv μ
 loop-again-3 c =
@@ -173,12 +180,14 @@ loop-again-3 c =
     let a = turn.args in
     let l = turn.loop-p in
     let g = grouped first.before.before.before.before.before.before.before in
-    let k : get_or (take a.n a.keys.now) l.p 0 ≡ get_or a.keys.now l.p 0 = here turn.before.before.before.before.before.before.before.before.before.before.before in
+    let k : get_or (take a.n a.keys.now) l.p 0 ≡ get_or a.keys.now l.p 0 =
+    here turn.before.before.before.before.before.before.before.before.before.before.before in
     let w = g.width ∙ sym (ap (λ (x : List ℕ). get_or x 0 0) c.widths_in-below.ensures) in
     let wrote = g.paged (rw (c.shifted-wanted.ensures, ← k) at c.fill-done.ensures) in
     let more = paging-more (choice_words a.head no_picks 0) 5 (five-words a.head no_picks 0 refl) l.invariant.1
     (choices_in (take a.n a.keys.now) (get_or a.takes 0 0) (rest_of a.takes a.k) l.p)
-    (groups_from (take a.n a.keys.now) (get_or a.takes 0 0) (rest_of a.takes a.k) (l.p + 1)) _ _ (next first.before.before.before.before.before.before.before) wrote in
+    (groups_from (take a.n a.keys.now) (get_or a.takes 0 0) (rest_of a.takes a.k) (l.p + 1)) _ _
+    (next first.before.before.before.before.before.before.before) wrote in
     let none : l.skip - length (choices_in (take a.n a.keys.now) (get_or a.takes 0 0) (rest_of a.takes a.k) l.p) ≡ 0 = omega
     (arith, w, c.if-width-skip.false) in
     (omega (arith, turn.loop-p-test.true), rw none at more)
