@@ -31,7 +31,7 @@ use Rattle.serial_laws.specs.Acts.{concerns, key_by, Replays, replay_fits, Begun
 use Rattle.serial_laws.specs.Order.{arranged_by}
 use Rattle.serial_laws.specs.ByKey.{arranged-below}
 use Rattle.serial_laws.specs.Keys.{Told, keys_by}
-use Rattle.serial_laws.specs.Places.{no_act, acts-length, acts-places, act-place, act-move, move_in, places-back}
+use Rattle.serial_laws.specs.Places.{no_act, acts-length, acts-places, act-place, act-move, move-in, places-back}
 use Rattle.serializability.specs.Decoded.{replayed-length}
 use Rattle.serial_laws.specs.AcceptedLog as AcceptedLog
 
@@ -92,7 +92,7 @@ module _ (ceiling : ℕ) (T S L : List ℕ) (e : State) (ok : state_verdict T S 
   places-all = acts-places (table_of T) 0 (state_of S) (moves_in T L) ∙ ap (up_from 0) moves-length
 
   move-of : (i : ℕ) → i < move_count L → (get_or (acts_in T S L) i no_act).move ≡ move_of (table_of T) (move_at L i)
-  move-of i h = act-move (table_of T) 0 (state_of S) (moves_in T L) i ∙ move_in (table_of T) L i h
+  move-of i h = act-move (table_of T) 0 (state_of S) (moves_in T L) i ∙ move-in (table_of T) L i h
 
   count-keys : (members : List ℕ) → length (keys_by (acts_in T S L) members) ≡ move_count L
   count-keys members = length-map (acts_in T S L) (λ x. key_by (acts_in T S L) (get_or members x.place 0) x) ∙ count-acts
