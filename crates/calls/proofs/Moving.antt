@@ -36,7 +36,8 @@ module _ (t S w before : List ℕ) {m : Made} {s s' : State}
   stepped = ap (λ x. step_words line_ceiling (table_of t) 1 x w) (sym loaded.holds.value) ∙ made.step
 
   -- a refused one comes to its number, whatever was counted
-  counted : (v : Verdict) {n : ℕ} (k : ℕ) → n ≡ unless_denied_zero v k → stepped_result n (stepped_by v (state_in s')) ≡ stepped_result k (stepped_by v (state_in s'))
+  counted : (v : Verdict) {n : ℕ} (k : ℕ) → n ≡ unless_denied_zero v k
+      → stepped_result n (stepped_by v (state_in s')) ≡ stepped_result k (stepped_by v (state_in s'))
   counted Allowed k e = ap (λ (n : ℕ). stepped_result n (to (state_in s'))) e
   counted (Denied q) k e = refl
 

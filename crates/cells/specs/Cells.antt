@@ -42,7 +42,8 @@ pub core : (g_a g_b : Bool) (A B : Entry → Option Entry) (n_a n_b c : Option E
     → ((e : Entry) → n_a ≡ some e → (c ≡ none) × (g_b ≡ false) × (B e ≡ some e) × (n_b ≡ none))
     → ((e : Entry) → n_b ≡ some e → (c ≡ none) × (g_a ≡ false) × (A e ≡ some e) × (n_a ≡ none))
     → ((e : Entry) → bind_o B (A e) ≡ bind_o A (B e))
-    → or_else (cond g_b none (bind_o B (or_else (cond g_a none (bind_o A c)) n_a))) n_b ≡ or_else (cond g_a none (bind_o A (or_else (cond g_b none (bind_o B c)) n_b))) n_a
+    → or_else (cond g_b none (bind_o B (or_else (cond g_a none (bind_o A c)) n_a))) n_b
+    ≡ or_else (cond g_a none (bind_o A (or_else (cond g_b none (bind_o B c)) n_b))) n_a
 core g_a true A B (some a) n_b c h_a h_b hc = absurd (true≢false (h_a a refl).1)
 core true false A B (some a) n_b c h_a h_b hc = rw (h_a a refl).2
 core false false A B (some a) n_b c h_a h_b hc = let q = h_a a refl in rw (q.0, q.3, q.2)

@@ -28,7 +28,8 @@ pub data Again (c : State) (os : List Origin) : Move → Move → Type 0 where
   reacts : (r : ℕ) (ps ps' : List ℕ) → origins_of (picked c ps') ≡ os → Again c os (react r ps) (react r ps')
   commits : (b b' : ℕ) → ((o : Origin) → is_in_o o (marks_in (b' ∷ []) c) ≡ is_in_o o os) → b' ≡ least (mark_values (entries_in b' c))
       → Again c os (commit b) (commit b')
-  aborts : (b b' : ℕ) → ((o : Origin) → is_in_o o (marks_in (b' ∷ []) c) ≡ is_in_o o os) → b' ≡ least (mark_values (entries_in b' c)) → Again c os (abort b) (abort b')
+  aborts : (b b' : ℕ) → ((o : Origin) → is_in_o o (marks_in (b' ∷ []) c) ≡ is_in_o o os) → b' ≡ least (mark_values (entries_in b' c))
+      → Again c os (abort b) (abort b')
 
 -- ---- one move
 

@@ -29,7 +29,8 @@ value-of : (f : Origin → ℕ) (o : Origin) (os : List Origin) → is_in_o o os
 value-of f o [] h = absurd (false≢true h)
 value-of f o (q ∷ os) h = go (same_origin o q) refl h (value-of f o os)
   where
-    go : (b : Bool) → same_origin o q ≡ b → (b || is_in_o o os) ≡ true → (is_in_o o os ≡ true → is_in (f o) (map f os) ≡ true) → is_in (f o) (map f (q ∷ os)) ≡ true
+    go : (b : Bool) → same_origin o q ≡ b → (b || is_in_o o os) ≡ true → (is_in_o o os ≡ true → is_in (f o) (map f os) ≡ true)
+        → is_in (f o) (map f (q ∷ os)) ≡ true
     go true p w ih = subst (λ (z : Origin). is_in (f o) (f z ∷ map f os) ≡ true) (same-eq o q p) (is_in-head (f o) (map f os))
     go false p w ih = is_in-cons (f o) (f q) (map f os) (ih w)
 

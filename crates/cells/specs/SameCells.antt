@@ -97,4 +97,5 @@ module _ (c e : State) (ρ : ℕ → ℕ) (rel : Rel c (view e) ρ) (n : NoneOpe
     where
       strip-all : (l : List Entry) → all is_message l ≡ true → map strip l ≡ l
       strip-all [] h = refl
-      strip-all (x ∷ l) h = λ j. strip-message x (and_left (is_message x) (all is_message l) h) j ∷ strip-all l (and_right (is_message x) (all is_message l) h) j
+      strip-all (x ∷ l) h =
+          λ j. strip-message x (and_left (is_message x) (all is_message l) h) j ∷ strip-all l (and_right (is_message x) (all is_message l) h) j

@@ -21,7 +21,8 @@ abbrev makes : Atom → Bool
 makes a = not (has_role 0 a)
 
 -- without emits, the first atom that makes something is the begin, and the others come after it
-begin-first : (m : ℕ) (l : List Atom) → rises_from m (λ a. a.role) l ≡ true → any (has_role 2) l ≡ true → any (has_role 1) l ≡ false → count_if (has_role 2) l ≤ 1
+begin-first : (m : ℕ) (l : List Atom) → rises_from m (λ a. a.role) l ≡ true → any (has_role 2) l ≡ true → any (has_role 1) l ≡ false
+    → count_if (has_role 2) l ≤ 1
     → (a : Atom) × (rest : List Atom) × (keep makes l ≡ a ∷ rest) × (a.role ≡ 2) × (all (λ b. leb 3 b.role) rest ≡ true)
 begin-first m [] h b e c = absurd (false≢true b)
 begin-first m (a ∷ l) h b e c = go (λ b'. begin-first a.role l up b' (or_right_false (has_role 1 a) (any (has_role 1) l) e) (omega arith)) (has_role 0 a) refl

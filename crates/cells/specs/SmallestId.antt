@@ -50,9 +50,9 @@ named-of z s u right = record {
 
 -- ---- the smallest id
 
-pub value_in : (o : Origin) (l : List Entry) (d : Entry) → look o l ≡ some d → is_in d.value (values l) ≡ true
-value_in o [] d h = absurd (none-some h)
-value_in o (x ∷ l) d h = go (value_in o l d) (same_origin o x.origin) h
+pub value-in : (o : Origin) (l : List Entry) (d : Entry) → look o l ≡ some d → is_in d.value (values l) ≡ true
+value-in o [] d h = absurd (none-some h)
+value-in o (x ∷ l) d h = go (value-in o l d) (same_origin o x.origin) h
   where
     go : (look o l ≡ some d → is_in d.value (values l) ≡ true) → (b : Bool) → cond b (some x) (look o l) ≡ some d → is_in d.value (values (x ∷ l)) ≡ true
     go ih true w = subst (λ (z : Entry). is_in z.value (values (x ∷ l)) ≡ true) (some_inj w) (is_in-head x.value (values l))
@@ -69,7 +69,7 @@ value-look v (x ∷ l) u h = go (value-look v l u.1) (is_in-cases v x.value (val
 
 pub smallest : (s : State) → Uniq s.entries → Named s → (b : ℕ) → OwnMarkAt s.entries b → b ≡ least (mark_values (entries_in b s))
 smallest s u N b (o, d, h, k, x, y) = sym (least-is b (mark_values (entries_in b s))
-    (subst (λ (v : ℕ). is_in v (mark_values (entries_in b s)) ≡ true) y (value_in o (keep is_member_mark (entries_in b s)) d
+    (subst (λ (v : ℕ). is_in v (mark_values (entries_in b s)) ≡ true) y (value-in o (keep is_member_mark (entries_in b s)) d
     (look-kept is_member_mark o (entries_in b s) d u' (look-kept (owned b) o s.entries d u h (eq-eqb d.owner b x)) (eq-eqb d.kind 3 k))))
     (λ v q. at_least v (value-look v (keep is_member_mark (entries_in b s)) (uniq-keep is_member_mark (entries_in b s) u') q)))
   where

@@ -19,7 +19,8 @@ third_ways ts ls k = cond (ltb 2 k) (get_or ls 2 0 - (one_if (eqb (get_or ts 0 0
 abbrev pub fourth_ways : List ℕ → List ℕ → ℕ → ℕ
 fourth_ways ts ls k =
     cond (ltb 3 k)
-    (get_or ls 3 0 - (one_if (eqb (get_or ts 0 0) (get_or ts 3 0)) + one_if (eqb (get_or ts 1 0) (get_or ts 3 0)) + one_if (eqb (get_or ts 2 0) (get_or ts 3 0)))) 1
+    (get_or ls 3 0 - (one_if (eqb (get_or ts 0 0) (get_or ts 3 0)) + one_if (eqb (get_or ts 1 0) (get_or ts 3 0))
+    + one_if (eqb (get_or ts 2 0) (get_or ts 3 0)))) 1
 
 unfoldable pub widths_of : List ℕ → List ℕ → ℕ → List ℕ
 widths_of ts ls k =

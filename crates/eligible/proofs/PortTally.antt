@@ -54,7 +54,8 @@ tally-next {ks} {i} {counts} h low {key} {bin} is e = record {
             let r = eqb-true t bin q in
             let k : get_or ks i 0 ≡ t = omega arith in
             let in' : t < length counts = omega (arith, h.counted.size) in
-            let s : get_or (set counts bin (get_or counts bin 0 + 1)) t 0 ≡ get_or counts t 0 + 1 = rw (← r) (get_or-set_same counts t (get_or counts t 0 + 1) 0 in') in
+            let s : get_or (set counts bin (get_or counts bin 0 + 1)) t 0 ≡ get_or counts t 0 + 1 =
+            rw (← r) (get_or-set_same counts t (get_or counts t 0 + 1) 0 in') in
             omega (arith, s, h.counted.each t l, times-same t i ks low k)
 
         other : eqb t bin ≡ false → get_or (set counts bin (get_or counts bin 0 + 1)) t 0 ≡ times_in t (take (i + 1) ks)

@@ -1,5 +1,5 @@
 // How many entries there are on each port.
-ghost use Rattle.std.specs.Prelude.{◌≡◌, ℕ, min, ◌≤◌, ◌<◌, length, get_or, take};
+ghost use Rattle.std.specs.Prelude.{◌≡◌, ℕ, min, ◌≤◌, length, get_or, take};
 ghost use Rattle.eligible.specs.Ports.{PortCounts};
 
 // Keys on a local port, which have a group, are all counted at the last place, which is no port.

@@ -126,7 +126,8 @@ module _ (ceiling : ℕ) (c : ceiling ≤ 1024) (T : List ℕ) (table : table_ve
 
   -- a run accepts the moves, and reaches the state, which is one of a log
   pub run_alone : (budget i : ℕ) (s : State) → Held (sizes_of T) s
-      → (run ceiling (table_of T) i s (map move_words (moves_alone ceiling (table_of T) i budget s)) ≡ completed (reached_alone ceiling (table_of T) i budget s))
+      → (run ceiling (table_of T) i s (map move_words (moves_alone ceiling (table_of T) i budget s))
+      ≡ completed (reached_alone ceiling (table_of T) i budget s))
       × Held (sizes_of T) (reached_alone ceiling (table_of T) i budget s)
   unfolding run
   run_alone = along ceiling (table_of T) (λ i n s ms s'. Held (sizes_of T) s

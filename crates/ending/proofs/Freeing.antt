@@ -25,7 +25,8 @@ pub freed-entry : (id kind o x g : ℕ) → not (eqb o id) || eqb (item_kind x) 
     → entry_from (cond (eqb o id) 0 o) (cond (eqb o id) (as_message x) x) g ≡ freed (λ e. eqb e.kind kind) id (entry_from o x g)
 freed-entry id kind o x g = go (eqb o id) (eqb (item_kind x) kind)
   where
-    go : (a b : Bool) → not a || b ≡ true → entry_from (cond a 0 o) (cond a (as_message x) x) g ≡ cond (a && b) (to_global (entry_from o x g)) (entry_from o x g)
+    go : (a b : Bool) → not a || b ≡ true
+        → entry_from (cond a 0 o) (cond a (as_message x) x) g ≡ cond (a && b) (to_global (entry_from o x g)) (entry_from o x g)
     go true true h = freed-item o x g
     go true false h = absurd (false≢true h)
     go false b h = refl

@@ -150,7 +150,8 @@ module _ (z : Sizes) (stopped os ws : List ℕ) (n : ℕ) (takes : List ℕ) (k 
       within p u h = record { size = size; enough = rw length-map enough; same = same }
         where
           same : (i q : ℕ) → i < k → q < n
-              → eqb (get_or ks q 0) (get_or (map (λ u. u + group_base ks t p) takes) i 0) ≡ fits_at os ws (get_or os p 0) (get_or os p 0) stopped (get_or takes i 0) q
+              → eqb (get_or ks q 0) (get_or (map (λ u. u + group_base ks t p) takes) i 0)
+              ≡ fits_at os ws (get_or os p 0) (get_or os p 0) stopped (get_or takes i 0) q
           same i q l v =
               ap (eqb (get_or ks q 0)) (get_or-raised (group_base ks t p) takes i (omega arith))
               ∙ group-key (keyed-rows z (outside stopped) os ws [] n) small t (get_or takes i 0) (c 0 some).0 (c i l).0 (c 0 some).1 (c i l).1 p q

@@ -163,7 +163,8 @@ module _ (ks : List ℕ) (k : ℕ) (some : 1 ≤ k) (most : k ≤ 4) where
 
 -- ---- what `shifted` computes
 
-pub shifted_as : (b : ℕ) (ts : List ℕ) → length ts ≡ 4 → (get_or ts 0 0 + b) ∷ (get_or ts 1 0 + b) ∷ (get_or ts 2 0 + b) ∷ (get_or ts 3 0 + b) ∷ [] ≡ shifted b ts
+pub shifted_as : (b : ℕ) (ts : List ℕ) → length ts ≡ 4
+    → (get_or ts 0 0 + b) ∷ (get_or ts 1 0 + b) ∷ (get_or ts 2 0 + b) ∷ (get_or ts 3 0 + b) ∷ [] ≡ shifted b ts
 shifted_as b [] h = absurd (omega arith)
 shifted_as b (x ∷ []) h = absurd (omega arith)
 shifted_as b (x ∷ y ∷ []) h = absurd (omega arith)

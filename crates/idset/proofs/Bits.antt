@@ -16,7 +16,8 @@ unfolding count_trailing_zeros
 low_clear zero x j h = absurd (omega arith)
 low_clear (suc n) x j h = go (low_clear n (x / 2)) (x % 2) j refl h
   where
-    go : ((i : ℕ) → i < count_trailing_zeros n (x / 2) → bit (x / 2) i ≡ false) → (d i : ℕ) → x % 2 ≡ d → i < under d (count_trailing_zeros n (x / 2)) → bit x i ≡ false
+    go : ((i : ℕ) → i < count_trailing_zeros n (x / 2) → bit (x / 2) i ≡ false) → (d i : ℕ) → x % 2 ≡ d → i < under d (count_trailing_zeros n (x / 2))
+        → bit x i ≡ false
     go higher zero zero e l = rw (div-one, e)
     go higher zero (suc i) e l =
         let s : suc i ≡ 1 + i = omega arith in
@@ -29,7 +30,8 @@ unfolding count_trailing_zeros
 low-set zero x h = absurd (omega arith)
 low-set (suc n) x h = go (low-set n (x / 2)) (x % 2) refl h
   where
-    go : (count_trailing_zeros n (x / 2) < n → bit (x / 2) (count_trailing_zeros n (x / 2)) ≡ true) → (d : ℕ) → x % 2 ≡ d → under d (count_trailing_zeros n (x / 2)) < suc n
+    go : (count_trailing_zeros n (x / 2) < n → bit (x / 2) (count_trailing_zeros n (x / 2)) ≡ true) → (d : ℕ) → x % 2 ≡ d
+        → under d (count_trailing_zeros n (x / 2)) < suc n
         → bit x (under d (count_trailing_zeros n (x / 2))) ≡ true
     go higher zero e l =
         let s : suc (count_trailing_zeros n (x / 2)) ≡ 1 + count_trailing_zeros n (x / 2) = omega arith in

@@ -4,7 +4,6 @@ ghost use Rattle.lists.specs.Lists.{any, count_if};
 ghost use Rattle.lists.specs.Runs.{in_run, goes, RunEnd};
 ghost use Rattle.semantics.specs.Words.{atom_role, port_of};
 ghost use Rattle.semantics.specs.Table.{class_of, is_role, atom_ok, rule_ok};
-ghost use Rattle.semantics.specs.declared.Shape.{Shape};
 
 use crate::atom::{class_of, in_run};
 use semantics::{Shape, Sizes};

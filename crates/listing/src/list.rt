@@ -1,5 +1,5 @@
 // The whole list.
-ghost use Rattle.std.specs.Prelude.{◌≡◌, ◌++◌, ◌+◌, ◌*◌, ◌≤◌, length, take};
+ghost use Rattle.std.specs.Prelude.{◌≡◌, ◌++◌, ◌*◌, ◌≤◌, length, take};
 ghost use Rattle.semantics.specs.Table.{sizes_of, numbers_of};
 ghost use Rattle.semantics.specs.Answers.{table_verdict, enabled_in};
 ghost use Rattle.semantics.specs.Enabled.{move_words};

@@ -81,7 +81,8 @@ module _ {A : Type 0} (key : A → ℕ) (a : A → Bool) where
   onward m [] = refl
   onward m (x ∷ xs) = go (keyed key m x) (a x) refl refl (onward m xs)
     where
-      go : (k b : Bool) → keyed key m x ≡ k → a x ≡ b → goes m xs ≡ goes (suc m) (skip (in_run m) xs) → goes m (x ∷ xs) ≡ goes (suc m) (skip (in_run m) (x ∷ xs))
+      go : (k b : Bool) → keyed key m x ≡ k → a x ≡ b → goes m xs ≡ goes (suc m) (skip (in_run m) xs)
+          → goes m (x ∷ xs) ≡ goes (suc m) (skip (in_run m) (x ∷ xs))
       go true true e f ih = rw (e, f, eqb-true (key x) m e, le-leb m m (omega arith)) ih
       go true false e f ih = rw (e, f, f) (dead (leb m (key x) && rises_from (key x) key xs) (leb (suc m) (key x) && rises_from (key x) key xs))
       go false b e f ih = rw (e, at_least m (key x) e)

@@ -76,7 +76,8 @@ module _ {B : Type 0} (f : ℕ → List B) (q : ℕ → Bool) (n : ℕ) where
   skip-some zero p l h = ap each_from (sym (add-zero p))
   skip-some (suc d) p l h =
       let e : p + 1 + d ≡ p + suc d = omega arith in
-      from-pass p (omega arith) (h p (omega arith) (omega arith)) ∙ skip-some d (p + 1) (omega arith) (λ j a b. h j (omega arith) (omega arith)) ∙ ap each_from e
+      from-pass p (omega arith) (h p (omega arith) (omega arith)) ∙ skip-some d (p + 1) (omega arith) (λ j a b. h j (omega arith) (omega arith))
+      ∙ ap each_from e
 
   pub from-skip : (p r : ℕ) → p ≤ r → r ≤ n → ((j : ℕ) → p ≤ j → j < r → q j ≡ false) → each_from p ≡ each_from r
   from-skip p r l u h =

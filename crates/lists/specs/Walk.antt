@@ -59,5 +59,6 @@ below-same p q (suc n) f = rw (below-same p q n (λ r l. f r (omega arith)), f n
 
 -- ---- a loop that fills a list with f of another's elements, from the front
 module _ {A B : Type 0} (f : A → B) (xs : List A) (ys : List B) (i : ℕ) where
-  pub fill_more : (d : A) → i < length xs → i < length ys → take i ys ≡ map f (take i xs) → take (i + 1) (set ys i (f (get_or xs i d))) ≡ map f (take (i + 1) xs)
+  pub fill_more : (d : A) → i < length xs → i < length ys → take i ys ≡ map f (take i xs)
+      → take (i + 1) (set ys i (f (get_or xs i d))) ≡ map f (take (i + 1) xs)
   fill_more d hx hy e = rw (add-one i, take-suc-set ys i (f (get_or xs i d)) hy, take-suc xs i d hx, map-append, e)

@@ -91,7 +91,8 @@ used-next ks earlier used t p low f h = record { free = free }
     free u =
         let e = eqb-true (get_or ks p 0) t (and_left (eqb (get_or ks p 0) t) (not (is_in p used)) f) in
         let a = not-true (is_in p used) (and_right (eqb (get_or ks p 0) t) (not (is_in p used)) f) in
-        let s = count-sum (is_free ks used u) (is_free ks (used ++ p ∷ []) u) (λ x. eqb t u && eqb x p) (fits-lower ks used p t e a u) (up_from 0 (length ks)) in
+        let s =
+        count-sum (is_free ks used u) (is_free ks (used ++ p ∷ []) u) (λ x. eqb t u && eqb x p) (fits-lower ks used p t e a u) (up_from 0 (length ks)) in
         let c = count-here (eqb t u) p 0 (length ks) (omega arith) (omega arith) in
         omega (arith, s, c, h.free u, times-append u earlier (t ∷ []), times-one u t)
 

@@ -67,7 +67,8 @@ module _ (x : Rule) (d : Decodes x (rule_in x)) (picks : List ℕ) (four : lengt
       }
 
   -- the values received; what the array has after them is not read otherwise
-  values-found : {found : List ℕ} → found ≡ four_at ws ps → Places n ps → (i : ℕ) → get_or (map value_of found) i 0 ≡ get_or (map (λ e. e.value) (picked σ ps)) i 0
+  values-found : {found : List ℕ} → found ≡ four_at ws ps → Places n ps → (i : ℕ)
+      → get_or (map value_of found) i 0 ≡ get_or (map (λ e. e.value) (picked σ ps)) i 0
   values-found e h i = rw (e, map-padded value_of 4 0 (column ws ps), get_or-padded 4 0 (map value_of (column ws ps)) i, values-at os ws gs n ps h)
 
   -- the products

@@ -82,6 +82,7 @@ pub four-least : (f : List ℕ) → length f ≡ 4 → (ns : List ℕ) → ((x :
     → min (min (get_or f 0 0) (get_or f 1 0)) (min (get_or f 2 0) (get_or f 3 0)) ≡ least ns
 four-least f l ns same =
     let e = four-places f l in
-    let few : min (min (get_or f 0 0) (get_or f 1 0)) (min (get_or f 2 0) (get_or f 3 0)) ≡ least (get_or f 0 0 ∷ get_or f 1 0 ∷ get_or f 2 0 ∷ get_or f 3 0 ∷ []) =
+    let few : min (min (get_or f 0 0) (get_or f 1 0)) (min (get_or f 2 0) (get_or f 3 0))
+    ≡ least (get_or f 0 0 ∷ get_or f 1 0 ∷ get_or f 2 0 ∷ get_or f 3 0 ∷ []) =
     omega arith in
     few ∙ sym (least-same (get_or f 0 0) (get_or f 1 0 ∷ get_or f 2 0 ∷ get_or f 3 0 ∷ []) ns (λ x. sym (ap (is_in x) e) ∙ same x))

@@ -39,7 +39,8 @@ pub four-at : (xs picks : List ℕ) (k : ℕ) → length picks ≡ 4 → k ≤ 4
 four-at xs picks k l h = go k h ∙ sym (ap (λ ps. four_at xs (take k ps)) (four-places picks l))
   where
     go : (k : ℕ) → k ≤ 4
-        → cond (ltb 0 k) (get_or xs (get_or picks 0 0) 0) 0 ∷ cond (ltb 1 k) (get_or xs (get_or picks 1 0) 0) 0 ∷ cond (ltb 2 k) (get_or xs (get_or picks 2 0) 0)
+        → cond (ltb 0 k) (get_or xs (get_or picks 0 0) 0) 0 ∷ cond (ltb 1 k) (get_or xs (get_or picks 1 0) 0) 0
+        ∷ cond (ltb 2 k) (get_or xs (get_or picks 2 0) 0)
         0 ∷ cond (ltb 3 k) (get_or xs (get_or picks 3 0) 0) 0 ∷ []
         ≡ four_at xs (take k (get_or picks 0 0 ∷ get_or picks 1 0 ∷ get_or picks 2 0 ∷ get_or picks 3 0 ∷ []))
     go zero h = refl

@@ -1,5 +1,5 @@
 // When a reaction is allowed.
-ghost use Rattle.std.specs.Prelude.{ℕ, ◌≤◌, ◌<◌, ◌≡◌, true, ◌&&◌, not, List, map, eqb, length, take};
+ghost use Rattle.std.specs.Prelude.{ℕ, ◌≤◌, ◌≡◌, true, ◌&&◌, not, List, map, eqb, length, take};
 ghost use Rattle.lists.specs.Lists.{all};
 ghost use Rattle.lists.specs.Members.{Among};
 ghost use Rattle.lists.specs.Rows.{rows};

@@ -222,7 +222,8 @@ pub ends-marks : (t : Table) (i : ℕ) (s : semantics.State) (head : ℕ) (picks
 unfolding move_of
 ends-marks t i s head picks form p = rw (end-narrow t head picks form) (go (eqb (head_kind head) 0) (eqb (head_kind head) 1))
   where
-    go : (a b : Bool) → is_end (cond a (react (head_number head) (take (picks_used t head) picks)) (cond b (commit (head_number head)) (abort (head_number head))))
+    go : (a b : Bool) → is_end (cond a (react (head_number head) (take (picks_used t head) picks))
+        (cond b (commit (head_number head)) (abort (head_number head))))
         && any_made_at p (members_of t i s (cond a (react (head_number head) (take (picks_used t head) picks))
         (cond b (commit (head_number head)) (abort (head_number head)))))
         ≡ any_made_at p (cond a [] (marks_of (head_number head) s.entries))

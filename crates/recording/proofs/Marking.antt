@@ -42,7 +42,8 @@ module _ (place maker : ℕ) (before : List ℕ) (size : length before ≡ 1024)
   pub noted_one : 1 ≤ maker → maker ≤ 1024 → NotedAt place (origin ∷ []) before (set before (maker - 1) place)
   noted_one low high = record { size = length-set before (maker - 1) place ∙ size; each = λ p l. by_bool (eqb maker (suc p)) (same p l) (other p l) }
     where
-      same : (p : ℕ) → p < 1024 → eqb maker (suc p) ≡ true → get_or (set before (maker - 1) place) p 0 ≡ cond (eqb maker (suc p) || false) place (get_or before p 0)
+      same : (p : ℕ) → p < 1024 → eqb maker (suc p) ≡ true
+          → get_or (set before (maker - 1) place) p 0 ≡ cond (eqb maker (suc p) || false) place (get_or before p 0)
       same p l h =
           let e : p ≡ maker - 1 = omega (arith, eqb-true maker (suc p) h) in
           rw (h, e) (get_or-set_same before (maker - 1) place 0 (omega arith))

@@ -36,7 +36,8 @@ pub traceable : {t index l : List ℕ} → Prepared t index l → (st : List ℕ
     → Traceable t index l s target
 traceable p st z h n = loaded-traceable st z h p (omega (arith, p.log.few))
 
-pub lines-written : {xs : List Line} {before after : List ℕ} {n : ℕ} → TracedAs xs before after n → (4 * n ≤ length after) × (take (4 * n) after ≡ line_words xs)
+pub lines-written : {xs : List Line} {before after : List ℕ} {n : ℕ} → TracedAs xs before after n
+    → (4 * n ≤ length after) × (take (4 * n) after ≡ line_words xs)
 lines-written {xs} {before} {after} {n} h =
     let e : 4 * n ≡ length (line_words xs) = omega (arith, h.count, length-line_words xs) in (
       rw h.target (omega (arith, e, length-append (line_words xs) (drop (length (line_words xs)) before))),

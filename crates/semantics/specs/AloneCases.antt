@@ -87,7 +87,8 @@ endless_cases = map forever (0 ∷ 1 ∷ 5 ∷ [])
 
 -- the largest budget, in a table of its own, since it takes many steps to compute
 pub full_cases : List AloneCase
-full_cases = case (plant 1024 5121) (makes 5121 log_a 1) ∷ case (plant 1024 5120) (refuses 5120 6) ∷ case (plant 1025 5126) (refuses 5126 19) ∷ forever 1024 ∷ []
+full_cases =
+    case (plant 1024 5121) (makes 5121 log_a 1) ∷ case (plant 1024 5120) (refuses 5120 6) ∷ case (plant 1025 5126) (refuses 5126 19) ∷ forever 1024 ∷ []
 
 pub plant-alone-holds : map (λ c. c.found) plant_cases ≡ map (λ c. c.stated) plant_cases
 unfolding two_lot start log_a plant_cases table_sizes_ok numbers_ok atom_ok rule_ok rules_ok table_contents_ok rule_of table_of state_of state_words state_sizes_ok

@@ -100,6 +100,7 @@ reactions_open ceiling s =
 abbrev start_with : ℕ → List ℕ
 start_with next = 2 ∷ next ∷ 0 ∷ 0 ∷ 7 ∷ 9 ∷ []
 
-pub none_open : reactions_open 3 start ∷ reactions_open 4 start ∷ reactions_open 4 (start_with 65536) ∷ reactions_open 4 (start_with 65535) ∷ [] ≡ 0 ∷ 2 ∷ 0 ∷ 2 ∷ []
+pub none_open : reactions_open 3 start ∷ reactions_open 4 start ∷ reactions_open 4 (start_with 65536) ∷ reactions_open 4 (start_with 65535) ∷ []
+    ≡ 0 ∷ 2 ∷ 0 ∷ 2 ∷ []
 unfolding two_lot start rule_of table_of state_of reacted Move.ended allowed applied move_verdict
 none_open = refl

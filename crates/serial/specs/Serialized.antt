@@ -45,7 +45,8 @@ pub record Reorderable (t index s l origins members ends target : List ℕ) : Ty
   pub end : semantics.State
   pub ran : run_of line_ceiling t s l ≡ completed end
   pub shut : any_open end ≡ false
-  pub recordings : Recordings (table_of t) l (acts (table_of t) 0 (state_of s) (map (move_of (table_of t)) (moves_of l))) origins members (replicate 1024 0) ends
+  pub recordings : Recordings (table_of t) l (acts (table_of t) 0 (state_of s) (map (move_of (table_of t)) (moves_of l))) origins members
+      (replicate 1024 0) ends
   pub record-sizes : (4 * move_count l ≤ length origins) × (length members ≡ 1024) × (length ends ≡ 1024)
 
 -- every key that can be found for a move of the log is one of its places

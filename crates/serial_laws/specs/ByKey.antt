@@ -56,7 +56,8 @@ places-below e i [] = tt
 places-below e i (x ∷ xs) = go (eqb x e) (All-map {P = λ p. p < suc i + length xs} {Q = λ p. p < i + length (x ∷ xs)} (λ p h. omega arith)
     (places_of_key e (suc i) xs) (places-below e (suc i) xs))
   where
-    go : (b : Bool) → All (λ p. p < i + length (x ∷ xs)) (places_of_key e (suc i) xs) → All (λ p. p < i + length (x ∷ xs)) (keep_if b i (places_of_key e (suc i) xs))
+    go : (b : Bool) → All (λ p. p < i + length (x ∷ xs)) (places_of_key e (suc i) xs)
+        → All (λ p. p < i + length (x ∷ xs)) (keep_if b i (places_of_key e (suc i) xs))
     go true ih = (omega arith, ih)
     go false ih = ih
 

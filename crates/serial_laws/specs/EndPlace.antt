@@ -35,7 +35,8 @@ after_last : (p e : ℕ) (xs ys : List Act) (a : Act) → ends_begun p a ≡ tru
 after_last p e [] ys a h k = ap (λ (b : Bool). end_after p (cond b a.place e) ys) h ∙ after_none p a.place ys k
 after_last p e (x ∷ xs) ys a h k = after_last p (cond (ends_begun p x) x.place e) xs ys a h k
 
-after-only : (p e : ℕ) (xs ys : List Act) (a : Act) → ends_begun p a ≡ true → count_if (ends_begun p) (xs ++ a ∷ ys) ≡ 1 → end_after p e (xs ++ a ∷ ys) ≡ a.place
+after-only : (p e : ℕ) (xs ys : List Act) (a : Act) → ends_begun p a ≡ true → count_if (ends_begun p) (xs ++ a ∷ ys) ≡ 1
+    → end_after p e (xs ++ a ∷ ys) ≡ a.place
 after-only p e xs ys a h k =
     let w = count-append (ends_begun p) xs (a ∷ ys) in
     let one = ap one_if h in

@@ -31,7 +31,7 @@ use Rattle.serial_laws.specs.Acts.{concerns, key_by, Replays, replay_fits, Begun
 use Rattle.serial_laws.specs.Order.{arranged_by}
 use Rattle.serial_laws.specs.ByKey.{arranged-below}
 use Rattle.serial_laws.specs.Keys.{Told, keys_by}
-use Rattle.serial_laws.specs.Places.{no_act, acts-length, acts-places, act-place, act-move, move_in, places-back}
+use Rattle.serial_laws.specs.Places.{no_act, acts-length, acts-places, act-place, act-move, move-in, places-back}
 use Rattle.serializability.specs.Decoded.{replayed-length}
 use Rattle.serial_laws.specs.AcceptedLog as AcceptedLog
 
@@ -55,10 +55,12 @@ pub record SerialFacts (ceiling : ℕ) (T S L : List ℕ) : Type 0 where
   pub keys-count : (members : List ℕ) → length (keys_by (acts_in T S L) members) ≡ move_count L
   pub keys-at : (members : List ℕ) (i : ℕ) → i < move_count L
       → get_or (keys_by (acts_in T S L) members) i 0 ≡ key_by (acts_in T S L) (get_or members i 0) (get_or (acts_in T S L) i no_act)
-  pub keys_below : (members : List ℕ) → All (Told members) (acts_in T S L) → (i : ℕ) → i < move_count L → get_or (keys_by (acts_in T S L) members) i 0 < move_count L
+  pub keys_below : (members : List ℕ) → All (Told members) (acts_in T S L) → (i : ℕ) → i < move_count L
+      → get_or (keys_by (acts_in T S L) members) i 0 < move_count L
   pub order : (members : List ℕ) → All (Told members) (acts_in T S L)
       → order_in T S L ≡ map (λ p. get_or (acts_in T S L) p no_act) (arranged_by (keys_by (acts_in T S L) members))
-  pub order-places : (members : List ℕ) → All (Told members) (acts_in T S L) → map (λ a. a.place) (order_in T S L) ≡ arranged_by (keys_by (acts_in T S L) members)
+  pub order-places : (members : List ℕ) → All (Told members) (acts_in T S L)
+      → map (λ a. a.place) (order_in T S L) ≡ arranged_by (keys_by (acts_in T S L) members)
   pub order-count : length (order_in T S L) ≡ move_count L
   -- the replay in that order
   pub replays : Replays (table_of T) (state_of S) (order_in T S L)
@@ -68,7 +70,8 @@ pub record SerialFacts (ceiling : ℕ) (T S L : List ℕ) : Type 0 where
   pub answer : (target : List ℕ) → 1 + 5 * move_count L ≤ length target
       → serial_result ceiling T S L target ≡ cond (serial_fits_of ceiling T S L) (write (log_words (serial_of T S L))) (refuse SerialTooManyEntries)
 
-module _ (ceiling : ℕ) (T S L : List ℕ) (e : State) (ok : state_verdict T S ≡ Allowed) (ne : begins_emit (table_of T) ≡ false) (op : any_open (state_of S) ≡ false)
+module _ (ceiling : ℕ) (T S L : List ℕ) (e : State) (ok : state_verdict T S ≡ Allowed) (ne : begins_emit (table_of T) ≡ false)
+    (op : any_open (state_of S) ≡ false)
     (lo : log_sizes_ok L ≡ true) (ran : run_of ceiling T S L ≡ completed e) (cl : any_open e ≡ false) where
   serializable : Serializable ceiling T S L e
   serializable = demand3 ceiling T S L e ok ne op lo ran cl
@@ -89,7 +92,7 @@ module _ (ceiling : ℕ) (T S L : List ℕ) (e : State) (ok : state_verdict T S 
   places-all = acts-places (table_of T) 0 (state_of S) (moves_in T L) ∙ ap (up_from 0) moves-length
 
   move-of : (i : ℕ) → i < move_count L → (get_or (acts_in T S L) i no_act).move ≡ move_of (table_of T) (move_at L i)
-  move-of i h = act-move (table_of T) 0 (state_of S) (moves_in T L) i ∙ move_in (table_of T) L i h
+  move-of i h = act-move (table_of T) 0 (state_of S) (moves_in T L) i ∙ move-in (table_of T) L i h
 
   count-keys : (members : List ℕ) → length (keys_by (acts_in T S L) members) ≡ move_count L
   count-keys members = length-map (acts_in T S L) (λ x. key_by (acts_in T S L) (get_or members x.place 0) x) ∙ count-acts

@@ -139,7 +139,8 @@ module _ (t : Table) (sd : Shaped t) (G F : Seen) (ds : List Deed) (g : Good 0 F
       sym (outer-key t sd G (0 + length us) (seen_after t F us) x vs rest.1 rest.0 h))))
     where
       told_at : (us vs : List Deed) (x : Deed) → ds ≡ us ++ x ∷ vs → Told members (act_of x)
-      told_at us vs x q = All-right (map act_of us) (act_of x) (map act_of vs) (subst (All (Told members)) (ap (map act_of) q ∙ map-append act_of us (x ∷ vs)) told)
+      told_at us vs x q =
+          All-right (map act_of us) (act_of x) (map act_of vs) (subst (All (Told members)) (ap (map act_of) q ∙ map-append act_of us (x ∷ vs)) told)
         where
           All-right : (xs : List Act) (y : Act) (zs : List Act) → All (Told members) (xs ++ y ∷ zs) → Told members y
           All-right [] y zs h = h.0

@@ -45,8 +45,8 @@ act-move t i s (m ∷ ms) (suc j) = act-move t (suc i) (after t (suc i) s m) ms 
 
 -- ---- the moves that a log's words hold
 
-pub move_in : (t : Table) (L : List ℕ) (j : ℕ) → j < move_count L → get_or (map (move_of t) (moves_of L)) j no_move ≡ move_of t (move_at L j)
-move_in t L j h = let w : 0 + j ≡ j = omega arith in
+pub move-in : (t : Table) (L : List ℕ) (j : ℕ) → j < move_count L → get_or (map (move_of t) (moves_of L)) j no_move ≡ move_of t (move_at L j)
+move-in t L j h = let w : 0 + j ≡ j = omega arith in
     ap (λ (l : List Move). get_or l j no_move) (map-map (move_of t) (move_at L) (up_from 0 (move_count L)))
     ∙ get_or-up_from (λ i. move_of t (move_at L i)) no_move 0 (move_count L) j h ∙ ap (λ (i : ℕ). move_of t (move_at L i)) w
 

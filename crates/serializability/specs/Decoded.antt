@@ -166,11 +166,13 @@ module _ (t : Table) (right : TableRight t) (ne : begins_emit t ≡ false) (s : 
       go : (us : List Deed) × (u : Deed) × (vs : List Deed) × (ds ≡ us ++ u ∷ vs) × (map act_of us ≡ xs) × (act_of u ≡ x) × (map act_of vs ≡ ys)
           → (count_if (ends_member_of x) (acts t 0 s ms) ≡ 1) × (count_if (ends_member_of x) ys ≡ 1)
       go (us, u, vs, p, a, b, c) =
-          let r = one-block-of t sd (view e) us (view s) u vs g (subst (λ (l : List Deed). LogRuns t 0 (view s) l (view e)) p ran.0) shut (subst (λ (y : Act). is_inner y ≡ true) (sym b) h) in (
+          let r = one-block-of t sd (view e) us (view s) u vs g (subst (λ (l : List Deed). LogRuns t 0 (view s) l (view e)) p ran.0) shut
+          (subst (λ (y : Act). is_inner y ≡ true) (sym b) h) in (
             ap (λ (y : Act). count_if (ends_member_of y) (acts t 0 s ms)) (sym b) ∙ ap (count_if (ends_member_of (act_of u))) acts-are
                 ∙ count_map act_of (ends_member_of (act_of u)) ds
                 ∙ ap (count_if (λ a. ends_member_of (act_of u) (act_of a))) p ∙ r.0,
-            ap (λ (y : Act). count_if (ends_member_of y) ys) (sym b) ∙ ap (count_if (ends_member_of (act_of u))) (sym c) ∙ count_map act_of (ends_member_of (act_of u)) vs
+            ap (λ (y : Act). count_if (ends_member_of y) ys) (sym b) ∙ ap (count_if (ends_member_of (act_of u))) (sym c)
+                ∙ count_map act_of (ends_member_of (act_of u)) vs
                 ∙ r.1,
           )
 
@@ -198,7 +200,8 @@ module _ (t : Table) (right : TableRight t) (ne : begins_emit t ≡ false) (s : 
       (get_or ms (get_or ps j 0) no_move)
       (get_or (serial t s ms) j no_move)) (sym places-are)
       (subst (λ (l : List Move). SameMove (state_before t (up_from 0 (length ms)) s ms (get_or (map (λ a. a.place) (isort ds)) j 0))
-      (state_before t (map (λ a. a.place) (isort ds)) s l j) (get_or ms (get_or (map (λ a. a.place) (isort ds)) j 0) no_move) (get_or l j no_move)) (sym serial-is)
+      (state_before t (map (λ a. a.place) (isort ds)) s l j) (get_or ms (get_or (map (λ a. a.place) (isort ds)) j 0) no_move) (get_or l j no_move))
+      (sym serial-is)
       (same-moves t s ms (isort ds) s again-runs.agains placed j (let w = sorted-length in omega arith)))
     where
       placed : All (Placed t s ms) (isort ds)
@@ -240,7 +243,8 @@ module _ (t : Table) (right : TableRight t) (ne : begins_emit t ≡ false) (s : 
   serial-size : length (serial t s ms) ≡ length ms
   serial-size = ap length serial-is ∙ replayed-length t s (map act_of (isort ds)) ∙ length-map (isort ds) act_of ∙ sorted-length
 
-  states-at : (j : ℕ) → j ≤ length ms → state_words (state_before t (places_of t s ms) s (serial t s ms) j) ≡ state_words (get_or (along t 0 s (serial t s ms)) j s)
+  states-at : (j : ℕ) → j ≤ length ms
+      → state_words (state_before t (places_of t s ms) s (serial t s ms) j) ≡ state_words (get_or (along t 0 s (serial t s ms)) j s)
   states-at j h = words_same (state_before t (places_of t s ms) s (serial t s ms) j) (get_or (along t 0 s (serial t s ms)) j s)
       (along-same t (places_of t s ms) (serial t s ms) 0 s s s lengths refl j (let w = serial-size in omega arith))
     where

@@ -38,7 +38,8 @@ state-numbered : (S : List ℕ) → Numbered 0 (state_of S).entries
 unfolding state_of
 state-numbered S = entries-numbered 0 (owners_of S) (items_of S)
 
-module _ (ceiling : ℕ) (T S L : List ℕ) (e : State) (ok : state_verdict T S ≡ Allowed) (ne : begins_emit (table_of T) ≡ false) (op : any_open (state_of S) ≡ false)
+module _ (ceiling : ℕ) (T S L : List ℕ) (e : State) (ok : state_verdict T S ≡ Allowed) (ne : begins_emit (table_of T) ≡ false)
+    (op : any_open (state_of S) ≡ false)
     (lo : log_sizes_ok L ≡ true) (ran : run_of ceiling T S L ≡ completed e) (cl : any_open e ≡ false) where
   abbrev pub t : Table
   t = table_of T

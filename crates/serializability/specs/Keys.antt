@@ -32,7 +32,8 @@ deeds t i s (m ∷ ms) =
 pub acts-deeds : (t : Table) (i : ℕ) (s : State) (ms : List Move) → acts t i s ms ≡ map act_of (deeds t i s ms)
 unfolding acts deeds handled
 acts-deeds t i s [] = refl
-acts-deeds t i s (m ∷ ms) = λ j. record { place = i; move = m; picks = same m j; members = members_of t i s m } ∷ acts-deeds t (suc i) (after t (suc i) s m) ms j
+acts-deeds t i s (m ∷ ms) =
+    λ j. record { place = i; move = m; picks = same m j; members = members_of t i s m } ∷ acts-deeds t (suc i) (after t (suc i) s m) ms j
   where
     same : (m : Move) → picks_of s m ≡ picks_by m (handled s m)
     same (react r ps) = refl
@@ -61,10 +62,10 @@ ender-ge i (a ∷ xs) b = go (is_in b a.touched) (is_end a.move) (ender-ge (suc 
     go true false p q = omega arith
     go false d p q = omega arith
 
-pub key_in : (e : Bool) (i v : ℕ) (bs : List ℕ) (xs : List Deed) → is_in v bs ≡ true → key_of e i bs xs ≡ cond e i (ender (suc i) xs (least bs))
-key_in true i v bs xs h = refl
-key_in false i v [] xs h = absurd (false≢true h)
-key_in false i v (b ∷ bs) xs h = refl
+pub key-in : (e : Bool) (i v : ℕ) (bs : List ℕ) (xs : List Deed) → is_in v bs ≡ true → key_of e i bs xs ≡ cond e i (ender (suc i) xs (least bs))
+key-in true i v bs xs h = refl
+key-in false i v [] xs h = absurd (false≢true h)
+key-in false i v (b ∷ bs) xs h = refl
 
 pub key-full : (e : Bool) (i : ℕ) (bs : List ℕ) (xs : List Deed) → e ≡ false → is_empty bs ≡ false → key_of e i bs xs ≡ ender (suc i) xs (least bs)
 key-full true i bs xs p h = absurd (true≢false p)

@@ -100,7 +100,8 @@ module _ (t : Table) (sd : Shaped t) (G : Seen) where
       (let y = r.0.key ∙ key-full (is_end x.move) i x.touched ys nx ne in let z = ender-ge (suc i) ys (least x.touched) in omega arith)
       (let w = (key-bound t sd G i F (x ∷ ys) g r n).0 in omega arith)
 
-  pub one-block-of : (xs : List Deed) (F : Seen) (x : Deed) (ys : List Deed) → Good 0 F → LogRuns t 0 F (xs ++ x ∷ ys) G → NoneOpen G → is_inner (act_of x) ≡ true
+  pub one-block-of : (xs : List Deed) (F : Seen) (x : Deed) (ys : List Deed) → Good 0 F → LogRuns t 0 F (xs ++ x ∷ ys) G → NoneOpen G
+      → is_inner (act_of x) ≡ true
       → (count_if (λ a. ends_member_of (act_of x) (act_of a)) (xs ++ x ∷ ys) ≡ 1) × (count_if (λ a. ends_member_of (act_of x) (act_of a)) ys ≡ 1)
   one-block-of xs F x ys g r n h =
       let nx = not-true (is_end x.move) (and_left (not (is_end x.move)) (not (is_empty x.members)) h) in

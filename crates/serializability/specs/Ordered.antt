@@ -35,7 +35,8 @@ outer-none : (a : Act) (xs : List Act) → keep is_outer (keep (belongs_to a) xs
 outer-none a [] = refl
 outer-none a (x ∷ xs) = go (is_inner x) refl (any (λ o. any (same_origin o) a.members) x.members) (outer-none a xs)
   where
-    go : (b : Bool) → is_inner x ≡ b → (c : Bool) → keep is_outer (keep (belongs_to a) xs) ≡ [] → keep is_outer (keep_if (b && c) x (keep (belongs_to a) xs)) ≡ []
+    go : (b : Bool) → is_inner x ≡ b → (c : Bool) → keep is_outer (keep (belongs_to a) xs) ≡ []
+        → keep is_outer (keep_if (b && c) x (keep (belongs_to a) xs)) ≡ []
     go true q true ih = rw q ih
     go true q false ih = ih
     go false q c ih = ih

@@ -14,7 +14,7 @@ use Rattle.semantics.specs.Serial.{is_end, is_begin}
 use Rattle.cells.specs.Origins.{is_in_o, found_at}
 use Rattle.cells.specs.Rules.{Shaped}
 use Rattle.cells.specs.Deeds.{Deed}
-use Rattle.serializability.specs.Keys.{ender, key_of, ender-ge, key_in, KeyCases, key-cases}
+use Rattle.serializability.specs.Keys.{ender, key_of, ender-ge, key-in, KeyCases, key-cases}
 use Rattle.cells.specs.Cells.{mine}
 use Rattle.cells.specs.Actions.{StepOk, Seen, astep, Runs}
 use Rattle.cells.specs.Simulation.{Mark, Good}
@@ -54,7 +54,7 @@ module _ (t : Table) (sd : Shaped t) (G : Seen) where
       → All (λ x. is_in v x.touched ≡ true → Mark F.cell v × (x.key ≡ ender i xs v)) xs
   fate i F [] g r v nz lt = tt
   fate i F (a ∷ xs) g r v nz lt = (
-    λ h. (old-mark t sd i F a g r.0.step v lt h, r.0.key ∙ key_in (is_end a.move) i v a.touched xs h ∙ rw h),
+    λ h. (old-mark t sd i F a g r.0.step v lt h, r.0.key ∙ key-in (is_end a.move) i v a.touched xs h ∙ rw h),
     All-map {P = λ x. is_in v x.touched ≡ true → Mark (astep t F a).cell v × (x.key ≡ ender (suc i) xs v)} {Q = λ x. is_in v x.touched ≡ true
         → Mark F.cell v ×
         (x.key ≡ ender i (a ∷ xs) v)}

@@ -21,7 +21,8 @@ use Rattle.step.specs.Make.{Indexed}
 use Rattle.tracking.specs.Reacted.{ReactedTo}
 
 -- the class of a rule, read from its words
-pub class-is : {t index : List ℕ} → Indexed t index → (r : ℕ) → r < (sizes_of t).rules → {words : List ℕ} → words ≡ atom_words_of t → {z : Sizes} → z ≡ sizes_of t
+pub class-is : {t index : List ℕ} → Indexed t index → (r : ℕ) → r < (sizes_of t).rules → {words : List ℕ} → words ≡ atom_words_of t → {z : Sizes}
+    → z ≡ sizes_of t
     → {ws : List ℕ} → ws ≡ cut index r words → class_of z (port_of (get_or ws 0 0)) ≡ (rule_at (table_of t) r).class
 unfolding rule_of
 class-is {t} {index} h r l ew ez cuts = ap (λ (x : Rule). x.class) (cut-rule t index r h.table l h.starts ew ez cuts)

@@ -113,7 +113,8 @@ module _ {t index : List ℕ} {i ceiling : ℕ} {os ws gs : List ℕ} {at : Exte
     in-set ek eb e = rw eb (abort-stopped T s (head_number head) (g.tracked.stops gs) (rw (as-abort (sym ek ∙ e)) at allows))
 
     pub ended-kept : {k b : ℕ} → k ≡ head_kind head → b ≡ head_number head → {stopped' totals' : List ℕ}
-        → EndStops T (i + 1) s b k stopped' → EndSupply (sizes_of t) T (i + 1) s b (k - 1) totals' → KeptOf (sizes_of t) (applied T (i + 1) s mv) stopped' totals'
+        → EndStops T (i + 1) s b k stopped' → EndSupply (sizes_of t) T (i + 1) s b (k - 1) totals'
+        → KeptOf (sizes_of t) (applied T (i + 1) s mv) stopped' totals'
     ended-kept {k} {b} ek eb st su = by_bool (eqb (head_kind head) 1)
         (λ q. let one = eqb-true (head_kind head) 1 q in
         let e : mv ≡ commit b = move-commit T head picks other one ∙ ap commit (sym eb) in

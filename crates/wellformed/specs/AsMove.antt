@@ -90,7 +90,8 @@ module _ (ceiling : ℕ) (c : ceiling ≤ 1024) (t s m target : List ℕ) (room 
   preview-foretells = go (state_verdict t s) refl
     where
       go : (v : Verdict) → state_verdict t s ≡ v
-          → Foretells (preview_answer (unless_rejected v (previewed ceiling (table_of t) (state_of s) m))) (answer_of (outcome_of result)) (target_after result target)
+          → Foretells (preview_answer (unless_rejected v (previewed ceiling (table_of t) (state_of s) m))) (answer_of (outcome_of result))
+          (target_after result target)
       go (Denied q) e = refuses q target result (denied e)
       go Allowed e = stepped e (step_words ceiling (table_of t) 1 (state_of s) m) refl _
 

@@ -76,7 +76,8 @@ part-bare s os = λ k. all (λ o. is_zero o || not (abort-bare s o k)) os
 pub allowed-bare : (t : Table) (s : State) (m : Move) → allowed t (bare_state s) m ≡ allowed t s m
 unfolding allowed
 allowed-bare t s (react r ps) = λ k.
-    both (unless (distinct ps && (ap (on_ports (consumed (rule_at t r))) (picked-bare s ps) ∙ on_ports-bare (consumed (rule_at t r)) (picked s ps)) k) WrongPick)
+    both (unless (distinct ps && (ap (on_ports (consumed (rule_at t r))) (picked-bare s ps)
+    ∙ on_ports-bare (consumed (rule_at t r)) (picked s ps)) k) WrongPick)
     (both (unless (owners_fit (rule_at t r).class (owners_at-bare s ps k)) WrongOwner)
     (both (unless ((ap (all (takes_part (bare_state s))) (owners_at-bare s ps) ∙ part-bare s (owners_at s ps)) k) TransactionAborting)
     (unless (has_id (rule_at t r) s) NoMoreIds)))

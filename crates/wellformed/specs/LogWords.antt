@@ -33,7 +33,8 @@ columns (m ∷ ms) = λ j. (head_of m ∷ take_at (four_picks m) (all_picks ms) 
             number = let w = four_picks-length m in omega arith
 
     rest : map (from_columns ms) (up_from 0 (length ms)) ≡ map move_words ms → map (from_columns (m ∷ ms)) (up_from 1 (length ms)) ≡ map move_words ms
-    rest ih = map-shift (from_columns (m ∷ ms)) (length ms) 0 ∙ map-up (λ x. from_columns (m ∷ ms) (suc x)) (from_columns ms) (length ms) 0 (λ x l. shifted x) ∙ ih
+    rest ih =
+        map-shift (from_columns (m ∷ ms)) (length ms) 0 ∙ map-up (λ x. from_columns (m ∷ ms) (suc x)) (from_columns ms) (length ms) 0 (λ x l. shifted x) ∙ ih
 
 pub all_picks-length : (ms : List Move) → length (all_picks ms) ≡ 4 * length ms
 all_picks-length [] = refl

@@ -40,7 +40,8 @@ pub record MoveLeft (ceiling : ℕ) (T S M ws : List ℕ) (k : ℕ) : Type 0 whe
   pub members : members_ended (state_of S) (move_of (table_of T) M) ≡ k
   pub held : Held (sizes_of T) state
 
-pub move-left : (ceiling : ℕ) → ceiling ≤ 1024 → (T S M target ws : List ℕ) (k : ℕ) → move_result ceiling T S M target ≡ leave ws k → MoveLeft ceiling T S M ws k
+pub move-left : (ceiling : ℕ) → ceiling ≤ 1024 → (T S M target ws : List ℕ) (k : ℕ) → move_result ceiling T S M target ≡ leave ws k
+    → MoveLeft ceiling T S M ws k
 unfolding move_result
 move-left ceiling c T S M target ws k h =
     let n = members_ended (state_of S) (move_of (table_of T) M) in

@@ -53,7 +53,8 @@ pub move_result-step : (ceiling : ℕ) (T S m target : List ℕ) → state_verdi
 unfolding move_result step_words
 move_result-step ceiling T S m target h l =
     rw (h, le-leb 2050 (length target) l)
-    (go (members_ended (state_of S) (move_of (table_of T) m)) (move_ok (table_of T) m) (within ceiling (step (table_of T) 1 (state_of S) (move_of (table_of T) m))))
+    (go (members_ended (state_of S) (move_of (table_of T) m)) (move_ok (table_of T) m)
+    (within ceiling (step (table_of T) 1 (state_of S) (move_of (table_of T) m))))
   where
     go : (k : ℕ) (b : Bool) (x : Stepped)
         → unless_denied (both (unless b MoveForm) Allowed) (stepped_result k (cond b x (refused MoveForm))) ≡ stepped_result k (cond b x (refused MoveForm))
@@ -72,7 +73,8 @@ verdict-same ceiling t s s' m h = rw (allowed_same s s' h t m, fewer)
 
 -- .. nor do the words that a step leaves, and its members
 pub stepped_result-same : (ceiling : ℕ) (t : Table) (i j : ℕ) (s s' : State) (m : List ℕ) → bare_state s ≡ bare_state s'
-    → stepped_result (members_ended s (move_of t m)) (step_words ceiling t i s m) ≡ stepped_result (members_ended s' (move_of t m)) (step_words ceiling t j s' m)
+    → stepped_result (members_ended s (move_of t m)) (step_words ceiling t i s m)
+    ≡ stepped_result (members_ended s' (move_of t m)) (step_words ceiling t j s' m)
 stepped_result-same ceiling t i j s s' m h =
     ap (stepped_result (members_ended s (move_of t m))) (step_words-verdict ceiling t i s m)
     ∙ rw (verdict-same ceiling t s s' (move_of t m) h, members_alike s s' h (move_of t m))

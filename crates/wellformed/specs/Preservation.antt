@@ -85,7 +85,8 @@ module _ {t : Table} (right : TableRight t) {s : State} (sound : Sound t.sizes s
   applied-small (commit b) k h small = ended-small is_message b s small
   applied-small (abort b) k h small = ended-small is_compensation b s small
 
-pub move-preserves : (T : List ℕ) → table_verdict T ≡ Allowed → (i : ℕ) (s : State) (m : List ℕ) → entries_ok (sizes_of T) s ≡ true → 1 ≤ s.next → s.next ≤ 65536
+pub move-preserves : (T : List ℕ) → table_verdict T ≡ Allowed → (i : ℕ) (s : State) (m : List ℕ) → entries_ok (sizes_of T) s ≡ true → 1 ≤ s.next
+    → s.next ≤ 65536
     → move_ok (table_of T) m ≡ true → allowed (table_of T) s (move_of (table_of T) m) ≡ Allowed
     → (entries_ok (sizes_of T) (applied (table_of T) i s (move_of (table_of T) m)) ≡ true)
     × (1 ≤ (applied (table_of T) i s (move_of (table_of T) m)).next) × ((applied (table_of T) i s (move_of (table_of T) m)).next ≤ 65536)

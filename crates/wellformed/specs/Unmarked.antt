@@ -68,7 +68,8 @@ ended-unmarked kind b s n few h =
     ap (λ (l : List Entry). any is_abort_mark (take (n - away) l)) whole
     ∙ none-front is_abort_mark (n - away) (map f a) (map f c) (omega (arith, length-map a f))
     (any-map f is_abort_mark a ∙ any-weaker (λ e. is_abort_mark (f e)) is_abort_mark (λ e k. still (owned b e && p e) e k) a
-    (sym (any-keep is_abort_mark q (take n es)) ∙ any-weaker (λ e. q e && is_abort_mark e) is_abort_mark (λ e k. and_right (q e) (is_abort_mark e) k) (take n es) h))
+    (sym (any-keep is_abort_mark q (take n es))
+    ∙ any-weaker (λ e. q e && is_abort_mark e) is_abort_mark (λ e k. and_right (q e) (is_abort_mark e) k) (take n es) h))
   where
     still : (c : Bool) (e : Entry) → is_abort_mark (cond c (to_global e) e) ≡ true → is_abort_mark e ≡ true
     still true e k = absurd (false≢true k)

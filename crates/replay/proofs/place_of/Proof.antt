@@ -45,4 +45,5 @@ returns-2 c =
 pub place_of_spec : {M : Type 1} → statement M
 place_of_spec =
     tie.close
-    (tie.spec Inv μ (λ c κs. c.requires) loop-holds (λ c. search rules) (λ c. search rules) returns (λ c. search rules) (λ c. search rules) loop-again returns-2)
+    (tie.spec Inv μ (λ c κs. c.requires) loop-holds (λ c. search rules) (λ c. search rules) returns (λ c. search rules)
+    (λ c. search rules) loop-again returns-2)

@@ -20,4 +20,5 @@ pub put_origins_spec : {M : Type 1} → statement M
 put_origins_spec =
     tie.close
     (tie.spec Inv μ (λ c. pasting-start _ _ _ _ (search rules) c.requires) (λ c. search rules) (λ c. search rules) (λ c. search rules) (λ c. search rules)
-    (λ c. search rules) (λ c. search rules) (λ c. search rules) loop-again (λ c. search rules) (λ c. pasting-done c.before.loop-i.invariant c.loop-i-test.false))
+    (λ c. search rules) (λ c. search rules) (λ c. search rules) loop-again (λ c. search rules)
+    (λ c. pasting-done c.before.loop-i.invariant c.loop-i-test.false))
