@@ -19,9 +19,9 @@ use Rattle.wellformed.specs.Ends.{stays}
 use Rattle.ending.specs.End.{NoneBefore}
 
 -- all before the first entry owned stay
-pub entries_from : (p : Entry → Bool) (id : ℕ) (row : ℕ → Entry) (n i : ℕ) → i ≤ n → all_below i (λ k. not (owned id (row k))) ≡ true
+pub entries-from : (p : Entry → Bool) (id : ℕ) (row : ℕ → Entry) (n i : ℕ) → i ≤ n → all_below i (λ k. not (owned id (row k))) ≡ true
     → CountedTo (stays p id) row n i i (count_if (stays p id) (rows row 0 n))
-entries_from p id row n i l none =
+entries-from p id row n i l none =
     counted-from (stays p id) row n i i l
     (count-uniform (stays p id) true row 0 i (λ k a u. true-or (p (row k)) (below_each (λ k. not (owned id (row k))) i k none (omega arith))))
 

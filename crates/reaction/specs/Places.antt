@@ -62,8 +62,8 @@ module _ (os ws gs : List ℕ) (n : ℕ) where
   values-at (p ∷ ps) h = rw (entry-at p (h p (inl refl)), values-at ps (λ q m. h q (inr m)))
 
 -- the pick at i, of the first k
-pub place_at : (n k : ℕ) (picks : List ℕ) → Places n (take k picks) → k ≤ length picks → (i : ℕ) → i < k → get_or picks i 0 < n
-place_at n k picks h l i m =
+pub place-at : (n k : ℕ) (picks : List ℕ) → Places n (take k picks) → k ≤ length picks → (i : ℕ) → i < k → get_or picks i 0 < n
+place-at n k picks h l i m =
     let low : i < length (take k picks) = omega (arith, length-take-le k picks l) in
     rw (← get_or-take k picks i 0 m) (h (get_or (take k picks) i 0) (get_or-among 0 (take k picks) i low))
 

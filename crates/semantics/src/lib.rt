@@ -1,8 +1,7 @@
 // The types in which document 01 is stated, for the definitions in specs/ and for the code. No code.
-
-// Why something is refused; specs/Answers.antt has the number of each, 01's or 02's.
 #![tactic(auto)]
 
+// Why something is refused; specs/Answers.antt has the number of each, 01's or 02's.
 #[derive(Clone, Copy)]
 pub enum Refusal {
     TableSizes,

@@ -11,7 +11,7 @@ use Rattle.lists.specs.Counts.{CountedTo, counted-turn}
 use Rattle.wellformed.specs.Ends.{stays}
 use Rattle.state.specs.Working.{row_of}
 use Rattle.ending.specs.Counted.{member_of, members-from, members-done}
-use Rattle.preview.proofs.Counting.{entries_from, entries-done}
+use Rattle.preview.proofs.Counting.{entries-from, entries-done}
 use Rattle.preview.proofs.ends.counts_after.Statement.{statement}
 use Rattle.preview.proofs.ends.counts_after.Tie as tie
 
@@ -27,7 +27,7 @@ abbrev μ : tie.decreases-loop-i
 loop-holds : tie.Need-loop-i-init Inv μ
 loop-holds c gs =
     let none = c.requires.1 in
-    (entries_from _ _ _ _ _ none.within none.none, members-from _ _ _ _ none.within none.none)
+    (entries-from _ _ _ _ _ none.within none.none, members-from _ _ _ _ none.within none.none)
 
 loop-again : tie.Need-loop-i-preserved Inv μ
 loop-again c gs =

@@ -6,7 +6,7 @@ use mathlib.Core.Bool.{true}
 use native.Mathlib.Omega.{arith}
 use lib.Dec.{ltb}
 use lib.ListN.{length, get_or}
-use Rattle.reaction.specs.Places.{place_at}
+use Rattle.reaction.specs.Places.{place-at}
 use Rattle.reaction.proofs.Picking.{four-at}
 use Rattle.reaction.proofs.picks.owners_at.Statement.{statement}
 use Rattle.reaction.proofs.picks.owners_at.Tie as tie
@@ -16,7 +16,7 @@ four c = search rules
 
 -- a pick in use is a place
 place : (c : tie.Start) (i : ℕ) → ltb i c.args.k ≡ true → get_or c.args.picks i 0 < 1024
-place c i h = place_at 1024 c.args.k c.args.picks c.requires.2 (omega (arith, four c, c.requires.0)) i (ltb-true i c.args.k h)
+place c i h = place-at 1024 c.args.k c.args.picks c.requires.2 (omega (arith, four c, c.requires.0)) i (ltb-true i c.args.k h)
 
 returns : tie.Need-returns
 returns c =
