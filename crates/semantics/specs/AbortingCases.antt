@@ -98,16 +98,20 @@ aborting =
     ∷ []
 
 pub aborting-hold : map (λ c. c.found) aborting ≡ map (λ c. c.stated) aborting
-unfolding two_lot three growing two aborting table_sizes_ok numbers_ok atom_ok rule_ok rules_ok table_contents_ok rule_of table_of state_of state_words state_sizes_ok
-    entry_ok entries_ok move_ok move_of reacted Move.ended allowed applied step step_words log_sizes_ok log_words run members_along after acts again replayed serial
-    along serial_fits table_verdict state_own_verdict state_verdict move_result make_move log_verdict run_result run_log serial_of serial_fits_of serial_result serialize
+unfolding two_lot three growing two aborting table_sizes_ok numbers_ok atom_ok rule_ok rules_ok table_contents_ok rule_of table_of state_of state_words
+    state_sizes_ok
+    entry_ok entries_ok move_ok move_of reacted Move.ended allowed applied step step_words log_sizes_ok log_words run members_along after acts again
+    replayed serial
+    along serial_fits table_verdict state_own_verdict state_verdict move_result make_move log_verdict run_result run_log serial_of serial_fits_of
+    serial_result serialize
 aborting-hold = refl
 
 -- what the abort leaves: the second transaction's compensation as a message of the plant, and the others as they were
 pub aborted : take 16 (make_move_target two_lot three (call_off 2) target)
     ≡ 7 ∷ 4 ∷ 1 ∷ 3 ∷ 1 ∷ 0 ∷ 3 ∷ 3 ∷ 0
     ∷ 0x03000001 ∷ 0x03000003 ∷ 0x00030007 ∷ 0x00000009 ∷ 0x01000005 ∷ 0x00030005 ∷ 0x00000003 ∷ []
-unfolding two_lot three table_sizes_ok numbers_ok atom_ok rule_ok rules_ok table_contents_ok rule_of table_of state_of state_words state_sizes_ok entry_ok entries_ok
+unfolding two_lot three table_sizes_ok numbers_ok atom_ok rule_ok rules_ok table_contents_ok rule_of table_of state_of state_words state_sizes_ok entry_ok
+    entries_ok
     move_ok move_of Move.ended allowed applied step step_words table_verdict state_own_verdict state_verdict move_result make_move_target
 aborted = refl
 
@@ -120,7 +124,8 @@ pub aborting_full : List Asked
 aborting_full = move growing (full 0x02000000) (rule1 0 2) 18 0 ∷ move growing (full 0x00010000) (rule1 0 2) 12 0 ∷ []
 
 pub full-hold : map (λ c. c.found) aborting_full ≡ map (λ c. c.stated) aborting_full
-unfolding growing aborting_full table_sizes_ok numbers_ok atom_ok rule_ok rules_ok table_contents_ok rule_of table_of state_of state_words state_sizes_ok entry_ok
+unfolding growing aborting_full table_sizes_ok numbers_ok atom_ok rule_ok rules_ok table_contents_ok rule_of table_of state_of state_words state_sizes_ok
+    entry_ok
     entries_ok move_ok move_of reacted allowed applied step step_words table_verdict state_own_verdict state_verdict move_result make_move
 full-hold = refl
 

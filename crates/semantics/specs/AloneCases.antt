@@ -91,25 +91,32 @@ full_cases =
     case (plant 1024 5121) (makes 5121 log_a 1) ∷ case (plant 1024 5120) (refuses 5120 6) ∷ case (plant 1025 5126) (refuses 5126 19) ∷ forever 1024 ∷ []
 
 pub plant-alone-holds : map (λ c. c.found) plant_cases ≡ map (λ c. c.stated) plant_cases
-unfolding two_lot start log_a plant_cases table_sizes_ok numbers_ok atom_ok rule_ok rules_ok table_contents_ok rule_of table_of state_of state_words state_sizes_ok
-    entry_ok entries_ok move_ok move_of reacted Move.ended allowed applied step step_words move_verdict log_sizes_ok log_words run enabled moves_alone reached_alone
-    is_still table_verdict state_own_verdict state_verdict log_verdict run_result run_log run_log_target alone_verdict alone_result alone_count alone_still run_unattended
+unfolding two_lot start log_a plant_cases table_sizes_ok numbers_ok atom_ok rule_ok rules_ok table_contents_ok rule_of table_of state_of state_words
+    state_sizes_ok
+    entry_ok entries_ok move_ok move_of reacted Move.ended allowed applied step step_words move_verdict log_sizes_ok log_words run enabled moves_alone
+    reached_alone
+    is_still table_verdict state_own_verdict state_verdict log_verdict run_result run_log run_log_target alone_verdict alone_result alone_count
+    alone_still run_unattended
     run_unattended_target
 plant-alone-holds = refl
 
 pub refused-alone-holds : map (λ c. c.found) refused_cases ≡ map (λ c. c.stated) refused_cases
-unfolding two_lot start refused_cases table_sizes_ok numbers_ok atom_ok rule_ok rules_ok table_contents_ok rule_of table_of state_of state_sizes_ok entry_ok entries_ok
+unfolding two_lot start refused_cases table_sizes_ok numbers_ok atom_ok rule_ok rules_ok table_contents_ok rule_of table_of state_of state_sizes_ok
+    entry_ok entries_ok
     table_verdict state_own_verdict state_verdict alone_verdict alone_result alone_count alone_still run_unattended run_unattended_target
 refused-alone-holds = refl
 
 pub endless-alone-holds : map (λ c. c.found) endless_cases ≡ map (λ c. c.stated) endless_cases
-unfolding endless endless_cases table_sizes_ok numbers_ok atom_ok rule_ok rules_ok table_contents_ok rule_of table_of state_of state_sizes_ok entry_ok entries_ok reacted
+unfolding endless endless_cases table_sizes_ok numbers_ok atom_ok rule_ok rules_ok table_contents_ok rule_of table_of state_of state_sizes_ok entry_ok
+    entries_ok reacted
     allowed applied move_verdict log_words enabled moves_alone reached_alone is_still table_verdict state_own_verdict state_verdict alone_verdict alone_result
     alone_count alone_still run_unattended run_unattended_target
 endless-alone-holds = refl
 
 pub full-alone-holds : map (λ c. c.found) full_cases ≡ map (λ c. c.stated) full_cases
-unfolding two_lot start log_a endless full_cases table_sizes_ok numbers_ok atom_ok rule_ok rules_ok table_contents_ok rule_of table_of state_of state_sizes_ok entry_ok
-    entries_ok reacted Move.ended allowed applied move_verdict log_words enabled moves_alone reached_alone is_still table_verdict state_own_verdict state_verdict
+unfolding two_lot start log_a endless full_cases table_sizes_ok numbers_ok atom_ok rule_ok rules_ok table_contents_ok rule_of table_of state_of
+    state_sizes_ok entry_ok
+    entries_ok reacted Move.ended allowed applied move_verdict log_words enabled moves_alone reached_alone is_still table_verdict state_own_verdict
+    state_verdict
     alone_verdict alone_result alone_count alone_still run_unattended run_unattended_target
 full-alone-holds = refl

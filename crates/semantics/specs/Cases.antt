@@ -133,7 +133,8 @@ cases =
 
 pub cases-hold : map (λ c. found c.call) cases ≡ map (λ c. c.stated) cases
 unfolding two_lot start log_a log_c log_d serial_d cases found table_sizes_ok numbers_ok atom_ok rule_ok rules_ok table_contents_ok rule_of table_of state_of
-    state_words state_sizes_ok entry_ok entries_ok move_ok move_of reacted Move.ended allowed applied step step_words log_sizes_ok log_words run members_along after acts
+    state_words state_sizes_ok entry_ok entries_ok move_ok move_of reacted Move.ended allowed applied step step_words log_sizes_ok log_words run
+    members_along after acts
     again replayed serial along serial_fits table_verdict state_own_verdict state_verdict check_table check_state move_result make_move make_move_target
     log_verdict run_result run_log run_log_target serial_of serial_fits_of serial_result serialize serialize_target
 cases-hold = refl

@@ -79,13 +79,15 @@ page_cases =
     ∷ []
 
 pub list-cases-hold : map (λ c. c.found) list_cases ≡ map (λ c. c.stated) list_cases
-unfolding two_lot start log_a list_cases table_sizes_ok numbers_ok atom_ok rule_ok rules_ok table_contents_ok rule_of table_of state_of state_words state_sizes_ok
+unfolding two_lot start log_a list_cases table_sizes_ok numbers_ok atom_ok rule_ok rules_ok table_contents_ok rule_of table_of state_of state_words
+    state_sizes_ok
     entry_ok entries_ok move_ok move_of reacted Move.ended allowed applied step step_words move_verdict log_sizes_ok run table_verdict state_own_verdict
     state_verdict log_verdict run_result run_log run_log_target enabled list_result list_length list_moves list_moves_target
 list-cases-hold = refl
 
 pub page-cases-hold : map (λ c. c.found) page_cases ≡ map (λ c. c.stated) page_cases
-unfolding two_lot start log_a page_cases table_sizes_ok numbers_ok atom_ok rule_ok rules_ok table_contents_ok rule_of table_of state_of state_words state_sizes_ok
+unfolding two_lot start log_a page_cases table_sizes_ok numbers_ok atom_ok rule_ok rules_ok table_contents_ok rule_of table_of state_of state_words
+    state_sizes_ok
     entry_ok entries_ok move_ok move_of reacted Move.ended allowed applied step step_words move_verdict log_sizes_ok run table_verdict state_own_verdict
     state_verdict log_verdict run_result run_log run_log_target enabled list_result list_length list_moves list_moves_target
 page-cases-hold = refl

@@ -135,15 +135,21 @@ odd_members =
     ∷ []
 
 pub plant-members-hold : map (λ c. c.found) plant_members ≡ map (λ c. c.stated) plant_members
-unfolding two_lot start log_a log_c log_d plant_members table_sizes_ok numbers_ok atom_ok rule_ok rules_ok table_contents_ok rule_of table_of state_of state_words
-    state_sizes_ok entry_ok entries_ok move_ok move_of reacted Move.ended allowed applied step step_words log_sizes_ok log_words run members_along after acts again
-    replayed serial along serial_fits table_verdict state_own_verdict state_verdict move_result make_move log_verdict run_result run_log run_log_target serial_of
+unfolding two_lot start log_a log_c log_d plant_members table_sizes_ok numbers_ok atom_ok rule_ok rules_ok table_contents_ok rule_of table_of state_of
+    state_words
+    state_sizes_ok entry_ok entries_ok move_ok move_of reacted Move.ended allowed applied step step_words log_sizes_ok log_words run members_along after
+    acts again
+    replayed serial along serial_fits table_verdict state_own_verdict state_verdict move_result make_move log_verdict run_result run_log run_log_target
+    serial_of
     serial_fits_of serial_result serialize serialize_target previewed preview_result preview_move
 plant-members-hold = refl
 
 pub odd-members-hold : map (λ c. c.found) odd_members ≡ map (λ c. c.stated) odd_members
-unfolding two_lot three join_four four_messages four_open odd_members table_sizes_ok numbers_ok atom_ok rule_ok rules_ok table_contents_ok rule_of table_of state_of
-    state_words state_sizes_ok entry_ok entries_ok move_ok move_of reacted Move.ended allowed applied step step_words log_sizes_ok log_words run members_along after
-    acts again replayed serial along serial_fits table_verdict state_own_verdict state_verdict move_result make_move log_verdict run_result run_log run_log_target
+unfolding two_lot three join_four four_messages four_open odd_members table_sizes_ok numbers_ok atom_ok rule_ok rules_ok table_contents_ok rule_of
+    table_of state_of
+    state_words state_sizes_ok entry_ok entries_ok move_ok move_of reacted Move.ended allowed applied step step_words log_sizes_ok log_words run
+    members_along after
+    acts again replayed serial along serial_fits table_verdict state_own_verdict state_verdict move_result make_move log_verdict run_result run_log
+    run_log_target
     serial_of serial_fits_of serial_result serialize serialize_target previewed preview_result preview_move
 odd-members-hold = refl

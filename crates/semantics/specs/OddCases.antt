@@ -160,6 +160,7 @@ unfolding two_lot start odd table_sizes_ok numbers_ok atom_ok rule_ok rules_ok t
 odd-hold = refl
 
 pub giving : (serialize giving_table (1 ∷ 1 ∷ 0 ∷ 0 ∷ []) (0 ∷ []) (0 ∷ [])).number ≡ 14
-unfolding giving_table table_sizes_ok numbers_ok atom_ok rule_ok rules_ok table_contents_ok rule_of table_of state_of state_sizes_ok entry_ok entries_ok log_sizes_ok
+unfolding giving_table table_sizes_ok numbers_ok atom_ok rule_ok rules_ok table_contents_ok rule_of table_of state_of state_sizes_ok entry_ok entries_ok
+    log_sizes_ok
     run table_verdict state_own_verdict state_verdict log_verdict serial_result serialize
 giving = refl

@@ -130,13 +130,15 @@ full_previews =
     ∷ []
 
 pub plant-previews-hold : map (λ c. c.found) plant_previews ≡ map (λ c. c.stated) plant_previews
-unfolding two_lot start log_a log_c log_d plant_previews table_sizes_ok numbers_ok atom_ok rule_ok rules_ok table_contents_ok rule_of table_of state_of state_words
+unfolding two_lot start log_a log_c log_d plant_previews table_sizes_ok numbers_ok atom_ok rule_ok rules_ok table_contents_ok rule_of table_of state_of
+    state_words
     state_sizes_ok entry_ok entries_ok move_ok move_of reacted Move.ended allowed applied step step_words log_sizes_ok run table_verdict state_own_verdict
     state_verdict log_verdict run_result run_log run_log_target previewed preview_result preview_move
 plant-previews-hold = refl
 
 pub odd-previews-hold : map (λ c. c.found) odd_previews ≡ map (λ c. c.stated) odd_previews
-unfolding two_lot start three growing two global_rules merge_four four_apart odd_previews table_sizes_ok numbers_ok atom_ok rule_ok rules_ok table_contents_ok rule_of table_of state_of
+unfolding two_lot start three growing two global_rules merge_four four_apart odd_previews table_sizes_ok numbers_ok atom_ok rule_ok rules_ok
+    table_contents_ok rule_of table_of state_of
     state_sizes_ok entry_ok entries_ok move_ok move_of reacted Move.ended allowed applied step step_words table_verdict state_own_verdict
     state_verdict previewed preview_result preview_move
 odd-previews-hold = refl

@@ -56,6 +56,7 @@ pub damaged : map said
     ∷ (input_a ++ 0 ∷ 0 ∷ 0 ∷ 0 ∷ 0 ∷ [])
     ∷ [])
     ≡ 0 ∷ 1 ∷ 1 ∷ 1 ∷ 1 ∷ 2 ∷ 3 ∷ 3 ∷ 13 ∷ 13 ∷ 13 ∷ 13 ∷ 13 ∷ 13 ∷ 13 ∷ []
-unfolding input_verdict parts_of two_lot start log_a table_sizes_ok numbers_ok atom_ok rule_ok rules_ok table_contents_ok state_of state_sizes_ok entry_ok entries_ok
+unfolding input_verdict parts_of two_lot start log_a table_sizes_ok numbers_ok atom_ok rule_ok rules_ok table_contents_ok state_of state_sizes_ok entry_ok
+    entries_ok
     log_sizes_ok table_verdict state_own_verdict state_verdict log_verdict
 damaged = refl

@@ -81,13 +81,17 @@ odd_tallies =
     ∷ []
 
 pub plant-tallies-hold : map (λ c. c.found) plant_tallies ≡ map (λ c. c.stated) plant_tallies
-unfolding two_lot start log_a log_c log_d plant_tallies table_sizes_ok numbers_ok atom_ok rule_ok rules_ok table_contents_ok rule_of table_of state_of state_words
-    state_sizes_ok entry_ok entries_ok move_ok move_of reacted Move.ended allowed applied step step_words log_sizes_ok log_words run members_along tally_along history
+unfolding two_lot start log_a log_c log_d plant_tallies table_sizes_ok numbers_ok atom_ok rule_ok rules_ok table_contents_ok rule_of table_of state_of
+    state_words
+    state_sizes_ok entry_ok entries_ok move_ok move_of reacted Move.ended allowed applied step step_words log_sizes_ok log_words run members_along
+    tally_along history
     table_verdict state_own_verdict state_verdict log_verdict run_result run_log run_log_tally
 plant-tallies-hold = refl
 
 pub odd-tallies-hold : map (λ c. c.found) odd_tallies ≡ map (λ c. c.stated) odd_tallies
-unfolding join_four four_messages four_open odd_tallies table_sizes_ok numbers_ok atom_ok rule_ok rules_ok table_contents_ok rule_of table_of state_of state_words
-    state_sizes_ok entry_ok entries_ok move_ok move_of reacted Move.ended allowed applied step step_words log_sizes_ok log_words run members_along tally_along history
+unfolding join_four four_messages four_open odd_tallies table_sizes_ok numbers_ok atom_ok rule_ok rules_ok table_contents_ok rule_of table_of state_of
+    state_words
+    state_sizes_ok entry_ok entries_ok move_ok move_of reacted Move.ended allowed applied step step_words log_sizes_ok log_words run members_along
+    tally_along history
     table_verdict state_own_verdict state_verdict log_verdict run_result run_log run_log_tally
 odd-tallies-hold = refl

@@ -22,7 +22,8 @@ abbrev places_by : List (List ℕ) → List ℕ
 places_by ms = map (λ a. a.place) (order_in two_lot start (log_of ms))
 
 facts-a : SerialFacts line_ceiling two_lot start (log_of log_a)
-unfolding end_of_log two_lot start log_a table_sizes_ok numbers_ok atom_ok rule_ok rules_ok table_contents_ok rule_of table_of state_of state_sizes_ok entry_ok entries_ok move_ok move_of reacted Move.ended allowed applied step step_words log_sizes_ok run table_verdict state_own_verdict state_verdict
+unfolding end_of_log two_lot start log_a table_sizes_ok numbers_ok atom_ok rule_ok rules_ok table_contents_ok rule_of table_of state_of state_sizes_ok
+    entry_ok entries_ok move_ok move_of reacted Move.ended allowed applied step step_words log_sizes_ok run table_verdict state_own_verdict state_verdict
 facts-a = serial-facts line_ceiling two_lot start (log_of log_a) (end_of_log log_a) refl refl refl refl refl refl
 
 told-a : All (Told members) (acts_in two_lot start (log_of log_a))
@@ -34,7 +35,8 @@ unfolding two_lot start log_a rule_of table_of state_of move_of reacted Move.end
 order-a = facts-a.order-places members told-a
 
 facts-d : SerialFacts line_ceiling two_lot start (log_of log_d)
-unfolding end_of_log two_lot start log_d table_sizes_ok numbers_ok atom_ok rule_ok rules_ok table_contents_ok rule_of table_of state_of state_sizes_ok entry_ok entries_ok move_ok move_of reacted Move.ended allowed applied step step_words log_sizes_ok run table_verdict state_own_verdict state_verdict
+unfolding end_of_log two_lot start log_d table_sizes_ok numbers_ok atom_ok rule_ok rules_ok table_contents_ok rule_of table_of state_of state_sizes_ok
+    entry_ok entries_ok move_ok move_of reacted Move.ended allowed applied step step_words log_sizes_ok run table_verdict state_own_verdict state_verdict
 facts-d = serial-facts line_ceiling two_lot start (log_of log_d) (end_of_log log_d) refl refl refl refl refl refl
 
 told-d : All (Told members) (acts_in two_lot start (log_of log_d))

@@ -24,15 +24,18 @@ unfoldable pub end_of_log : List (List ℕ) → State
 end_of_log ms = end_from line_ceiling two_lot start ms
 
 pub serializable-a : Serializable line_ceiling two_lot start (log_of log_a) (end_of_log log_a)
-unfolding end_of_log two_lot start log_a table_sizes_ok numbers_ok atom_ok rule_ok rules_ok table_contents_ok rule_of table_of state_of state_sizes_ok entry_ok entries_ok move_ok move_of reacted Move.ended allowed applied step step_words log_sizes_ok run table_verdict state_own_verdict state_verdict
+unfolding end_of_log two_lot start log_a table_sizes_ok numbers_ok atom_ok rule_ok rules_ok table_contents_ok rule_of table_of state_of state_sizes_ok
+    entry_ok entries_ok move_ok move_of reacted Move.ended allowed applied step step_words log_sizes_ok run table_verdict state_own_verdict state_verdict
 serializable-a = demand3 line_ceiling two_lot start (log_of log_a) (end_of_log log_a) refl refl refl refl refl refl
 
 pub serializable-d : Serializable line_ceiling two_lot start (log_of log_d) (end_of_log log_d)
-unfolding end_of_log two_lot start log_d table_sizes_ok numbers_ok atom_ok rule_ok rules_ok table_contents_ok rule_of table_of state_of state_sizes_ok entry_ok entries_ok move_ok move_of reacted Move.ended allowed applied step step_words log_sizes_ok run table_verdict state_own_verdict state_verdict
+unfolding end_of_log two_lot start log_d table_sizes_ok numbers_ok atom_ok rule_ok rules_ok table_contents_ok rule_of table_of state_of state_sizes_ok
+    entry_ok entries_ok move_ok move_of reacted Move.ended allowed applied step step_words log_sizes_ok run table_verdict state_own_verdict state_verdict
 serializable-d = demand3 line_ceiling two_lot start (log_of log_d) (end_of_log log_d) refl refl refl refl refl refl
 
 pub serializable-h : Serializable line_ceiling two_lot start (log_of []) (end_of_log [])
-unfolding end_of_log two_lot start table_sizes_ok numbers_ok atom_ok rule_ok rules_ok table_contents_ok rule_of table_of state_of state_sizes_ok entry_ok entries_ok log_sizes_ok run table_verdict state_own_verdict state_verdict
+unfolding end_of_log two_lot start table_sizes_ok numbers_ok atom_ok rule_ok rules_ok table_contents_ok rule_of table_of state_of state_sizes_ok entry_ok
+    entries_ok log_sizes_ok run table_verdict state_own_verdict state_verdict
 serializable-h = demand3 line_ceiling two_lot start (log_of []) (end_of_log []) refl refl refl refl refl refl
 
 -- ---- 17
@@ -57,11 +60,14 @@ pub end_swelling : State
 end_swelling = end_from 3 swelling three_full log_swelling
 
 pub serializable-swelling : Serializable 3 swelling three_full (log_of log_swelling) end_swelling
-unfolding end_swelling swelling three_full log_swelling table_sizes_ok numbers_ok atom_ok rule_ok rules_ok table_contents_ok rule_of table_of state_of state_sizes_ok entry_ok entries_ok move_ok move_of reacted Move.ended allowed applied step step_words log_sizes_ok run table_verdict state_own_verdict state_verdict
+unfolding end_swelling swelling three_full log_swelling table_sizes_ok numbers_ok atom_ok rule_ok rules_ok table_contents_ok rule_of table_of state_of
+    state_sizes_ok entry_ok entries_ok move_ok move_of reacted Move.ended allowed applied step step_words log_sizes_ok run table_verdict state_own_verdict
+    state_verdict
 serializable-swelling = demand3 3 swelling three_full (log_of log_swelling) end_swelling refl refl refl refl refl refl
 
 swelling-outgrown : room_along 3 swelling three_full (log_of log_swelling) ≡ false
-unfolding swelling three_full log_swelling table_of rule_of state_of move_of reacted Move.ended allowed applied step after acts again replayed serial along serial_of
+unfolding swelling three_full log_swelling table_of rule_of state_of move_of reacted Move.ended allowed applied step after acts again replayed serial
+    along serial_of
 swelling-outgrown = refl
 
 pub swelling-refused : (target : List ℕ) → 16 ≤ length target → serial_result 3 swelling three_full (log_of log_swelling) target ≡ refuse SerialTooManyEntries

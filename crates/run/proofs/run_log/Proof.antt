@@ -45,8 +45,11 @@ returns c =
 tally-at-requires : tie.Need-tally_at-tally-requires Inv μ
 tally-at-requires c κs =
     let v = c.loop-i.invariant in
-    let sized = v.0.log in
-    (record { sizes = sized; within = more c.before.before.before.before.before.before }, tally-room v.2 (more c.before.before.before.before.before.before) c.make_at-made.ensures c.in_default.is sized.few)
+    let sized = v.0.log in (
+      record { sizes = sized; within = more c.before.before.before.before.before.before },
+      tally-room v.2
+          (more c.before.before.before.before.before.before) c.make_at-made.ensures c.in_default.is sized.few,
+    )
 
 loop-again : tie.Need-loop-i-preserved Inv μ
 loop-again c =

@@ -31,9 +31,11 @@ returns c =
     let sizes = c.requires.1 in
     let (n, q) = c.entry_count-len.ensures in
     loaded q n
-    (rw c.owners_of.ensures.value at (copied-column _ _ _ _ (owners-whole c.before.before.before.before.before.before.before.before) sizes.owners (within c.before.before.before.before.before.before.before.before.before)
+    (rw c.owners_of.ensures.value at (copied-column _ _ _ _ (owners-whole c.before.before.before.before.before.before.before.before) sizes.owners
+    (within c.before.before.before.before.before.before.before.before.before)
     c.narrow_words.ensures))
-    (rw c.items_of.ensures.value at (copied-column _ _ _ _ (items-whole c.before.before.before.before.before) sizes.items (within c.before.before.before.before.before.before.before.before.before)
+    (rw c.items_of.ensures.value at (copied-column _ _ _ _ (items-whole c.before.before.before.before.before) sizes.items
+    (within c.before.before.before.before.before.before.before.before.before)
     c.copy_words.ensures))
     c.number_column.ensures
 

@@ -59,7 +59,8 @@ open-in-requires c κs = (state-given _ _ (ok c.before.before.before)).1
 returns-5 : tie.Need-returns-then-open_in
 returns-5 c =
     let a = (start c.before.before.before.before.before).args in
-    serial-open a.table.now a.state.now a.log.now a.target.now (ok c.before.before.before.before.before) (sizes c.before.before.before.before.before) (room c.before.before.before.before.before)
+    serial-open a.table.now a.state.now a.log.now a.target.now (ok c.before.before.before.before.before) (sizes c.before.before.before.before.before)
+    (room c.before.before.before.before.before)
     (sym c.begins_emit.ensures ∙ c.if-begins_emit.false) (sym c.open_in.ensures ∙ c.if-open_in.true)
 
 serialize-log-requires : tie.Need-serialize_log-requires
@@ -79,7 +80,9 @@ returns-6 c =
     let quiet = sym c.begins_emit.ensures
     ∙ c.if-begins_emit.false in
     let closed = sym c.open_in.ensures ∙ c.if-open_in.false in
-    serial-done a.table.now a.state.now a.log.now a.target.now (ok c.before.before.before.before.before.before.before.before.before.before) (sizes c.before.before.before.before.before.before.before.before.before.before) (room c.before.before.before.before.before.before.before.before.before.before) quiet closed
+    serial-done a.table.now a.state.now a.log.now a.target.now (ok c.before.before.before.before.before.before.before.before.before.before)
+    (sizes c.before.before.before.before.before.before.before.before.before.before)
+    (room c.before.before.before.before.before.before.before.before.before.before) quiet closed
     c.serialize_log.ensures
 
 pub serialize_spec : {M : Type 1} → statement M

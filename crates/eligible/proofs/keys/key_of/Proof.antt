@@ -69,7 +69,8 @@ local-key-requires c κs =
     let s = start m in
     let a = s.args in
     let port = m.port_of-port.ensures in
-    let l = is-local a.z (outside a.aborting.now) a.ids.now a.m (entry m 0) (message m) (port-small a.item) (inner c.before.before.before) (takes c.before.before)
+    let l = is-local a.z (outside a.aborting.now) a.ids.now a.m (entry m 0) (message m) (port-small a.item) (inner c.before.before.before)
+    (takes c.before.before)
     (omega (arith, port, c.if-port-z-2.true)) in
     (s.requires.1, s.requires.2, s.requires.3 0 l, omega (arith, port, port-small a.item))
 
@@ -79,7 +80,8 @@ returns-5 c origin =
     let s = start m in
     let a = s.args in
     let port = m.port_of-port.ensures in
-    key-local a.z (outside a.aborting.now) a.ids.now a.m (entry m origin) (message m) (port-small a.item) (inner c.before.before.before.before) (takes c.before.before.before)
+    key-local a.z (outside a.aborting.now) a.ids.now a.m (entry m origin) (message m) (port-small a.item) (inner c.before.before.before.before)
+    (takes c.before.before.before)
     (omega (arith, port, c.if-port-z-2.true)) s.requires.1 (rw port at c.local_key.ensures)
 
 returns-6 : tie.Need-returns

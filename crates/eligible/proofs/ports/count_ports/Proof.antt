@@ -32,8 +32,12 @@ bin-below c = omega (arith, c.bin_of-bin.ensures)
 
 loop-again : tie.Need-loop-i-preserved Inv μ
 loop-again c =
-    let l = c.loop-i in
-    (l.invariant.0, l.invariant.1, tally-next l.invariant.2 (inside c.before.before.before.before.before) (here c.before.before.before.before.before) c.bin_of-bin.ensures)
+    let l = c.loop-i in (
+      l.invariant.0,
+      l.invariant.1,
+      tally-next l.invariant.2 (inside c.before.before.before.before.before) (here c.before.before.before.before.before)
+          c.bin_of-bin.ensures,
+    )
 
 returns : tie.Need-returns Inv μ
 returns c =

@@ -15,7 +15,13 @@ count-groups-requires : tie.Need-count_groups-requires
 count-groups-requires c κs =
     let a = c.args in
     let b = c.requires.0 in (
-      (rw c.low_keys-lows.ensures (lows-below a.keys.now a.n b.columns.fits (long c.before.before.before.before.before.before.before.before)), b.low 0, b.low 1, b.low 2, b.low 3),
+      (
+        rw c.low_keys-lows.ensures (lows-below a.keys.now a.n b.columns.fits (long c.before.before.before.before.before.before.before.before)),
+        b.low 0,
+        b.low 1,
+        b.low 2,
+        b.low 3,
+      ),
       (search rules, λ g. get_or-replicate-any 1024 g 0),
     )
 
@@ -23,7 +29,8 @@ first-counted-requires : tie.Need-first_counted-requires
 first-counted-requires c κs =
     let a = c.args in
     let lows = c.low_keys-lows.ensures in
-    let g = rw (lows, lows-first a.keys.now a.n c.requires.0.columns.fits (long c.before.before.before.before.before.before.before.before.before.before)) at c.count_groups.ensures.0 in
+    let g = rw (lows, lows-first a.keys.now a.n c.requires.0.columns.fits (long c.before.before.before.before.before.before.before.before.before.before))
+    at c.count_groups.ensures.0 in
     (c.requires, g)
 
 pub count_and_choose_spec : {M : Type 1} → statement M

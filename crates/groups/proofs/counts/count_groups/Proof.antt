@@ -49,7 +49,12 @@ short c =
 add-counts : tie.Need-overflow_add-counts Inv μ
 add-counts c =
     let (k, first, second, third, fourth, w, h, top) = c.loop-i.invariant in
-    omega (arith, word_fits h (inside c.before.before.before.before) (short c.before.before.before.before) _ (here c.before.before.before.before) (small c.before.before.before.before), weight-small _ _ _ _ w _ (low-port c.before.before.before.before))
+    omega (
+      arith,
+      word_fits h (inside c.before.before.before.before) (short c.before.before.before.before) _ (here c.before.before.before.before)
+          (small c.before.before.before.before),
+      weight-small _ _ _ _ w _ (low-port c.before.before.before.before),
+    )
 
 loop-again : tie.Need-loop-i-preserved Inv μ
 loop-again c =
@@ -61,7 +66,9 @@ loop-again c =
       third,
       fourth,
       w,
-      grouping-next h (inside c.before.before.before.before.before) (short c.before.before.before.before.before) _ (here c.before.before.before.before.before) (small c.before.before.before.before.before) first second third fourth (w.each _ (low-port c.before.before.before.before.before)),
+      grouping-next h (inside c.before.before.before.before.before) (short c.before.before.before.before.before) _
+          (here c.before.before.before.before.before) (small c.before.before.before.before.before) first second third fourth
+          (w.each _ (low-port c.before.before.before.before.before)),
       top-next c.loop-i.i c.args.keys.now top low high most,
     )
 

@@ -88,7 +88,8 @@ grouped c =
     let a = c.args in
     let p = c.requires.0 in
     let four : length a.takes ≡ 4 = search rules in
-    let first : get_or (take a.n a.keys.now) c.loop-p.p 0 % 512 ≡ get_or a.takes 0 0 = rw (here c.before.before.before.before) (omega (arith, c.if-key-t.false)) in
+    let first : get_or (take a.n a.keys.now) c.loop-p.p 0 % 512 ≡ get_or a.takes 0 0 = rw (here c.before.before.before.before)
+    (omega (arith, c.if-key-t.false)) in
     rw (here c.before.before.before.before) at (in_group (take a.n a.keys.now) a.k p.1 p.2 a.takes four p.3 c.loop-p.p (inside c.before.before.before.before)
     (rw (here c.before.before.before.before) (small c.before.before.before.before)) first)
 
@@ -158,12 +159,14 @@ loop-again-3 c =
     let a = c.args in
     let l = c.loop-p in
     let g = grouped c.before.before.before.before.before.before.before in
-    let k : get_or (take a.n a.keys.now) l.p 0 ≡ get_or a.keys.now l.p 0 = here c.before.before.before.before.before.before.before.before.before.before.before in
+    let k : get_or (take a.n a.keys.now) l.p 0 ≡ get_or a.keys.now l.p 0 = here
+    c.before.before.before.before.before.before.before.before.before.before.before in
     let w = g.width ∙ sym (ap (λ (x : List ℕ). get_or x 0 0) c.widths_in-below.ensures) in
     let wrote = g.paged (rw (c.shifted-wanted.ensures, ← k) at c.fill-done.ensures) in
     let more = paging-more (choice_words a.head no_picks 0) 5 (five-words a.head no_picks 0 refl) l.invariant.1
     (choices_in (take a.n a.keys.now) (get_or a.takes 0 0) (rest_of a.takes a.k) l.p)
-    (groups_from (take a.n a.keys.now) (get_or a.takes 0 0) (rest_of a.takes a.k) (l.p + 1)) _ _ (next c.before.before.before.before.before.before.before) wrote in
+    (groups_from (take a.n a.keys.now) (get_or a.takes 0 0) (rest_of a.takes a.k) (l.p + 1)) _ _ (next c.before.before.before.before.before.before.before)
+    wrote in
     let none : l.skip - length (choices_in (take a.n a.keys.now) (get_or a.takes 0 0) (rest_of a.takes a.k) l.p) ≡ 0 = omega
     (arith, w, c.if-width-skip.false) in
     (omega (arith, c.loop-p-test.true), rw none at more)

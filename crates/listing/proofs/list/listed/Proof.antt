@@ -28,12 +28,25 @@ reactions-requires c κs =
 tail-requires : tie.Need-tail-ends-requires
 tail-requires c κs =
     let p = c.requires in
-    let same = paged-length _ 5 c.reactions-heads.ensures.0.paged in
-    ((p.0.4, p.0.5), (omega (arith, p.1.0), omega (arith, p.1.0, few c.before.before.before.before.before.before), omega (arith, p.1.1, same, few c.before.before.before.before.before.before)))
+    let same = paged-length _ 5 c.reactions-heads.ensures.0.paged in (
+      (p.0.4, p.0.5),
+      (
+        omega (arith, p.1.0),
+        omega (arith, p.1.0, few c.before.before.before.before.before.before),
+        omega
+            (arith, p.1.1, same, few c.before.before.before.before.before.before),
+      ),
+    )
 
 add-t27 : tie.Need-overflow_add-result-2
 add-t27 c =
-    omega (arith, few c.before.before.before.before.before.before.before.before.before.before.before.before.before, paged-le _ 5 c.tail-ends.ensures.0.paged, c.requires.1.0)
+    omega (
+      arith,
+      few c.before.before.before.before.before.before.before.before.before.before.before.before.before,
+      paged-le _ 5
+          c.tail-ends.ensures.0.paged,
+      c.requires.1.0,
+    )
 
 returns : tie.Need-returns
 returns c =

@@ -49,9 +49,11 @@ keys-of-requires c κs =
       columns s.args.table.now s.args.state.now _ _ _ c.load-at.result s.requires.0.accepted c.load-at.ensures,
       search rules,
       rw sizes (places s.args.table.now s.args.state.now _ _ _ c.load-at.result s.requires.0.accepted c.load-at.ensures
-          c.sizes_of-z.result.globals (globals c.before.before.before.before.before.before.before.before.before.before.before.before.before.before) c.survey.ensures ids),
+          c.sizes_of-z.result.globals (globals c.before.before.before.before.before.before.before.before.before.before.before.before.before.before)
+          c.survey.ensures ids),
       none-global s.args.table.now s.args.state.now _ _ _ c.load-at.result s.requires.0.accepted c.load-at.ensures
-          c.sizes_of-z.result.globals (globals c.before.before.before.before.before.before.before.before.before.before.before.before.before.before) c.survey.ensures,
+          c.sizes_of-z.result.globals (globals c.before.before.before.before.before.before.before.before.before.before.before.before.before.before)
+          c.survey.ensures,
     )
 
 listed-requires : tie.Need-listed-requires

@@ -22,7 +22,13 @@ ends-requires-2 c κs =
 
 add-t16 : tie.Need-overflow_add-result-2
 add-t16 c =
-    omega (arith, few c.before.before.before.before.before.before.before.before.before.before.before.before.before, paged-le _ 5 c.ends-aborts.ensures.0.paged, c.requires.1.0)
+    omega (
+      arith,
+      few c.before.before.before.before.before.before.before.before.before.before.before.before.before,
+      paged-le _ 5
+          c.ends-aborts.ensures.0.paged,
+      c.requires.1.0,
+    )
 
 returns : tie.Need-returns
 returns c =

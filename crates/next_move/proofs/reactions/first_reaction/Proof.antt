@@ -77,8 +77,11 @@ returns-2 : tie.Need-returns Inv μ
 returns-2 c =
     let l = c.loop-r in
     let rules = (sizes_of c.args.table.now).rules in
-    let z = ap (λ z. z.rules) c.sizes_of-rules.ensures in
-    (c.none.ensures ∙ sym (ap first_move (up-end (rules_of c.before.before.before.before.before) rules l.r (rw (← z) c.loop-r-test.false))) ∙ l.invariant.0, l.invariant.2)
+    let z = ap (λ z. z.rules) c.sizes_of-rules.ensures in (
+      c.none.ensures ∙ sym (ap first_move (up-end (rules_of c.before.before.before.before.before) rules l.r (rw (← z) c.loop-r-test.false))) ∙
+          l.invariant.0,
+      l.invariant.2,
+    )
 
 pub first_reaction_spec : {M : Type 1} → statement M
 first_reaction_spec =

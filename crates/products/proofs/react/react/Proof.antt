@@ -40,7 +40,8 @@ returns : tie.Need-returns
 returns c =
     let a = c.args in
     let l = c.remove.new in
-    reacted-holds a.rule c.requires.ready.rule a.picks (four c.before.before.before.before.before.before.before.before.before.before.before.before.before.before) a.owners.now a.items.now a.origins.now a.at
+    reacted-holds a.rule c.requires.ready.rule a.picks
+    (four c.before.before.before.before.before.before.before.before.before.before.before.before.before.before) a.owners.now a.items.now a.origins.now a.at
     c.requires.verdict a.maker c.smallest-home.result
     l.owners l.items l.origins c.merge.new.owners c.owners_at-found.ensures c.items_at-received.ensures
     c.smallest-home.ensures

@@ -39,7 +39,8 @@ two c os gs =
 
 three : (c : tie.Else-not-message_on-3) (os gs : List ℕ) → To 3 c.before.before.before.before.before.before.before.before os gs
 three c os gs =
-    each_next (fits c.before.before.before.before.before.before.before.before os gs) (rows-tails _ _) (two c.before.before.before os gs) (omega (arith, c.if-k-lt3.false))
+    each_next (fits c.before.before.before.before.before.before.before.before os gs) (rows-tails _ _) (two c.before.before.before os gs)
+    (omega (arith, c.if-k-lt3.false))
     (sym (c.message_on-3.ensures os gs) ∙ not-false _ c.if-not-message_on-3.false-raw)
 
 ports : (c : tie.Start) (os gs : List ℕ) → each c os gs ≡ on_ports (take c.args.k c.args.ports)
@@ -73,7 +74,8 @@ returns-4 c os gs =
 
 returns-5 : tie.Need-returns-then-not-message_on-3
 returns-5 c os gs =
-    each-fails (fits c.before.before.before.before.before.before.before.before os gs) (rows-tails _ _) (two c.before.before.before os gs) (omega (arith, c.if-k-lt3.false))
+    each-fails (fits c.before.before.before.before.before.before.before.before os gs) (rows-tails _ _) (two c.before.before.before os gs)
+    (omega (arith, c.if-k-lt3.false))
     (sym (c.message_on-3.ensures os gs) ∙ not-true _ c.if-not-message_on-3.true-raw)
     ∙ ports c.before.before.before.before.before.before.before.before os gs
 

@@ -131,11 +131,13 @@ picks-aborting-requires c κs =
 
 returns-3 : tie.Need-returns-then-picks_aborting
 returns-3 c = λ x f gs.
-    some-aborting _ _ _ _ (picks-pass c.before.before.before.before x f gs) (owners-pass c.before.before x f gs) (not-true _ (sym (taking c.before x f gs) ∙ c.if-picks_aborting.true))
+    some-aborting _ _ _ _ (picks-pass c.before.before.before.before x f gs) (owners-pass c.before.before x f gs)
+    (not-true _ (sym (taking c.before x f gs) ∙ c.if-picks_aborting.true))
 
 returns-4 : tie.Need-returns-then-outline-at
 returns-4 c = λ x f gs.
-    no-more-ids _ _ _ _ (picks-pass c.before.before.before.before.before.before.before x f gs) (owners-pass c.before.before.before.before.before x f gs) (part-pass c.before.before.before x f gs)
+    no-more-ids _ _ _ _ (picks-pass c.before.before.before.before.before.before.before x f gs) (owners-pass c.before.before.before.before.before x f gs)
+    (part-pass c.before.before.before x f gs)
     (id-test x _ f.begins (σ (asked c.before.before.before.before) gs) ∙ ap not c.if-outline-at.true)
 
 fits : (c : tie.Else-outline-at) → (allowed c).args.outline.consumes ≤ (allowed c).args.at.len

@@ -60,7 +60,8 @@ end-verdict-requires c κs =
 returns-2 : tie.Need-returns-in-Denied
 returns-2 c maker =
     rw c.refused-in-Denied.ensures
-    (end_refused (formed (formed-at c.before.before)) (start (formed-at c.before.before)).requires.1.0 (globals (sizes-at c.before.before)) (kind-is c.before.before) (id-is c.before.before)
+    (end_refused (formed (formed-at c.before.before)) (start (formed-at c.before.before)).requires.1.0 (globals (sizes-at c.before.before))
+    (kind-is c.before.before) (id-is c.before.before)
     (c.end_verdict-verdict.ensures (start (formed-at c.before.before)).args.origins.now) maker refl refl c.in-Denied.is)
 
 sub-kind : tie.Need-overflow_sub-kind
@@ -79,8 +80,12 @@ end-transaction-requires c κs =
 returns-3 : tie.Need-returns
 returns-3 c maker =
     rw (c.allowed.ensures, c.kept-left.ensures, c.less_by-gone.ensures)
-    (end-made (formed (formed-at c.before.before.before.before.before.before.before.before.before)) (start (formed-at c.before.before.before.before.before.before.before.before.before)).requires.1.0 (globals (sizes-at c.before.before.before.before.before.before.before.before.before)) (kind-is c.before.before.before.before.before.before.before.before.before) (id-is c.before.before.before.before.before.before.before.before.before)
-    (c.end_verdict-verdict.ensures (start (formed-at c.before.before.before.before.before.before.before.before.before)).args.origins.now) maker refl c.end_transaction-ended.ensures.1
+    (end-made (formed (formed-at c.before.before.before.before.before.before.before.before.before))
+    (start (formed-at c.before.before.before.before.before.before.before.before.before)).requires.1.0
+    (globals (sizes-at c.before.before.before.before.before.before.before.before.before))
+    (kind-is c.before.before.before.before.before.before.before.before.before) (id-is c.before.before.before.before.before.before.before.before.before)
+    (c.end_verdict-verdict.ensures (start (formed-at c.before.before.before.before.before.before.before.before.before)).args.origins.now) maker refl
+    c.end_transaction-ended.ensures.1
     c.in_default.is c.end_transaction-ended.ensures.0)
 
 pub make_end_spec : {M : Type 1} → statement M

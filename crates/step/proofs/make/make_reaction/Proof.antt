@@ -79,20 +79,24 @@ returns-3 : tie.Need-returns-in-Denied
 returns-3 c =
     let start = start (rule-of c.before.before) in
     rw c.refused-in-Denied.ensures
-    (reaction-refused (chosen (rule-of c.before.before)) (formed (formed-at c.before.before)) start.requires.0.workable (c.react_verdict-verdict.ensures start.args.origins.now)
+    (reaction-refused (chosen (rule-of c.before.before)) (formed (formed-at c.before.before)) start.requires.0.workable
+    (c.react_verdict-verdict.ensures start.args.origins.now)
     _ refl refl c.in-Denied.is)
 
 react-requires : tie.Need-react-after-requires
 react-requires c κs =
     let start = start (rule-of c.before.before.before.before) in
-    reaction-asked (chosen (rule-of c.before.before.before.before)) (formed (formed-at c.before.before.before.before)) start.requires.0.workable (c.react_verdict-verdict.ensures start.args.origins.now)
+    reaction-asked (chosen (rule-of c.before.before.before.before)) (formed (formed-at c.before.before.before.before)) start.requires.0.workable
+    (c.react_verdict-verdict.ensures start.args.origins.now)
     c.in_default.is start.requires.0.maker-fits
 
 returns-4 : tie.Need-returns
 returns-4 c =
     let start = start (rule-of c.before.before.before.before.before.before.before) in
     rw (c.allowed.ensures, c.kept-left.ensures)
-    (reaction-made (chosen (rule-of c.before.before.before.before.before.before.before)) (formed (formed-at c.before.before.before.before.before.before.before)) start.requires.0.workable (c.react_verdict-verdict.ensures start.args.origins.now)
+    (reaction-made (chosen (rule-of c.before.before.before.before.before.before.before))
+    (formed (formed-at c.before.before.before.before.before.before.before)) start.requires.0.workable
+    (c.react_verdict-verdict.ensures start.args.origins.now)
     c.in_default.is _ refl refl (looked-at c.before.before.before.before.before.before.before).looked-unmarked.ensures c.react-after.ensures)
 
 pub make_reaction_spec : {M : Type 1} → statement M
