@@ -58,13 +58,16 @@ keys-of-requires c κs =
 
 listed-requires : tie.Need-listed-requires
 listed-requires c κs =
-    let s = start c.before.before.before.before.before.before.before.before.before.before.before.before.before.before.before.before.before.before.before.before.before in
+    let k = c.before.before.before.before.before.before.before.before.before.before in
+    let z = k.before.before.before.before.before.before.before.before.before.before in
+    let s = start z.before in
     let ids = c.ids_of-m.ensures in (
       (
         ready-table s.requires.0,
         s.requires.0.starts,
         keys-within s.args.table.now s.args.state.now _ _ _ c.load-at.result s.requires.0.accepted c.load-at.ensures
-            c.sizes_of-z.result.globals (globals c.before.before.before.before.before.before.before.before.before.before.before.before.before.before.before.before.before.before.before.before) c.survey.ensures ids (rw c.sizes_of-z.ensures at c.keys_of.ensures),
+            c.sizes_of-z.result.globals (globals z) c.survey.ensures ids
+            (rw c.sizes_of-z.ensures at c.keys_of.ensures),
         omega arith,
         ids.fits,
         ids.size,
@@ -74,9 +77,12 @@ listed-requires c κs =
 
 returns : tie.Need-returns
 returns c =
-    let s = start c.before.before.before.before.before.before.before.before.before.before.before.before.before.before.before.before.before.before.before.before.before.before.before.before in
+    let k = c.before.before.before.before.before.before.before.before.before.before.before in
+    let z = k.before.before.before.before.before.before.before.before.before.before.before.before in
+    let s = start z.before in
     all_listed s.args.table.now s.args.state.now _ _ _ c.load-at.result s.requires.0.accepted c.load-at.ensures
-    c.sizes_of-z.result.globals (globals c.before.before.before.before.before.before.before.before.before.before.before.before.before.before.before.before.before.before.before.before.before.before.before) c.survey.ensures c.ids_of-m.ensures (rw c.sizes_of-z.ensures at c.keys_of.ensures)
+    c.sizes_of-z.result.globals (globals z) c.survey.ensures c.ids_of-m.ensures
+    (rw c.sizes_of-z.ensures at c.keys_of.ensures)
     c.listed.ensures
 
 pub open_moves_spec : {M : Type 1} → statement M
