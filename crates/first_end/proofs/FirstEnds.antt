@@ -28,7 +28,7 @@ use Rattle.state.specs.Lent.{state_from}
 use Rattle.first_end.specs.First.{first_move}
 use Rattle.first_end.specs.OpenEnds.{open_ends, open_aborts, OwnersGiven, is_inside, BlockedIn, is_above, is_owned, free_of, holders, FirstId}
 use Rattle.first_end.proofs.Commits.{commit-unstopped, outside-commits}
-use Rattle.first_end.proofs.FirstIds.{lowest-id, first_holds, none-fewer, first-fewer, InTurn, turn-from, turn-next, turn_end, turn-none}
+use Rattle.first_end.proofs.FirstIds.{lowest-id, first_holds, none-fewer, first-fewer, ByTurn, turn-from, turn-next, turn_end, turn-none}
 
 -- the owner of an entry, as the test of columns says it
 owner-below : (os ws gs : List ℕ) (at : Extent) → OwnersGiven os at → (e : Entry) → Among e (rows (row_of os ws gs) 0 at.len) → 1 ≤ e.owner
@@ -44,7 +44,7 @@ owner-below os ws gs at given e m l =
 abbrev pub CommitInTurn : List ℕ → List ℕ → List ℕ → Extent → Table → ℕ → Type 0
 CommitInTurn os ws gs at T low =
     let es = rows (row_of os ws gs) 0 at.len in
-    InTurn (holders es (λ v. may_commit T v (state_from os ws gs at))) (holders es (λ _. true)) at.next low
+    ByTurn (holders es (λ v. may_commit T v (state_from os ws gs at))) (holders es (λ _. true)) at.next low
 
 module _ (os ws gs : List ℕ) (at : Extent) (last : at.next ≤ 65536) (given : OwnersGiven os at) where
   abbrev es : List Entry

@@ -59,18 +59,18 @@ module _ {p q : ℕ → Bool} (fewer : (v : ℕ) → p v ≡ true → q v ≡ tr
 -- ---- one id of q after the other
 
 -- p holds of no id before start, and v is the first of q from there on
-pub record InTurn (p q : ℕ → Bool) (next v : ℕ) : Type 0 where
+pub record ByTurn (p q : ℕ → Bool) (next v : ℕ) : Type 0 where
   pub start : ℕ
   pub passed : keep p (up_from 1 (next - 1)) ≡ keep p (up_from start (next - start))
   pub first : FirstId q start next v
 
 -- behind the first of some that p holds of no other than
 pub turn-from : {p o q : ℕ → Bool} → ((v : ℕ) → p v ≡ true → o v ≡ true) → {next v : ℕ} → FirstId o 1 next v → v < 65536 → p v ≡ false → {u : ℕ}
-    → FirstId q (suc v) next u → InTurn p q next u
+    → FirstId q (suc v) next u → ByTurn p q next u
 turn-from fewer {next} {v} before l h first = record { start = suc v; passed = from_first fewer before l h; first = first }
 
-module _ {p q : ℕ → Bool} (fewer : (v : ℕ) → p v ≡ true → q v ≡ true) {next v : ℕ} (t : InTurn p q next v) where
-  pub turn-next : v < 65536 → p v ≡ false → {u : ℕ} → FirstId q (suc v) next u → InTurn p q next u
+module _ {p q : ℕ → Bool} (fewer : (v : ℕ) → p v ≡ true → q v ≡ true) {next v : ℕ} (t : ByTurn p q next v) where
+  pub turn-next : v < 65536 → p v ≡ false → {u : ℕ} → FirstId q (suc v) next u → ByTurn p q next u
   turn-next l h first = record { start = suc v; passed = t.passed ∙ from_first fewer t.first l h; first = first }
 
   pub turn_end : p v ≡ true → FirstId p 1 next v

@@ -1,36 +1,18 @@
 -- A single atom's conditions, as the code tests them, and of which of its rule's figures they are free.
-use Prim.Native.Nat.{ℕ, ◌+◌, ◌*◌, ◌≤◌, ◌<◌}
-use mathlib.Core.Bool.{Bool, true, false, ◌&&◌, ◌||◌, false≢true}
+use Prim.Native.Nat.{ℕ, ◌≤◌}
+use mathlib.Core.Bool.{Bool, true, false, false≢true}
 use mathlib.Core.Path.{◌≡◌, refl, sym, ◌∙◌}
 use native.Mathlib.Omega.{arith}
-use borrow.Author.Tests.{eqb-true, lt-ltb, le-ltb, lt-leb, eq-eqb, ne_eqb}
-use lib.Dec.{ltb, eqb}
+use borrow.Author.Tests.{eqb-true, lt-leb, eq-eqb}
+use lib.Dec.{eqb}
 use Rattle.lists.specs.Choices.{is_false}
 use Rattle.lists.specs.Tests.{and-right-false}
-use Rattle.lists.specs.Rising.{Order, before, equal, after, order}
 use Rattle.lists.specs.Runs.{in_run}
-use Rattle.semantics.specs.Words.{atom_role, atom_mode, value_of}
-use Rattle.semantics.specs.Table.{mode_ok, begin_ok, atom_ok}
+use Rattle.semantics.specs.Words.{atom_role, atom_mode}
+use Rattle.semantics.specs.Table.{begin_ok, atom_ok}
 use Rattle.wellformed.specs.Tables.{atom-fits}
 use Rattle.semantics.specs.declared.Sizes.{Sizes}
 use Rattle.semantics.specs.declared.Shape.{Shape}
-
--- with the mode in front of a value, those that a rule with n consumes allows are below one bound
-with_mode : (m v n : ℕ) → v < 65536 → n ≤ 16 → ltb (m * 65536 + v) (65536 + n) ≡ eqb m 0 || eqb m 1 && ltb v n
-with_mode m v n small few = go (order m 1)
-  where
-    received : m ≡ 1 → Order v n → ltb (m * 65536 + v) (65536 + n) ≡ ltb v n
-    received e (before l) = rw (lt-ltb (m * 65536 + v) (65536 + n) (omega arith), lt-ltb v n l)
-    received e (equal q) = rw (le-ltb (m * 65536 + v) (65536 + n) (omega arith), le-ltb v n (omega arith))
-    received e (after l) = rw (le-ltb (m * 65536 + v) (65536 + n) (omega arith), le-ltb v n (omega arith))
-
-    go : Order m 1 → ltb (m * 65536 + v) (65536 + n) ≡ eqb m 0 || eqb m 1 && ltb v n
-    go (before l) = rw (lt-ltb (m * 65536 + v) (65536 + n) (omega arith), eq-eqb m 0 (omega arith))
-    go (equal e) = rw (ne_eqb m 0 (λ z. omega arith), eq-eqb m 1 e) (received e (order v n))
-    go (after l) = rw (le-ltb (m * 65536 + v) (65536 + n) (omega arith), ne_eqb m 0 (λ z. omega arith), ne_eqb m 1 (λ z. omega arith))
-
-pub value-with-mode : (s : Shape) (w : ℕ) → s.consumes ≤ 16 → ltb (atom_mode w * 65536 + value_of w) (65536 + s.consumes) ≡ mode_ok s w
-value-with-mode s w few = with_mode (atom_mode w) (value_of w) s.consumes (omega arith) few
 
 -- n consumes, b begins, and the class
 abbrev pub shape : ℕ → ℕ → ℕ → Shape

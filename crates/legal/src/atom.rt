@@ -7,7 +7,7 @@ ghost use Rattle.semantics.specs.Table.{class_of, mode_ok, atom_ok};
 use semantics::{Shape, Sizes};
 use words::atom;
 
-// The class of a port: 0 global, 1 local, 2 merge.
+// The class of a port: 0 global, 1 local, 2 merge. A number, since the definitions compare it as one.
 pub fn class_of(z: Sizes, port: u32) -> u32
     ensures { result ≡ class_of z port }
 {
@@ -30,6 +30,7 @@ fn value_ok(s: Shape, w: u32) -> bool
     (value as usize) < atom::VALUES + s.consumes
 }
 
+#[tactic(auto, unfolding(semantics::specs::Table::atom_ok))]
 fn atom_ok(z: Sizes, s: Shape, w: u32) -> bool
     requires { s.consumes ≤ 16 }
     ensures { result ≡ atom_ok z s w }

@@ -13,41 +13,26 @@ use words::atom::{port_of, role_of};
 pub fn consumes_of(ws: &[u32]) -> usize
     ensures { RunEnd (is_role 0) ws.now 0 result }
 {
-    let mut i = 0;
-    while i < ws.len() {
+    for i in 0..ws.len() {
         if role_of(ws[i]) != 0 {
             return i;
         }
-        i += 1;
     }
-    i
+    ws.len()
 }
 
 pub fn has_role(ws: &[u32], role: u32) -> bool
     ensures { result ≡ any (is_role role) ws.now }
 {
-    let mut i = 0;
-    while i < ws.len() {
-        if role_of(ws[i]) == role {
-            return true;
-        }
-        i += 1;
-    }
-    false
-}
-
-// The first word, and 0 of none.
-fn first(ws: &[u32]) -> u32
-    ensures { result ≡ get_or ws.now 0 0 }
-{
-    if 0 < ws.len() { ws[0] } else { 0 }
+    ws.iter().any(|w| role_of(*w) == role)
 }
 
 // The class of the first atom's port, that of port 0 where there is none.
 pub fn rule_class(ws: &[u32], z: Sizes) -> u32
     ensures { result ≡ class_of z (port_of (get_or ws.now 0 0)) }
 {
-    class_of(z, port_of(first(ws)))
+    let first = ws.first().copied().unwrap_or(0);
+    class_of(z, port_of(first))
 }
 
 // The place behind the atoms of a role from a place on, up to the first that is of another role or
@@ -56,24 +41,12 @@ fn run_end(ws: &[u32], from: usize, role: u32, z: Sizes, s: Shape) -> usize
     requires { (from ≤ length ws.now) × (s.consumes ≤ 16) }
     ensures { RunEnd (in_run atom_role (atom_ok z s) role) ws.now from result }
 {
-    let mut i = from;
-    while i < ws.len() {
+    for i in from..ws.len() {
         if !in_run(z, s, role, ws[i]) {
             return i;
         }
-        i += 1;
     }
-    i
-}
-
-fn shape(consumes: usize, begins: usize, class: u32) -> Shape
-    ensures { (result ≡ record { consumes = consumes; begins = begins; class = class }) × (result.consumes ≡ consumes) }
-{
-    Shape {
-        consumes,
-        begins,
-        class,
-    }
+    ws.len()
 }
 
 // What follows a begin: bodies, compensations and at most one abort, up to the end.
@@ -95,10 +68,19 @@ pub fn rule_ok(ws: &[u32], z: Sizes) -> bool
         return false;
     }
     let class = rule_class(ws, z);
-    let consumes = run_end(ws, 0, 0, z, shape(0, 0, class));
-    let emits = run_end(ws, consumes, 1, z, shape(consumes, 0, class));
-    let opened = run_end(ws, emits, 2, z, shape(consumes, 0, class));
+    let blank = Shape {
+        consumes: 0,
+        begins: 0,
+        class,
+    };
+    let consumes = run_end(ws, 0, 0, z, blank);
+    let consuming = Shape { consumes, ..blank };
+    let emits = run_end(ws, consumes, 1, z, consuming);
+    let opened = run_end(ws, emits, 2, z, consuming);
     let begins = opened - emits;
-    let s = shape(consumes, begins, class);
+    let s = Shape {
+        begins,
+        ..consuming
+    };
     ((1 <= consumes) & (consumes <= 4)) & (begins <= 1) & rest_ok(ws, opened, z, s)
 }

@@ -133,13 +133,13 @@ module _ {A : Type 0} {f : ℕ → A} {ps : List ℕ} {n i d : ℕ} {g : ℕ →
             (append_assoc (rows g 0 w) _ _ ∙ ap (λ (t : List A). rows g 0 w ++ t) (sym (without-next ps g n i e (c.here u) u x)) ∙ c.parts);
       }
 
-  -- none is left: the count tells how many rows stay
-  pub closing-done : distinct ps ≡ true → ((p : ℕ) → Among p ps → p < n) → n ≤ i → rows g 0 (n - length ps) ≡ without ps 0 (rows f 0 n)
-  closing-done different within u =
+  -- none is left: their count tells how many rows stay
+  pub closing-done : {k : ℕ} → length ps ≡ k → distinct ps ≡ true → ((p : ℕ) → Among p ps → p < n) → n ≤ i → rows g 0 (n - k) ≡ without ps 0 (rows f 0 n)
+  closing-done {k} count different within u =
       let e : n - i ≡ 0 = omega arith in
       let r : rows g 0 (i - d) ≡ without ps 0 (rows f 0 n) = sym (append-nil _) ∙ rw (e, rows_none g i) at c.parts in
       let l = length_without ps (rows f 0 n) different (λ p m. rw (length-rows f 0 n) (within p m)) in
-      let q : i - d ≡ n - length ps = omega (arith, ap length r, length-rows g 0 (i - d), length-rows f 0 n) in
+      let q : i - d ≡ n - k = omega (arith, count, ap length r, length-rows g 0 (i - d), length-rows f 0 n) in
       rw (← q) r
 
 -- those between the first and the next have moved

@@ -15,10 +15,11 @@ pub const MAX_MOVES: usize = 1024;
 pub fn count_of(log: &[u32]) -> usize
     ensures { (result ≡ move_count log.now) × (result < 4294967296) }
 {
-    if 0 < log.len() { log[0] as usize } else { 0 }
+    log.first().map_or(0, |count| *count as usize)
 }
 
 // The count and the length.
+#[tactic(auto, unfolding(semantics::specs::Log::log_sizes_ok))]
 pub fn sizes_ok(log: &[u32]) -> bool
     ensures { result ≡ log_sizes_ok log.now }
 {
@@ -48,7 +49,8 @@ pub fn move_at(log: &[u32], i: usize) -> MoveWords
     requires { Place log.now i }
     ensures { words_in result ≡ move_at log.now i }
 {
-    let head = head_at(log, i);
-    let picks = picks_at(log, i);
-    MoveWords { head, picks }
+    MoveWords {
+        head: head_at(log, i),
+        picks: picks_at(log, i),
+    }
 }

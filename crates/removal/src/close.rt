@@ -1,46 +1,30 @@
 // Those from one pick up to the next moved down in the three columns, by the number of picks before them.
-ghost use Rattle.std.specs.Prelude.{◌≤◌};
+ghost use Rattle.std.specs.Prelude.{◌≡◌, ◌+◌, ◌≤◌, length};
+ghost use Rattle.std.specs.List.{copy_within};
 ghost use Rattle.state.specs.Arrays.{Arrays};
 ghost use Rattle.removal.specs.Closed.{Closed};
 
-use crate::{lower_halves, lower_words};
-
-pub fn close_one(owners: &mut [u16], items: &mut [u32], origins: &mut [u16], w: usize, end: usize)
-    requires { Arrays owners.old items.old origins.old × (w ≤ end) × (end ≤ 1024) }
-    ensures { Closed w end 1 owners.old items.old origins.old
-        owners.new items.new origins.new }
+// A distance that is a constant, from place 0 of a slice that is lent: of such a copy LLVM makes a memmove, and of one in `close` it makes none.
+fn down<T: Copy, const K: usize>(part: &mut [T])
+    requires { K ≤ length part.old }
+    ensures { part.new ≡ copy_within part.old K (length part.old) 0 }
 {
-    lower_halves::down_one(&mut owners[w..end]);
-    lower_words::down_one(&mut items[w..end]);
-    lower_halves::down_one(&mut origins[w..end]);
+    part.copy_within(K.., 0);
 }
 
-pub fn close_two(owners: &mut [u16], items: &mut [u32], origins: &mut [u16], w: usize, end: usize)
-    requires { Arrays owners.old items.old origins.old × (w ≤ end) × (end ≤ 1024) }
-    ensures { Closed w end 2 owners.old items.old origins.old
-        owners.new items.new origins.new }
+pub fn close<const K: usize>(
+    owners: &mut [u16],
+    items: &mut [u32],
+    origins: &mut [u16],
+    w: usize,
+    end: usize,
+)
+    requires arrays { Arrays owners.old items.old origins.old }
+    requires holds_distance { w + K ≤ end }
+    requires fits { end ≤ 1024 }
+    ensures { Closed w end K owners.old items.old origins.old owners.new items.new origins.new }
 {
-    lower_halves::down_two(&mut owners[w..end]);
-    lower_words::down_two(&mut items[w..end]);
-    lower_halves::down_two(&mut origins[w..end]);
-}
-
-pub fn close_three(owners: &mut [u16], items: &mut [u32], origins: &mut [u16], w: usize, end: usize)
-    requires { Arrays owners.old items.old origins.old × (w ≤ end) × (end ≤ 1024) }
-    ensures { Closed w end 3 owners.old items.old origins.old
-        owners.new items.new origins.new }
-{
-    lower_halves::down_three(&mut owners[w..end]);
-    lower_words::down_three(&mut items[w..end]);
-    lower_halves::down_three(&mut origins[w..end]);
-}
-
-pub fn close_four(owners: &mut [u16], items: &mut [u32], origins: &mut [u16], w: usize, end: usize)
-    requires { Arrays owners.old items.old origins.old × (w ≤ end) × (end ≤ 1024) }
-    ensures { Closed w end 4 owners.old items.old origins.old
-        owners.new items.new origins.new }
-{
-    lower_halves::down_four(&mut owners[w..end]);
-    lower_words::down_four(&mut items[w..end]);
-    lower_halves::down_four(&mut origins[w..end]);
+    down::<u16, K>(&mut owners[w..end]);
+    down::<u32, K>(&mut items[w..end]);
+    down::<u16, K>(&mut origins[w..end]);
 }

@@ -3,6 +3,4 @@
 
 mod close;
 mod in_order;
-mod lower_halves;
-mod lower_words;
 pub mod remove;

@@ -1,7 +1,7 @@
 // The tally of a run: what an accepted move changes in it, and its words for the caller.
 #![tactic(auto)]
 
-ghost use Rattle.std.specs.Prelude.{◌≤◌, ◌≡◌, cond};
+ghost use Rattle.std.specs.Prelude.{◌≡◌};
 ghost use Rattle.semantics.specs.Tally.{tally_words};
 ghost use Rattle.tally.specs.Counted.{counted as counted_of, moved_on, Room, MoveRoom};
 
@@ -27,19 +27,12 @@ fn count(tally: &mut Tally, begun: u32, committed: u32, aborted: u32)
 }
 
 // The same by value: its callers lend no tally.
-fn counted(tally: Tally, begun: u32, committed: u32, aborted: u32) -> Tally
+fn counted(mut tally: Tally, begun: u32, committed: u32, aborted: u32) -> Tally
     requires { Room tally begun committed aborted }
     ensures { result ≡ counted_of tally begun committed aborted }
 {
-    let mut changed = tally;
-    count(&mut changed, begun, committed, aborted);
-    changed
-}
-
-fn when(holds: bool, n: u32) -> u32
-    ensures { (result ≡ cond holds n 0) × (result ≤ n) }
-{
-    if holds { n } else { 0 }
+    count(&mut tally, begun, committed, aborted);
+    tally
 }
 
 // The tally after an accepted move of this kind, which begins a member or ends so many. A reaction ends
@@ -48,10 +41,12 @@ pub fn tally_move(tally: Tally, kind: u32, begins: bool, members: u32) -> Tally
     requires { MoveRoom tally members }
     ensures { result ≡ moved_on tally kind begins members }
 {
-    let begun = when(begins, 1);
-    let committed = when(kind == COMMIT, members);
-    let aborted = when(kind != COMMIT, members);
-    counted(tally, begun, committed, aborted)
+    let (committed, aborted) = if kind == COMMIT {
+        (members, 0)
+    } else {
+        (0, members)
+    };
+    counted(tally, u32::from(begins), committed, aborted)
 }
 
 // The caller's four words, whatever they were.

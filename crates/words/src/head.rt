@@ -2,6 +2,7 @@
 ghost use Rattle.std.specs.Prelude.{◌<◌, ◌≡◌};
 ghost use Rattle.semantics.specs.Words.{head_kind, head_number, head_word};
 
+// The kinds stay numbers: they are fields of words that are read, where any number can stand.
 pub const REACT: u32 = 0;
 
 // 01's release

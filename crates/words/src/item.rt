@@ -44,10 +44,7 @@ pub fn value_of(item: u32) -> u32
 pub fn messages_end(ports: u64) -> u32
     ensures { (item : ℕ) → ltb item result ≡ (eqb (item_kind item) 0 && ltb (port_of item) ports) }
 {
-    if 256 <= ports {
-        return 16777216;
-    }
-    (ports * 65536) as u32
+    (ports.min(256) * 65536) as u32
 }
 
 pub fn item_of(kind: u32, port: u32, value: u32) -> u32

@@ -17,10 +17,11 @@ pub fn origin_of(maker: u32, index: u32) -> u16
 }
 
 // 0 for the start.
+#[tactic(auto, unfolding(crate::specs::Origin::maker_in))]
 pub fn maker_of(origin: u16) -> u16
     ensures { result ≡ maker_in origin }
 {
-    let block = origin as u32 / PRODUCTS;
+    let block = u32::from(origin) / PRODUCTS;
     if block < BEFORE {
         0
     } else {
